@@ -1,0 +1,3 @@
+pub mod Stream
+pub mod Name
+pub mod MemoryStream

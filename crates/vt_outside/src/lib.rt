@@ -1,0 +1,23 @@
+//! What stands between the project and the outside: where bytes come from and go to, want of memory,
+//! and the small types that contracts see as lists.
+#![tactic(auto)]
+
+mod bytes;
+mod fault;
+mod list;
+mod memory_sink;
+mod memory_source;
+mod name;
+mod std_stream;
+mod stream;
+mod text;
+
+pub use bytes::Bytes;
+pub use fault::{Failed, OutOfMemory};
+pub use list::List;
+pub use memory_sink::{ListSink, SureSink};
+pub use memory_source::{ListSource, SureSource};
+pub use name::{Name, NameFault};
+pub use std_stream::{ReadSource, WriteSink};
+pub use stream::{Sink, Source};
+pub use text::Text;

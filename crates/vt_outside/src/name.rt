@@ -1,0 +1,79 @@
+ghost use Rattle.std.specs.Prelude.{◌≡◌};
+ghost use Rattle.vt_outside.specs.Name.{name_of, before_nul, in_field, IsName};
+
+use std::marker::Model;
+
+/// Why bytes are no file name.
+#[derive(Clone, Copy, Debug, PartialEq, Eq)]
+pub enum NameFault {
+    /// There are more than 55 bytes before a NUL.
+    NoNul,
+    /// There is no byte before the NUL.
+    EmptyName,
+    /// A byte isn't 0x20 to 0x7E.
+    BadNameByte,
+}
+
+/// The name of a file of fw_cfg: 1 to 55 bytes, each 0x20 to 0x7E. Contracts see the list of these bytes.
+#[derive(Clone, Copy, Debug)]
+pub struct Name {
+    field: [u8; 56],
+}
+
+impl Model for Name {
+    ghost use Rattle.std.specs.Prelude.{ℕ, List};
+    ghost use Rattle.std.proofs.Common.{ap};
+    ghost use Rattle.vt_outside.specs.Name.{before_nul, in_field, IsField};
+
+    ghost Value = { List ℕ };
+
+    ghost view = { λ n. before_nul n.field };
+
+    ghost invariant = { λ n. IsField n.field };
+
+    ghost inverse = { λ name. record { field = in_field name } };
+
+    ghost inverse_ok = { λ n h. ap (λ (field : List ℕ). record { field = field }) h.padded };
+}
+
+impl Name {
+    /// The name in a field of 56 bytes: what stands before the first NUL. What follows it is ignored.
+    pub fn read(bytes: &[u8; 56]) -> Result<Name, NameFault>
+        ensures { result ≡ name_of (before_nul bytes.now) }
+    {
+        let end = bytes.iter().position(|byte| *byte == 0).unwrap_or(56);
+        Name::from_bytes(&bytes[..end])
+    }
+
+    /// The name that a text is.
+    pub fn of(text: &str) -> Result<Name, NameFault>
+        ensures { result ≡ name_of text.now }
+    {
+        Name::from_bytes(text.as_bytes())
+    }
+
+    fn from_bytes(text: &[u8]) -> Result<Name, NameFault>
+        ensures { result ≡ name_of text.now }
+    {
+        if text.len() > 55 {
+            return Err(NameFault::NoNul);
+        }
+        if text.is_empty() {
+            return Err(NameFault::EmptyName);
+        }
+        if !text.iter().all(|byte| (0x20..=0x7E).contains(byte)) {
+            return Err(NameFault::BadNameByte);
+        }
+        let mut field = [0; 56];
+        field[..text.len()].copy_from_slice(text);
+        Ok(Name { field })
+    }
+
+    /// The name in a field of 56 bytes, with zeros after it.
+    pub fn bytes(&self) -> [u8; 56]
+        ensures field { result ≡ in_field self.now }
+        ensures name { IsName self.now }
+    {
+        self.field
+    }
+}

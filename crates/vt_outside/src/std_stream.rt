@@ -1,0 +1,101 @@
+ghost use Rattle.std.specs.Prelude.{◌≡◌, ◌<◌, ◌≤◌, ◌-◌, ◌^◌, length, None, IfOk, IfSome, OnErr};
+ghost use Rattle.vt_outside.specs.Stream.{Rose, in_front, behind};
+
+use crate::fault::Failed;
+use crate::stream::{Sink, Source};
+use std::io::{ErrorKind, Read, Write};
+
+/// A reader of std as a source. It tells nothing of the bytes, and counts each error.
+///
+/// A call that was interrupted is made again.
+#[derive(Drop)]
+pub struct ReadSource<R> {
+    reader: R,
+    faults: u64,
+}
+
+impl<R: Read> ReadSource<R> {
+    /// A source of what the reader gives.
+    pub fn new(reader: R) -> ReadSource<R> {
+        ReadSource { reader, faults: 0 }
+    }
+}
+
+impl<R: Read> Source for ReadSource<R> {
+    ghost left = { λ _. None };
+
+    ghost faults = { λ s. s.faults };
+
+    fn read(&mut self, into: &mut [u8]) -> Result<usize, Failed> {
+        for _ in 0..u64::MAX {
+            match self.reader.read(into) {
+                Ok(count) => return Ok(count),
+                Err(error) => {
+                    self.faults = self.faults.saturating_add(1);
+                    if error.kind() != ErrorKind::Interrupted {
+                        return Err(Failed);
+                    }
+                }
+            }
+        }
+        Err(Failed)
+    }
+}
+
+/// A writer of std as a sink. It tells nothing of the bytes, and counts each error.
+///
+/// A call that was interrupted is made again, and a write that takes nothing is a fault.
+#[derive(Drop)]
+pub struct WriteSink<W> {
+    writer: W,
+    faults: u64,
+}
+
+impl<W: Write> WriteSink<W> {
+    /// A sink whose bytes go to the writer.
+    pub fn new(writer: W) -> WriteSink<W> {
+        WriteSink { writer, faults: 0 }
+    }
+}
+
+impl<W: Write> Sink for WriteSink<W> {
+    ghost taken = { λ _. None };
+
+    ghost flushed = { λ _. 0 };
+
+    ghost faults = { λ s. s.faults };
+
+    fn write(&mut self, piece: &[u8]) -> Result<usize, Failed> {
+        for _ in 0..u64::MAX {
+            match self.writer.write(piece) {
+                Ok(0) => {
+                    self.faults = self.faults.saturating_add(1);
+                    return Err(Failed);
+                }
+                Ok(count) => return Ok(count),
+                Err(error) => {
+                    self.faults = self.faults.saturating_add(1);
+                    if error.kind() != ErrorKind::Interrupted {
+                        return Err(Failed);
+                    }
+                }
+            }
+        }
+        Err(Failed)
+    }
+
+    fn flush(&mut self) -> Result<(), Failed> {
+        for _ in 0..u64::MAX {
+            match self.writer.flush() {
+                Ok(()) => return Ok(()),
+                Err(error) => {
+                    self.faults = self.faults.saturating_add(1);
+                    if error.kind() != ErrorKind::Interrupted {
+                        return Err(Failed);
+                    }
+                }
+            }
+        }
+        Err(Failed)
+    }
+}

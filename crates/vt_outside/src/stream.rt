@@ -1,0 +1,57 @@
+ghost use Rattle.std.specs.Prelude.{◌≡◌, ℕ, ◌<◌, ◌≤◌, ◌↔◌, List, [], length, take, Option, IfOk, IfSome, OnOk, OnErr};
+ghost use Rattle.vt_outside.specs.Stream.{Rose, in_front, behind};
+
+use crate::fault::Failed;
+
+/// Where bytes come from.
+pub trait Source {
+    // The bytes that are left, where the source tells them.
+    ghost left: { Self → Option (List ℕ) };
+
+    // How many reads have failed. A count that is kept in a u64 stays at its last value.
+    ghost faults: { Self → ℕ };
+
+    /// Reads the next bytes into the front of `into`, and tells how many. 0 means that none is left.
+    fn read(&mut self, into: &mut [u8]) -> Result<usize, Failed>
+        requires { 0 < length into.old }
+        ensures given { IfOk result (λ n. left self.old ≡ in_front (take n into.new) (left self.new)) }
+        ensures fits { IfOk result (λ n. n ≤ length into.new) }
+        ensures end { IfOk result (λ n. n ≡ 0 → IfSome (left self.old) (λ bytes. bytes ≡ [])) }
+
+        ensures kept { OnErr result (left self.new ≡ left self.old) }
+        ensures failed { OnErr result (Rose (faults self.old) (faults self.new)) }
+        ensures never_falls { faults self.old ≤ faults self.new };
+}
+
+/// Where bytes go to.
+pub trait Sink {
+    // The bytes that were taken, where the sink tells them.
+    ghost taken: { Self → Option (List ℕ) };
+
+    // How many of the bytes taken are flushed.
+    ghost flushed: { Self → ℕ };
+
+    // How many writes and flushes have failed. A count that is kept in a u64 stays at its last value.
+    ghost faults: { Self → ℕ };
+
+    /// Takes some of the bytes from the front of `piece`, at least one, and tells how many.
+    fn write(&mut self, piece: &[u8]) -> Result<usize, Failed>
+        requires { 0 < length piece.now }
+        ensures took { IfOk result (λ n. taken self.new ≡ behind (taken self.old) (take n piece.now)) }
+        ensures some { IfOk result (λ n. 0 < n) }
+        ensures fits { IfOk result (λ n. n ≤ length piece.now) }
+        ensures unflushed { flushed self.new ≡ flushed self.old }
+
+        ensures kept { OnErr result (taken self.new ≡ taken self.old) }
+        ensures failed { OnErr result (Rose (faults self.old) (faults self.new)) }
+        ensures never_falls { faults self.old ≤ faults self.new };
+
+    /// Hands on all that was taken.
+    fn flush(&mut self) -> Result<(), Failed>
+        ensures all { OnOk result (IfSome (taken self.new) (λ bytes. flushed self.new ≡ length bytes)) }
+        ensures unflushed { OnErr result (flushed self.new ≡ flushed self.old) }
+
+        ensures kept { taken self.new ≡ taken self.old }
+        ensures failed { OnErr result (Rose (faults self.old) (faults self.new)) }
+        ensures never_falls { faults self.old ≤ faults self.new };
+}

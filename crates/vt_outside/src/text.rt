@@ -1,0 +1,94 @@
+ghost use Rattle.std.specs.Prelude.{◌≡◌, ◌<◌, ◌≤◌, [], ◌∷◌, ◌++◌, length, take, IfOk, OnOk, OnErr, slice_get, slice_set, Some};
+
+use crate::fault::OutOfMemory;
+use crate::list::List;
+use std::alloc::Global;
+use std::marker::Model;
+
+/// Text, as bytes and not as characters. It keeps its allocator. Contracts see the list of its bytes.
+#[derive(Debug, Drop)]
+pub struct Text {
+    bytes: List<u8>,
+}
+
+impl Model for Text {
+    ghost use Rattle.std.specs.Prelude.{ℕ, List as ListOf};
+
+    ghost Value = { ListOf ℕ };
+
+    ghost view = { λ t. t.bytes };
+}
+
+impl Text {
+    /// The empty text. It takes no memory.
+    pub fn new(alloc: Global) -> Text
+        ensures { result ≡ [] }
+    {
+        Text {
+            bytes: List::new(alloc),
+        }
+    }
+
+    /// Adds a byte at the end.
+    pub fn push(&mut self, byte: u8) -> Result<(), OutOfMemory>
+        ensures ok { OnOk result (self.new ≡ self.old ++ byte ∷ []) }
+        ensures err { OnErr result (self.new ≡ self.old) }
+    {
+        self.bytes.push(byte)
+    }
+
+    /// Adds the bytes at the end, all or none.
+    pub fn extend(&mut self, bytes: &[u8]) -> Result<(), OutOfMemory>
+        ensures ok { OnOk result (self.new ≡ self.old ++ bytes.now) }
+        ensures err { OnErr result (self.new ≡ self.old) }
+    {
+        self.bytes.extend(bytes)
+    }
+
+    /// The number of bytes.
+    pub fn len(&self) -> usize
+        ensures { result ≡ length self.now }
+    {
+        self.bytes.len()
+    }
+
+    /// The byte at a place.
+    pub fn get(&self, place: usize) -> &u8
+        requires { place < length self.now }
+        ensures { slice_get self.now place ≡ Some result.now }
+    {
+        self.bytes.get(place)
+    }
+
+    /// Puts another byte at a place.
+    pub fn set(&mut self, place: usize, byte: u8)
+        requires { place < length self.old }
+        ensures { self.new ≡ slice_set self.old place byte }
+    {
+        self.bytes.set(place, byte);
+    }
+
+    /// Keeps the first `count` bytes.
+    pub fn cut(&mut self, count: usize)
+        requires { count ≤ length self.old }
+        ensures { self.new ≡ take count self.old }
+    {
+        self.bytes.cut(count);
+    }
+
+    /// The bytes, in order.
+    pub fn as_slice(&self) -> &[u8]
+        ensures { result.now ≡ self.now }
+    {
+        self.bytes.as_slice()
+    }
+
+    /// Another text of the same bytes, with the same allocator.
+    pub fn copy(&self) -> Result<Text, OutOfMemory>
+        ensures { IfOk result (λ copy. copy ≡ self.now) }
+    {
+        Ok(Text {
+            bytes: self.bytes.copy()?,
+        })
+    }
+}
