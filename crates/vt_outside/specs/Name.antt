@@ -1,5 +1,5 @@
 -- File names of QEMU's fw_cfg directory, which stand in a field of 56 bytes (QEMU, docs/specs/fw_cfg).
-use Rattle.std.specs.Prelude.{◌≡◌, ℕ, ◌-◌, ◌<◌, ◌≤◌, Bool, ◌&&◌, List, ◌++◌, length, replicate, Result, Ok, Err, nat_lt, nat_le, ◌==◌, if◌then◌else◌}
+use Rattle.std.specs.Prelude.{◌≡◌, ℕ, ◌-◌, Bool, ◌&&◌, List, ◌++◌, length, replicate, Result, Ok, Err, nat_lt, nat_le, ◌==◌, if◌then◌else◌}
 use Rattle.std.specs.List.{before_first, list_all}
 use Rattle.vt_outside.specs.declared.name.NameFault.{NameFault}
 use Rattle.vt_outside.specs.declared.name.NameFault.TheVariants.{NoNul, EmptyName, BadNameByte}

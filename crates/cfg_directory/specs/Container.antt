@@ -1,0 +1,116 @@
+-- A container of files: the directory, a byte for each file that says whether it may be written, and the files' bytes in
+-- the directory's order.
+use Rattle.std.specs.Prelude.{◌≡◌, ℕ, zero, suc, ◌+◌, ◌*◌, Bool, true, false, not, ◌&&◌, List, [], ◌∷◌, ◌++◌, length, take, drop, map, sum_by, Result, Ok, Err, nat_lt, nat_le, ◌==◌, if◌then◌else◌}
+use Rattle.std.specs.List.{flat_map, list_any}
+use Rattle.std.specs.Str.{bytes_eq}
+use Rattle.vt_outside.specs.Name.{name_of, before_nul}
+use Rattle.vt_outside.specs.declared.name.NameFault.{NameFault}
+use Rattle.vt_bytes.specs.Numbers.{be}
+use Rattle.vt_bytes.specs.Parts.{part}
+use Rattle.cfg_directory.specs.declared.item.Item.{Item}
+use Rattle.cfg_directory.specs.declared.listed.Listed.{Listed}
+use Rattle.cfg_directory.specs.declared.container.ImageFault.{ImageFault}
+use Rattle.cfg_directory.specs.declared.container.ImageFault.TheVariants.{Truncated, TooMany, BadName, TwiceNamed, TwiceSelected, BadSelect, BadFlag, TrailingBytes, TooLarge, OutOfMemory}
+use Rattle.cfg_directory.specs.Items.{IsItems, file_limit, bytes_limit, directory_of}
+
+-- the byte that says whether a file may be written
+abbrev pub flag_of : Bool → ℕ
+flag_of false = 0
+flag_of true = 1
+
+-- The one spelling of items that is written: reserved fields are zero, and zeros follow each name.
+abbrev pub container_of : List Item → List ℕ
+container_of items =
+    directory_of items ++ map (λ (item : Item). flag_of item.writable) items ++ flat_map (λ (item : Item). item.bytes) items
+
+-- The 64 bytes are an entry of the directory for an item. What stands in the reserved field, and behind the first NUL of
+-- the name's field, may be anything.
+pub record IsEntry (entry : List ℕ) (item : Item) : Type 0 where
+  pub size : length entry ≡ 64
+  pub count : be (part entry 0 4) ≡ length item.bytes
+  pub select : be (part entry 4 2) ≡ item.select
+  pub name : name_of (before_nul (part entry 8 56)) ≡ Ok item.name
+
+-- the entries of a directory, one by one
+abbrev pub AreEntries : List ℕ → List Item → Type 0
+AreEntries bytes [] = bytes ≡ []
+AreEntries bytes (item ∷ items) = (entry : List ℕ) × (rest : List ℕ) × (bytes ≡ entry ++ rest) × IsEntry entry item × AreEntries rest items
+
+-- The bytes are a container of the items.
+pub record IsContainer (bytes : List ℕ) (items : List Item) : Type 0 where
+  pub count : List ℕ
+  pub entries : List ℕ
+  pub spelled : bytes ≡ count ++ entries ++ map (λ (item : Item). flag_of item.writable) items ++ flat_map (λ (item : Item). item.bytes) items
+  pub count_size : length count ≡ 4
+  pub count_is : be count ≡ length items
+  pub are_entries : AreEntries entries items
+  pub lawful : IsItems items
+
+infixl 10 ◌>>=◌
+abbrev pub ◌>>=◌ : {A B : Type 0} → Result A ImageFault → (A → Result B ImageFault) → Result B ImageFault
+(Ok x) >>= f = f x
+(Err fault) >>= f = Err fault
+
+-- What an entry at an index says, or its first fault: its name is none, or was given before; its selector is no file's, or
+-- was given before.
+abbrev pub listed_so : ℕ → List Listed → ℕ → ℕ → Result (List ℕ) NameFault → Result Listed ImageFault
+listed_so index before size select (Err fault) = Err (BadName index)
+listed_so index before size select (Ok name) =
+    if list_any (λ (other : Listed). bytes_eq other.name name) before then Err (TwiceNamed index)
+    else (if not (nat_le 0x20 select && nat_le select 0x3FFF) then Err (BadSelect index)
+    else (if list_any (λ (other : Listed). other.select == select) before then Err (TwiceSelected index)
+    else Ok (record { name = name; select = select; size = size })))
+
+unfoldable pub listed_of : ℕ → List Listed → List ℕ → Result Listed ImageFault
+listed_of index before entry = listed_so index before (be (part entry 0 4)) (be (part entry 4 2)) (name_of (before_nul (part entry 8 56)))
+
+-- what so many entries say, from an index on
+unfoldable pub directory_so : ℕ → ℕ → List Listed → List ℕ → Result (List Listed) ImageFault
+directory_so zero index before bytes = Ok before
+directory_so (suc left) index before bytes =
+    listed_of index before (take 64 bytes) >>= (λ listed. directory_so left (index + 1) (before ++ listed ∷ []) (drop 64 bytes))
+
+-- what the flags say, from an index on
+unfoldable pub flags_so : ℕ → List ℕ → Result (List Bool) ImageFault
+flags_so index [] = Ok []
+flags_so index (zero ∷ flags) = flags_so (index + 1) flags >>= (λ rest. Ok (false ∷ rest))
+flags_so index (suc zero ∷ flags) = flags_so (index + 1) flags >>= (λ rest. Ok (true ∷ rest))
+flags_so index (suc (suc flag) ∷ flags) = Err (BadFlag index)
+
+-- the items, each with as many bytes as its entry says
+unfoldable pub items_so : List Listed → List Bool → List ℕ → List Item
+items_so [] flags contents = []
+items_so (listed ∷ others) [] contents = []
+items_so (listed ∷ others) (flag ∷ flags) contents =
+    record { name = listed.name; select = listed.select; writable = flag; bytes = take listed.size contents } ∷ items_so others flags (drop listed.size contents)
+
+-- The files' bytes are due: they are too many by what the entries say, they end too early, or something follows them.
+unfoldable pub contents_so : List Listed → List Bool → List ℕ → Result (List Item) ImageFault
+contents_so listed flags contents =
+    let total = sum_by (λ (l : Listed). l.size) listed in
+    if nat_lt bytes_limit total then Err TooLarge
+    else (if nat_lt (length contents) total then Err Truncated
+    else (if nat_lt total (length contents) then Err TrailingBytes else Ok (items_so listed flags contents)))
+
+-- the flags of so many files are due, and then their bytes
+unfoldable pub flagged_so : ℕ → List Listed → List ℕ → Result (List Item) ImageFault
+flagged_so count listed bytes =
+    if nat_lt (length bytes) count then Err Truncated
+    else (flags_so 0 (take count bytes) >>= (λ flags. contents_so listed flags (drop count bytes)))
+
+-- so many entries are due, and then the rest
+unfoldable pub counted_so : ℕ → List ℕ → Result (List Item) ImageFault
+counted_so count bytes =
+    if nat_lt file_limit count then Err TooMany
+    else (if nat_lt (length bytes) (64 * count) then Err Truncated
+    else (directory_so count 0 [] bytes >>= (λ listed. flagged_so count listed (drop (64 * count) bytes))))
+
+-- The items that the bytes are a container of, or the first refusal.
+unfoldable pub read_so : List ℕ → Result (List Item) ImageFault
+read_so bytes = if nat_lt (length bytes) 4 then Err Truncated else counted_so (be (take 4 bytes)) (drop 4 bytes)
+
+-- What a call answered is what reading gives, unless memory ran out.
+abbrev pub Gives : {T A : Type 0} → (T → A) → Result T ImageFault → Result A ImageFault → Type 0
+Gives seen (Ok value) read = read ≡ Ok (seen value)
+Gives seen (Err OutOfMemory) read = Unit {0}
+Gives seen (Err fault) read = read ≡ Err fault

@@ -1,0 +1,5 @@
+pub mod Items
+pub mod Container
+pub mod Parts
+pub use Rattle.vt_outside.specs.Name
+pub use Rattle.vt_bytes.specs.Numbers

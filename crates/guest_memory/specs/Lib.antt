@@ -1,0 +1,2 @@
+pub mod Memory
+pub use Rattle.vt_bytes.specs.Numbers

@@ -1,0 +1,2 @@
+pub mod Rules
+pub use Rattle.vt_outside.specs.Name

@@ -1,0 +1,32 @@
+-- The world of a load: a guest's memory, and the files and the script that a firmware loads.
+use Rattle.std.specs.Prelude.{◌≡◌, ℕ, Bool, false, List, Option, Some, None, if◌then◌else◌}
+use Rattle.loader_script.specs.declared.entry.Entry.{Entry}
+use Rattle.guest_memory.specs.Memory.{Memory, IsRam, at}
+use Rattle.vmtables.specs.declared.files.FileBytes.{FileBytes}
+use Rattle.vmtables.specs.declared.state.State.{State}
+use Rattle.vmtables.specs.declared.state.State.TheVariants.{Idle, Running, Done}
+
+-- a world that was begun, and whether its load is done
+pub record Begun : Type 0 where
+  pub memory : Memory
+  pub files : List FileBytes
+  pub script : List Entry
+  pub done : Bool
+
+-- the state of a world, which is idle where nothing was begun
+abbrev pub state_of : Option Begun → State
+state_of None = Idle
+state_of (Some w) = if w.done then Done else Running
+
+-- every RAM byte is the fill byte
+abbrev pub IsFilled : Memory → Type 0
+IsFilled m = (address : ℕ) → IsRam m.top address → at m address ≡ m.fill
+
+-- A world as it is begun: the files and the script, and memory below a top in which every byte is the fill byte.
+pub record IsBegun (w : Begun) (its_files : List FileBytes) (its_script : List Entry) (its_top its_fill : ℕ) : Type 0 where
+  pub files : w.files ≡ its_files
+  pub script : w.script ≡ its_script
+  pub top : w.memory.top ≡ its_top
+  pub fill : w.memory.fill ≡ its_fill
+  pub filled : IsFilled w.memory
+  pub running : w.done ≡ false
