@@ -1,4 +1,4 @@
-ghost use Rattle.std.specs.Prelude.{◌≡◌, ◌<◌, ◌≤◌, [], ◌∷◌, ◌++◌, length, take, IfOk, OnOk, OnErr, slice_get, slice_set, Some};
+ghost use Rattle.std.specs.Prelude.{◌≡◌, ◌<◌, ◌≤◌, [], ◌∷◌, ◌++◌, ◌+◌, length, take, drop, IfOk, OnOk, OnErr, slice_get, slice_set, Some};
 
 use crate::fault::OutOfMemory;
 use crate::list::List;
@@ -66,6 +66,14 @@ impl Bytes {
         ensures { self.new ≡ slice_set self.old place byte }
     {
         self.bytes.set(place, byte);
+    }
+
+    /// Puts other bytes in place of as many from a place on.
+    pub fn put(&mut self, place: usize, bytes: &[u8])
+        requires { place + length bytes.now ≤ length self.old }
+        ensures { self.new ≡ take place self.old ++ bytes.now ++ drop (place + length bytes.now) self.old }
+    {
+        self.bytes.put(place, bytes);
     }
 
     /// Keeps the first `count` bytes.

@@ -1,4 +1,6 @@
-ghost use Rattle.std.specs.Prelude.{◌≡◌, ◌<◌, ◌≤◌, [], ◌∷◌, ◌++◌, length, take, IfOk, OnOk, OnErr, slice_get, slice_set, Some};
+ghost use Rattle.std.specs.Prelude.{◌≡◌, ◌<◌, ◌≤◌, [], ◌∷◌, ◌++◌, ◌+◌, length, take, drop, IfOk, OnOk, OnErr, slice_get, slice_set, Some};
+ghost use Rattle.std.specs.Borrow.{Lends, sem};
+ghost use Rattle.vt_outside.specs.contracts.list.List.{the_row};
 
 use crate::fault::OutOfMemory;
 use std::alloc::Global;
@@ -60,6 +62,15 @@ impl<T: Drop> List<T> {
         self.items[place] = item;
     }
 
+    /// The item at a place, to be changed.
+    pub fn get_mut(&mut self, place: usize) -> &mut T
+        requires { place < length self.old }
+        ensures* lends { sem 𝓛 (Lends (the_row T.row) T.row self.entry result (slice_set self.old place)) }
+        ensures item { slice_get self.old place ≡ Some result.now }
+    {
+        &mut self.items[place]
+    }
+
     /// Keeps the first `count` items.
     pub fn cut(&mut self, count: usize)
         requires { count ≤ length self.old }
@@ -84,6 +95,14 @@ impl<T: Copy> List<T> {
     {
         self.items.extend_from_slice(items)?;
         Ok(())
+    }
+
+    /// Puts other items in place of as many from a place on.
+    pub fn put(&mut self, place: usize, items: &[T])
+        requires { place + length items.now ≤ length self.old }
+        ensures { self.new ≡ take place self.old ++ items.now ++ drop (place + length items.now) self.old }
+    {
+        self.items[place..place + items.len()].copy_from_slice(items);
     }
 
     /// Another list of the same items, with the same allocator.

@@ -27,7 +27,13 @@ impl Model for ListSink {
     ghost Value = { SinkState };
 
     ghost view = { λ s. record {
-        taken = s.taken.items; flushed = s.flushed; room = s.room; fails = s.fails; calls = s.calls; faults = s.faults } };
+      taken = s.taken.items;
+      flushed = s.flushed;
+      room = s.room;
+      fails = s.fails;
+      calls = s.calls;
+      faults = s.faults;
+    } };
 
     ghost invariant = { λ s. (vec_len s.taken ≤ s.room) × (s.room ≤ vec_capacity s.taken) };
 }
@@ -72,6 +78,8 @@ impl Sink for ListSink {
         // Else it takes as much as there is room for.
         ensures count { IfOk result (λ n. n ≡ min (length piece.now) (self.old.room - length self.old.taken)) }
         ensures ok { IfOk result (λ n. self.new ≡ record self.old { taken = self.old.taken ++ take n piece.now; calls = next_count self.old.calls }) }
+        ensures some { IfOk result (λ n. 0 < n) }
+        ensures never_falls { self.old.faults ≤ self.new.faults }
     {
         let call = self.calls;
         self.calls = self.calls.saturating_add(1);

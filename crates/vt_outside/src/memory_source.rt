@@ -26,7 +26,12 @@ impl Model for ListSource {
     ghost Value = { SourceState };
 
     ghost view = { λ s. record {
-        left = drop s.given s.bytes; piece = s.piece; fails = s.fails; calls = s.calls; faults = s.faults } };
+      left = drop s.given s.bytes;
+      piece = s.piece;
+      fails = s.fails;
+      calls = s.calls;
+      faults = s.faults;
+    } };
 
     ghost invariant = { λ s. (s.given ≤ length s.bytes) × (0 < s.piece) };
 }
@@ -64,6 +69,8 @@ impl Source for ListSource {
         ensures given { IfOk result (λ n. self.old.left ≡ take n into.new ++ self.new.left) }
         ensures count { IfOk result (λ n. n ≡ min (min self.old.piece (length into.old)) (length self.old.left)) }
         ensures ok { IfOk result (λ n. self.new ≡ record self.old { left = drop n self.old.left; calls = next_count self.old.calls }) }
+        ensures end { IfOk result (λ n. n ≡ 0 → self.old.left ≡ []) }
+        ensures never_falls { self.old.faults ≤ self.new.faults }
     {
         let call = self.calls;
         self.calls = self.calls.saturating_add(1);
@@ -122,6 +129,7 @@ impl Source for SureSource {
         ensures sure { IsOk result }
         ensures given { IfOk result (λ n. self.old ≡ take n into.new ++ self.new) }
         ensures count { IfOk result (λ n. n ≡ min (length into.old) (length self.old)) }
+        ensures fits { IfOk result (λ n. n ≤ length into.new) }
     {
         let rest = &self.bytes.as_slice()[self.given..];
         let count = into.len().min(rest.len());

@@ -1,7 +1,11 @@
-ghost use Rattle.std.specs.Prelude.{◌≡◌};
-ghost use Rattle.vt_outside.specs.Name.{name_of, before_nul, in_field, IsName};
+ghost use Rattle.std.specs.Prelude.{◌≡◌, ◌≤◌, ◌==◌, length};
+ghost use Rattle.std.specs.List.{list_all, position_or_len};
+ghost use Rattle.vt_outside.specs.Name.{name_of, before_nul, in_field, is_printable, IsName};
 
 use std::marker::Model;
+
+// The most bytes of a name, which leave room for a NUL in its field.
+const LONGEST: usize = 55;
 
 /// Why bytes are no file name.
 #[derive(Clone, Copy, Debug, PartialEq, Eq)]
@@ -41,8 +45,7 @@ impl Name {
     pub fn read(bytes: &[u8; 56]) -> Result<Name, NameFault>
         ensures { result ≡ name_of (before_nul bytes.now) }
     {
-        let end = bytes.iter().position(|byte| *byte == 0).unwrap_or(56);
-        Name::from_bytes(&bytes[..end])
+        Name::from_bytes(&bytes[..place_of_nul(bytes)])
     }
 
     /// The name that a text is.
@@ -52,16 +55,17 @@ impl Name {
         Name::from_bytes(text.as_bytes())
     }
 
+    #[tactic(auto, unfolding(crate::specs::Name::name_of))]
     fn from_bytes(text: &[u8]) -> Result<Name, NameFault>
         ensures { result ≡ name_of text.now }
     {
-        if text.len() > 55 {
+        if text.len() > LONGEST {
             return Err(NameFault::NoNul);
         }
         if text.is_empty() {
             return Err(NameFault::EmptyName);
         }
-        if !text.iter().all(|byte| (0x20..=0x7E).contains(byte)) {
+        if !are_printable(text) {
             return Err(NameFault::BadNameByte);
         }
         let mut field = [0; 56];
@@ -76,4 +80,42 @@ impl Name {
     {
         self.field
     }
+}
+
+impl PartialEq for Name {
+    ghost use Rattle.std.specs.Str.{bytes_eq};
+    ghost use Rattle.std.specs.Cmp.{partial_equiv_from_equiv};
+    ghost use Rattle.std.proofs.lemmas.Cmp.{nat_list_eq_equiv};
+
+    ghost eq = { bytes_eq };
+
+    ghost laws = { partial_equiv_from_equiv nat_list_eq_equiv };
+
+    fn eq(&self, other: &Name) -> bool {
+        self.field == other.field
+    }
+}
+
+impl Eq for Name {
+    ghost use Rattle.std.proofs.lemmas.Cmp.{nat_list_eq_equiv};
+
+    ghost laws = { nat_list_eq_equiv };
+}
+
+// Where the first NUL is, or the number of bytes where there is none.
+fn place_of_nul(bytes: &[u8]) -> usize
+    ensures first { result ≡ position_or_len (λ byte. byte == 0) bytes.now }
+    ensures within { result ≤ length bytes.now }
+{
+    bytes
+        .iter()
+        .position(|byte| *byte == 0)
+        .unwrap_or(bytes.len())
+}
+
+// Whether each byte may stand in a name.
+fn are_printable(text: &[u8]) -> bool
+    ensures { result ≡ list_all is_printable text.now }
+{
+    text.iter().all(|byte| (0x20..=0x7E).contains(byte))
 }

@@ -27,7 +27,7 @@ impl<R: Read> Source for ReadSource<R> {
     ghost faults = { λ s. s.faults };
 
     fn read(&mut self, into: &mut [u8]) -> Result<usize, Failed> {
-        for _ in 0..u64::MAX {
+        for _turn in 0..u64::MAX {
             match self.reader.read(into) {
                 Ok(count) => return Ok(count),
                 Err(error) => {
@@ -66,7 +66,7 @@ impl<W: Write> Sink for WriteSink<W> {
     ghost faults = { λ s. s.faults };
 
     fn write(&mut self, piece: &[u8]) -> Result<usize, Failed> {
-        for _ in 0..u64::MAX {
+        for _turn in 0..u64::MAX {
             match self.writer.write(piece) {
                 Ok(0) => {
                     self.faults = self.faults.saturating_add(1);
@@ -85,7 +85,7 @@ impl<W: Write> Sink for WriteSink<W> {
     }
 
     fn flush(&mut self) -> Result<(), Failed> {
-        for _ in 0..u64::MAX {
+        for _turn in 0..u64::MAX {
             match self.writer.flush() {
                 Ok(()) => return Ok(()),
                 Err(error) => {
