@@ -1,0 +1,65 @@
+use vt_outside::Text;
+
+/// A machine as its maker describes it.
+#[derive(Debug, Drop)]
+pub struct Machine {
+    /// The address past the last byte of memory, in MiB.
+    pub top_mib: u32,
+    /// The machine as a product.
+    pub system: System,
+    /// Its ACPI tables; none where they aren't wanted.
+    pub acpi: Option<Acpi>,
+    /// Its HPET.
+    pub hpet: Option<Hpet>,
+}
+
+/// What identifies the machine as a product (System Information, DSP0134 7.2). An empty text stands for none.
+#[derive(Debug, Drop)]
+pub struct System {
+    /// Who made it.
+    pub manufacturer: Text,
+    /// What it is called.
+    pub product: Text,
+    /// Its version.
+    pub version: Text,
+    /// Its serial number.
+    pub serial: Text,
+    /// The stock keeping unit, which tells its configurations apart.
+    pub sku: Text,
+    /// The family of similar machines.
+    pub family: Text,
+    /// Its UUID as one number, with the first byte of its text highest.
+    pub uuid: Option<u128>,
+}
+
+/// What the headers of ACPI tables tell of their maker (ACPI 6.5, 5.2.6). The texts are padded with spaces there.
+#[derive(Debug, Drop)]
+pub struct Acpi {
+    /// The maker, at most 6 bytes.
+    pub oem_id: Text,
+    /// The maker's name for the tables, at most 8 bytes.
+    pub oem_table_id: Text,
+}
+
+/// A high precision event timer (IA-PC HPET 1.0a, 3.2.4).
+#[derive(Clone, Copy, Debug, PartialEq, Eq)]
+pub struct Hpet {
+    /// Where its registers stand, a multiple of 1024.
+    pub address: u32,
+    /// The identifier of its event timer block.
+    pub block_id: u32,
+    /// Its number among the HPETs.
+    pub number: u8,
+    /// The least number of clock ticks between interrupts in periodic mode.
+    pub min_tick: u16,
+}
+
+/// A rule that a machine breaks.
+#[derive(Clone, Copy, Debug, PartialEq, Eq)]
+pub struct Broken {
+    /// The rule's number.
+    pub rule: u16,
+    /// The least index at which it is broken: of a list's element where the rule speaks of a list, else as the
+    /// rule says.
+    pub index: u32,
+}
