@@ -1,0 +1,17 @@
+//! The commands by which a firmware places tables in guest memory, as QEMU's bios-linker-loader interface
+//! (hw/acpi/bios-linker-loader.c) gives them.
+//!
+//! The contract is exact: which 128 bytes are which entry, which bytes an entry is written as, and for each command
+//! the first cause that refuses it.
+#![tactic(auto)]
+
+mod entry;
+pub mod laws;
+mod reading;
+mod refusing;
+mod writing;
+
+pub use entry::Entry;
+pub use reading::{ScriptFault, decode_entry, decode_script};
+pub use refusing::{Cause, FileInfo, refusal};
+pub use writing::encode_script;

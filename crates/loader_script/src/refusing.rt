@@ -1,0 +1,231 @@
+ghost use Rattle.std.specs.Prelude.{◌≡◌, ◌^◌, true, length, None, MatchOption, nat_lt};
+ghost use Rattle.loader_script.specs.Refusal.{causes_of, first_cause, file_named, is_size, IsFound, AreDistinct, EndLow};
+ghost use Rattle.loader_script.specs.declared.entry.Entry.TheVariants.{Allocate, AddPointer, AddChecksum, WritePointer};
+
+use crate::entry::Entry;
+use vt_outside::Name;
+
+/// Why a command is refused. A cause's number is its position from 1.
+#[derive(Clone, Copy, Debug, PartialEq, Eq)]
+pub enum Cause {
+    /// One of its names is no name.
+    BadName,
+    /// A file that it names isn't in the directory.
+    NoFile,
+    /// The file is placed already.
+    AlreadyPlaced,
+    /// A file whose place it needs isn't placed.
+    NotPlaced,
+    /// The file has no bytes.
+    Empty,
+    /// The alignment isn't a power of two.
+    BadAlign,
+    /// The zone isn't 1 or 2.
+    BadZone,
+    /// The size isn't 1, 2, 4 or 8.
+    BadSize,
+    /// The file that it writes isn't writable.
+    ReadOnly,
+    /// A field, a checksum's byte or a range isn't in its file.
+    OutOfRange,
+    /// The number doesn't fit its size.
+    TooFar,
+}
+
+/// What a command needs to know of a file.
+#[derive(Clone, Copy, Debug)]
+pub struct FileInfo {
+    /// Its name.
+    pub name: Name,
+    /// How many bytes it has.
+    pub size: u32,
+    /// Whether the guest may write it.
+    pub writable: bool,
+}
+
+/// The first cause for which a command is refused, where the files are placed as the slice of places says, file by
+/// file. It takes no memory. That a pointer's sum is too far is seen in memory alone, and isn't tested here.
+pub fn refusal(entry: &Entry, files: &[FileInfo], placed: &[Option<u64>]) -> Option<Cause>
+    requires places { length placed.now ≡ length files.now }
+    requires distinct { AreDistinct files.now }
+    requires low { EndLow files.now placed.now }
+    ensures { result ≡ first_cause (causes_of entry.now files.now placed.now) }
+{
+    match entry {
+        Entry::Allocate { file, align, zone } => {
+            allocate_refusal(files, placed, file, *align, *zone)
+        }
+        Entry::AddPointer {
+            dest,
+            src,
+            offset,
+            size,
+        } => add_pointer_refusal(files, placed, dest, src, *offset, *size),
+        Entry::AddChecksum {
+            file,
+            offset,
+            start,
+            length,
+        } => add_checksum_refusal(files, placed, file, *offset, *start, *length),
+        Entry::WritePointer {
+            dest,
+            src,
+            dst_offset,
+            src_offset,
+            size,
+        } => write_pointer_refusal(files, placed, dest, src, *dst_offset, *src_offset, *size),
+        Entry::Misnamed(_) => Some(Cause::BadName),
+        Entry::Skipped(_) => None,
+    }
+}
+
+fn allocate_refusal(
+    files: &[FileInfo],
+    placed: &[Option<u64>],
+    name: &Name,
+    align: u32,
+    zone: u8,
+) -> Option<Cause>
+    requires { length placed.now ≡ length files.now }
+    ensures { result ≡ first_cause (causes_of (Allocate name.now align zone) files.now placed.now) }
+{
+    let Some((file, place)) = file_of(files, placed, name) else {
+        return Some(Cause::NoFile);
+    };
+    if place.is_some() {
+        return Some(Cause::AlreadyPlaced);
+    }
+    if file.size == 0 {
+        return Some(Cause::Empty);
+    }
+    if !align.is_power_of_two() {
+        return Some(Cause::BadAlign);
+    }
+    if zone != 1 && zone != 2 {
+        return Some(Cause::BadZone);
+    }
+    None
+}
+
+fn add_pointer_refusal(
+    files: &[FileInfo],
+    placed: &[Option<u64>],
+    dest: &Name,
+    src: &Name,
+    offset: u32,
+    size: u8,
+) -> Option<Cause>
+    requires { length placed.now ≡ length files.now }
+    ensures { result ≡ first_cause (causes_of (AddPointer dest.now src.now offset size) files.now placed.now) }
+{
+    let Some((dest, dest_place)) = file_of(files, placed, dest) else {
+        return Some(Cause::NoFile);
+    };
+    let Some((_, src_place)) = file_of(files, placed, src) else {
+        return Some(Cause::NoFile);
+    };
+    if dest_place.is_none() || src_place.is_none() {
+        return Some(Cause::NotPlaced);
+    }
+    if !is_size(size) {
+        return Some(Cause::BadSize);
+    }
+    if u64::from(offset) + u64::from(size) > u64::from(dest.size) {
+        return Some(Cause::OutOfRange);
+    }
+    None
+}
+
+fn add_checksum_refusal(
+    files: &[FileInfo],
+    placed: &[Option<u64>],
+    name: &Name,
+    offset: u32,
+    start: u32,
+    count: u32,
+) -> Option<Cause>
+    requires { length placed.now ≡ length files.now }
+    ensures { result ≡ first_cause (causes_of (AddChecksum name.now offset start count) files.now placed.now) }
+{
+    let Some((file, place)) = file_of(files, placed, name) else {
+        return Some(Cause::NoFile);
+    };
+    if place.is_none() {
+        return Some(Cause::NotPlaced);
+    }
+    if offset >= file.size || u64::from(start) + u64::from(count) > u64::from(file.size) {
+        return Some(Cause::OutOfRange);
+    }
+    None
+}
+
+fn write_pointer_refusal(
+    files: &[FileInfo],
+    placed: &[Option<u64>],
+    dest: &Name,
+    src: &Name,
+    dst_offset: u32,
+    src_offset: u32,
+    size: u8,
+) -> Option<Cause>
+    requires places { length placed.now ≡ length files.now }
+    requires low { EndLow files.now placed.now }
+    ensures { result ≡ first_cause (causes_of (WritePointer dest.now src.now dst_offset src_offset size) files.now placed.now) }
+{
+    let Some((dest, _)) = file_of(files, placed, dest) else {
+        return Some(Cause::NoFile);
+    };
+    let Some((src, src_place)) = file_of(files, placed, src) else {
+        return Some(Cause::NoFile);
+    };
+    let Some(place) = src_place else {
+        return Some(Cause::NotPlaced);
+    };
+    if !is_size(size) {
+        return Some(Cause::BadSize);
+    }
+    if !dest.writable {
+        return Some(Cause::ReadOnly);
+    }
+    if u64::from(dst_offset) + u64::from(size) > u64::from(dest.size) || src_offset >= src.size {
+        return Some(Cause::OutOfRange);
+    }
+    if !fits(place + u64::from(src_offset), size) {
+        return Some(Cause::TooFar);
+    }
+    None
+}
+
+// The file of a name, and where it is placed.
+fn file_of<'a>(
+    files: &'a [FileInfo],
+    placed: &[Option<u64>],
+    name: &Name,
+) -> Option<(&'a FileInfo, Option<u64>)>
+    requires { length placed.now ≡ length files.now }
+    ensures { MatchOption result (file_named files.now name.now ≡ None)
+        (λ found. IsFound files.now placed.now name.now found.0.now found.1) }
+{
+    let index = files.iter().position(|file| file.name == *name)?;
+    Some((&files[index], placed[index]))
+}
+
+// Whether a number may have so many bytes.
+fn is_size(size: u8) -> bool
+    ensures { result ≡ is_size size }
+{
+    matches!(size, 1 | 2 | 4 | 8)
+}
+
+// Whether a number fits so many bytes.
+fn fits(number: u64, size: u8) -> bool
+    requires { is_size size ≡ true }
+    ensures { result ≡ nat_lt number (256 ^ size) }
+{
+    match size {
+        1 => number < 1 << 8,
+        2 => number < 1 << 16,
+        4 => number < 1 << 32,
+        _ => true,
+    }
+}
