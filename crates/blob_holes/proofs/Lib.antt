@@ -1,0 +1,6 @@
+pub mod Each
+pub mod Put
+pub mod Pointers
+pub mod Sums
+pub mod Kept
+pub mod Fill

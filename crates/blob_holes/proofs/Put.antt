@@ -1,0 +1,38 @@
+-- Bytes that are put in place of others, and parts of a list.
+use Rattle.std.proofs.Common.{◌≡◌, ℕ, ◌+◌, ◌-◌, ◌<◌, ◌≤◌, ◌⊎◌, inl, inr, List, ◌++◌, length, slice_index, take, drop, min, arith, ap, sym, ◌∙◌, length-append, length-take, length-drop, get_or-take, get_or-drop, append_assoc}
+use Rattle.std.proofs.lemmas.Grind.{same_number_lists}
+use Rattle.std.proofs.lemmas.List.{places, take_at, drop_at}
+use Rattle.vt_bytes.specs.Parts.{part, put_at}
+
+-- as many bytes as before
+pub length-put_at : (bytes : List ℕ) (at : ℕ) (piece : List ℕ) → at + length piece ≤ length bytes → length (put_at bytes at piece) ≡ length bytes
+length-put_at bytes at piece within = simp (length-append, length-take, length-drop) (omega arith)
+
+-- the bytes stand at their place
+pub part-put_at : (bytes : List ℕ) (at : ℕ) (piece : List ℕ) (n : ℕ) → at + length piece ≤ length bytes → n ≡ length piece → part (put_at bytes at piece) at n ≡ piece
+part-put_at bytes at piece n within size =
+    let front : length (take at bytes) ≡ at = simp length-take (omega arith) in
+    ap (λ all. take n (drop at all)) (append_assoc (take at bytes) piece (drop (at + length piece) bytes))
+    ∙ ap (take n) (drop_at (take at bytes) (piece ++ drop (at + length piece) bytes) at front)
+    ∙ take_at piece (drop (at + length piece) bytes) n (sym size)
+
+-- each other byte stays
+pub index-put_at : (bytes : List ℕ) (at : ℕ) (piece : List ℕ) (place : ℕ) → at + length piece ≤ length bytes → (place < at) ⊎ (at + length piece ≤ place) → slice_index (put_at bytes at piece) place ≡ slice_index bytes place
+index-put_at bytes at piece place within outside = grind (arith, places)
+
+-- lists of one length that agree in a part have the same part
+pub part_same : (xs ys : List ℕ) (at n : ℕ) → length xs ≡ length ys → ((place : ℕ) → at ≤ place → place < at + n → slice_index xs place ≡ slice_index ys place) → part xs at n ≡ part ys at n
+part_same xs ys at n size same =
+    let as_long : length (part xs at n) ≡ length (part ys at n) = simp (length-take, length-drop) (ap (λ k. min n (k - at)) size) in
+    same_number_lists (part xs at n) (part ys at n) as_long (λ k l.
+    let below : k < n = omega (arith, length-take n (drop at xs)) in
+    get_or-take n (drop at xs) k 0 below ∙ get_or-drop at xs k 0
+    ∙ same (at + k) (omega arith) (omega arith)
+    ∙ sym (get_or-take n (drop at ys) k 0 below ∙ get_or-drop at ys k 0))
+
+-- a part beside them stays
+pub part-put_at_beside : (bytes : List ℕ) (at : ℕ) (piece : List ℕ) (start n : ℕ) → at + length piece ≤ length bytes → (start + n ≤ at) ⊎ (at + length piece ≤ start) → part (put_at bytes at piece) start n ≡ part bytes start n
+part-put_at_beside bytes at piece start n within beside =
+    part_same (put_at bytes at piece) bytes start n (length-put_at bytes at piece within) (λ place from below.
+    let outside : (place < at) ⊎ (at + length piece ≤ place) = elim beside [ inl a ↦ inl (omega arith) | inr a ↦ inr (omega arith) ] in
+    index-put_at bytes at piece place within outside)
