@@ -1,0 +1,12 @@
+pub mod Names
+pub mod OneMoreItem
+pub mod BytesPut
+pub mod Bytes
+pub mod Steps
+pub mod Parts
+pub mod ReadParts
+pub mod Entries
+pub mod Contents
+pub mod Containers
+pub mod Fronts
+pub mod Written

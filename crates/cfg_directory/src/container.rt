@@ -1,0 +1,90 @@
+ghost use Rattle.std.specs.Prelude.{◌≡◌, ◌++◌, List as ListOf, map, Ok, IfOk, OnOk};
+ghost use Rattle.std.specs.List.{flat_map};
+ghost use Rattle.cfg_directory.specs.declared.item.Item.{Item};
+ghost use Rattle.cfg_directory.specs.declared.container.ImageFault.TheVariants.{OutOfMemory as NoMemory};
+ghost use Rattle.cfg_directory.specs.Container.{IsContainer, Gives, read_so, container_of, flag_of};
+
+use crate::directory::put_directory;
+use crate::item::Item;
+use crate::items::Items;
+use crate::reading::read_parts;
+use std::alloc::Global;
+use vt_outside::{Bytes, OutOfMemory};
+
+/// Why bytes are no container. An index is that of the entry, from 0. A fault's number is its position from 1.
+#[derive(Clone, Copy, Debug, PartialEq, Eq)]
+pub enum ImageFault {
+    /// They end too early.
+    Truncated,
+    /// There are more than 1,024 files.
+    TooMany,
+    /// A name is no file name.
+    BadName(u32),
+    /// A name was given before.
+    TwiceNamed(u32),
+    /// A selector was given before.
+    TwiceSelected(u32),
+    /// A selector is below 0x20 or above 0x3FFF.
+    BadSelect(u32),
+    /// A flag is neither 0 nor 1.
+    BadFlag(u32),
+    /// Bytes follow the files.
+    TrailingBytes,
+    /// The files have more than 67,108,864 bytes.
+    TooLarge,
+    /// Memory ran out.
+    OutOfMemory,
+}
+
+impl From<OutOfMemory> for ImageFault {
+    ghost from_gives = { λ _ fault. fault ≡ NoMemory };
+
+    fn from(_error: OutOfMemory) -> ImageFault {
+        ImageFault::OutOfMemory
+    }
+}
+
+/// The items that the bytes are a container of.
+pub fn read_image(alloc: Global, bytes: &[u8]) -> Result<Items, ImageFault>
+    // What is read is spelled so.
+    ensures found { IfOk result (λ items. IsContainer bytes.now items) }
+    // What is spelled so is read, unless memory runs out.
+    ensures only { (items : ListOf Item) → IsContainer bytes.now items → Gives (λ read. read) result (Ok items) }
+    // Which refusal it is.
+    ensures exact { Gives (λ read. read) result (read_so bytes.now) }
+{
+    Ok(Items::of(read_parts(alloc, bytes)?))
+}
+
+/// The container of items.
+pub fn write_image(alloc: Global, items: &Items) -> Result<Bytes, OutOfMemory>
+    ensures spelled { IfOk result (λ bytes. bytes ≡ container_of items.now) }
+    ensures read_again { IfOk result (λ bytes. IsContainer bytes items.now) }
+{
+    let items = items.all();
+    let mut bytes = Bytes::new(alloc);
+    put_directory(&mut bytes, items)?;
+    put_flags(&mut bytes, items)?;
+    put_contents(&mut bytes, items)?;
+    Ok(bytes)
+}
+
+// Adds the flag of each item.
+fn put_flags(bytes: &mut Bytes, items: &[Item]) -> Result<(), OutOfMemory>
+    ensures { OnOk result (bytes.new ≡ bytes.old ++ map (λ item. flag_of item.writable) items.now) }
+{
+    for item in items {
+        bytes.push(u8::from(item.writable))?;
+    }
+    Ok(())
+}
+
+// Adds what each item holds.
+fn put_contents(bytes: &mut Bytes, items: &[Item]) -> Result<(), OutOfMemory>
+    ensures { OnOk result (bytes.new ≡ bytes.old ++ flat_map (λ item. item.bytes) items.now) }
+{
+    for item in items {
+        bytes.extend(item.bytes.as_slice())?;
+    }
+    Ok(())
+}

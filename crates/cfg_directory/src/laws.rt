@@ -1,0 +1,26 @@
+//! Laws over the definitions, each the contract of a function that does nothing.
+
+ghost use Rattle.std.specs.Prelude.{◌≡◌, ℕ, ◌<◌, ◌++◌, List, length, Err};
+ghost use Rattle.std.specs.List.{AllByRecursion};
+ghost use Rattle.vt_outside.specs.Name.{IsName};
+ghost use Rattle.cfg_directory.specs.declared.item.Item.{Item};
+ghost use Rattle.cfg_directory.specs.declared.container.ImageFault.TheVariants.{Truncated};
+ghost use Rattle.cfg_directory.specs.Items.{IsItems};
+ghost use Rattle.cfg_directory.specs.Container.{IsContainer, container_of, read_so};
+
+/// Bytes are a container of one list of items at most.
+pub fn one_list_is_contained()
+    ensures { (bytes : List ℕ) (a b : List Item) → IsContainer bytes a → IsContainer bytes b → a ≡ b }
+{}
+
+/// What is written is a container of the items, where each name is one.
+pub fn written_items_are_contained()
+    ensures { (items : List Item) → IsItems items → AllByRecursion (λ item. IsName item.name) items
+        → IsContainer (container_of items) items }
+{}
+
+/// Every front of a container that lacks something at its end is cut short.
+pub fn every_front_is_truncated()
+    ensures { (items : List Item) (bytes front rest : List ℕ) → IsContainer bytes items → bytes ≡ front ++ rest → 0 < length rest
+        → read_so front ≡ Err Truncated }
+{}

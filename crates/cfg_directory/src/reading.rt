@@ -1,0 +1,211 @@
+//! The parts of a container, each read from the front of what is left.
+
+ghost use Rattle.std.specs.Prelude.{◌≡◌, ◌==◌, ◌≤◌, Ok, IfOk, length, map, nat_lt, sum_by};
+ghost use Rattle.std.specs.List.{list_any, position};
+ghost use Rattle.std.specs.Str.{bytes_eq};
+ghost use Rattle.cfg_directory.specs.Items.{file_limit};
+ghost use Rattle.cfg_directory.specs.Container.{Gives, listed_so, listed_of, items_so, contents_so};
+ghost use Rattle.cfg_directory.specs.Parts.{is_set, count_at, directory_at, flags_at, parts_of};
+
+use crate::container::ImageFault;
+use crate::item::Item;
+use crate::listed::Listed;
+use std::alloc::Global;
+use vt_bytes::get_be;
+use vt_outside::{Bytes, List, Name, OutOfMemory};
+
+// How many files there may be, and how many bytes they may have in all.
+const FILE_LIMIT: u64 = 1024;
+
+const BYTES_LIMIT: u64 = 67_108_864;
+
+// The bytes of an entry.
+const ENTRY_SIZE: usize = 64;
+
+// Where an entry's selector and its name stand.
+const SELECT_AT: usize = 4;
+
+const NAME_AT: usize = 8;
+
+/// The items that the bytes are a container of.
+#[tactic(auto, unfolding(crate::specs::Parts::parts_of))]
+pub(crate) fn read_parts(alloc: Global, bytes: &[u8]) -> Result<List<Item>, ImageFault>
+    ensures { Gives (λ items. items) result (parts_of bytes.now) }
+{
+    let (count, rest) = read_count(bytes)?;
+    let (listed, rest) = read_directory(alloc, count, rest)?;
+    let (flags, rest) = read_flags(count, rest)?;
+    read_contents(alloc, listed.as_slice(), flags, rest)
+}
+
+// The number of files.
+#[tactic(auto, unfolding(crate::specs::Parts::count_at))]
+fn read_count(bytes: &[u8]) -> Result<(u32, &[u8]), ImageFault>
+    ensures exact { Gives (λ x. (x.0, x.1.now)) result (count_at bytes.now) }
+    ensures few { IfOk result (λ x. x.0 ≤ file_limit) }
+{
+    if bytes.len() < 4 {
+        return Err(ImageFault::Truncated);
+    }
+    let (count, rest) = bytes.split_at(4);
+    let count = get_be(count, 0, 4);
+    if count > FILE_LIMIT {
+        return Err(ImageFault::TooMany);
+    }
+    Ok((count as u32, rest))
+}
+
+// What so many entries say. They must all be there before any is read.
+fn read_directory(
+    alloc: Global,
+    count: u32,
+    bytes: &[u8],
+) -> Result<(List<Listed>, &[u8]), ImageFault>
+    requires { count ≤ file_limit }
+    ensures exact { Gives (λ x. (x.0, x.1.now)) result (directory_at count bytes.now) }
+    ensures count { IfOk result (λ x. length x.0 ≡ count) }
+{
+    if bytes.len() < ENTRY_SIZE * count as usize {
+        return Err(ImageFault::Truncated);
+    }
+    let mut listed = List::new(alloc);
+    let mut rest = bytes;
+    for index in 0..count {
+        let (entry, after) = rest.split_at(ENTRY_SIZE);
+        let entry = read_entry(index, listed.as_slice(), entry)?;
+        listed.push(entry)?;
+        rest = after;
+    }
+    Ok((listed, rest))
+}
+
+// What an entry at an index says, behind these.
+#[tactic(auto, unfolding(crate::specs::Container::listed_of))]
+fn read_entry(index: u32, before: &[Listed], entry: &[u8]) -> Result<Listed, ImageFault>
+    requires { length entry.now ≡ 64 }
+    ensures { Gives (λ listed. listed) result (listed_of index before.now entry.now) }
+{
+    let size = get_be(entry, 0, 4) as u32;
+    let select = get_be(entry, SELECT_AT, 2) as u16;
+    let mut field = [0; 56];
+    field.copy_from_slice(&entry[NAME_AT..ENTRY_SIZE]);
+    let Ok(name) = Name::read(&field) else {
+        return Err(ImageFault::BadName(index));
+    };
+    checked(index, before, Listed { name, select, size })
+}
+
+// What an entry at an index says, unless it may not stand behind these.
+fn checked(index: u32, before: &[Listed], listed: Listed) -> Result<Listed, ImageFault>
+    ensures { result ≡ listed_so index before.now listed.size listed.select (Ok listed.name) }
+{
+    if is_named(before, &listed.name) {
+        return Err(ImageFault::TwiceNamed(index));
+    }
+    if !(0x20..=0x3FFF).contains(&listed.select) {
+        return Err(ImageFault::BadSelect(index));
+    }
+    if is_selected(before, listed.select) {
+        return Err(ImageFault::TwiceSelected(index));
+    }
+    Ok(listed)
+}
+
+// Whether an entry has the name.
+fn is_named(listed: &[Listed], name: &Name) -> bool
+    ensures { result ≡ list_any (λ other. bytes_eq other.name name.now) listed.now }
+{
+    listed.iter().any(|other| other.name == *name)
+}
+
+// Whether an entry has the selector.
+fn is_selected(listed: &[Listed], select: u16) -> bool
+    ensures { result ≡ list_any (λ other. other.select == select) listed.now }
+{
+    listed.iter().any(|other| other.select == select)
+}
+
+// The flags of so many files.
+#[tactic(auto, unfolding(crate::specs::Parts::flags_at))]
+fn read_flags(count: u32, bytes: &[u8]) -> Result<(&[u8], &[u8]), ImageFault>
+    ensures exact { Gives (λ x. (map is_set x.0.now, x.1.now)) result (flags_at count bytes.now) }
+    ensures count { IfOk result (λ x. length x.0.now ≡ count) }
+{
+    if bytes.len() < count as usize {
+        return Err(ImageFault::Truncated);
+    }
+    let (flags, rest) = bytes.split_at(count as usize);
+    if let Some(index) = bad_flag(flags) {
+        return Err(ImageFault::BadFlag(index as u32));
+    }
+    Ok((flags, rest))
+}
+
+// Where the first flag is that is neither 0 nor 1.
+fn bad_flag(flags: &[u8]) -> Option<usize>
+    ensures { result ≡ position (nat_lt 1) flags.now }
+{
+    flags.iter().position(|flag| *flag > 1)
+}
+
+// The items, of which the files' bytes are all that is left.
+#[tactic(auto, unfolding(crate::specs::Container::contents_so))]
+fn read_contents(
+    alloc: Global,
+    listed: &[Listed],
+    flags: &[u8],
+    bytes: &[u8],
+) -> Result<List<Item>, ImageFault>
+    requires few { length listed.now ≤ file_limit }
+    requires flags { length flags.now ≡ length listed.now }
+    ensures { Gives (λ items. items) result (contents_so listed.now (map is_set flags.now) bytes.now) }
+{
+    let total = total_of(listed);
+    if total > BYTES_LIMIT {
+        return Err(ImageFault::TooLarge);
+    }
+    if (bytes.len() as u64) < total {
+        return Err(ImageFault::Truncated);
+    }
+    if bytes.len() as u64 > total {
+        return Err(ImageFault::TrailingBytes);
+    }
+    Ok(take_items(alloc, listed, flags, bytes)?)
+}
+
+// How many bytes the files have in all.
+fn total_of(listed: &[Listed]) -> u64
+    requires { length listed.now ≤ file_limit }
+    ensures { result ≡ sum_by (λ l. l.size) listed.now }
+{
+    listed.iter().map(|entry| u64::from(entry.size)).sum()
+}
+
+// The items, each with as many of the bytes as its entry says.
+fn take_items(
+    alloc: Global,
+    listed: &[Listed],
+    flags: &[u8],
+    bytes: &[u8],
+) -> Result<List<Item>, OutOfMemory>
+    requires flags { length flags.now ≡ length listed.now }
+    requires sizes { sum_by (λ l. l.size) listed.now ≡ length bytes.now }
+    ensures { IfOk result (λ items. items ≡ items_so listed.now (map is_set flags.now) bytes.now) }
+{
+    let mut items = List::new(alloc);
+    let mut rest = bytes;
+    for (index, entry) in listed.iter().enumerate() {
+        let (contents, after) = rest.split_at(entry.size as usize);
+        let flag = flags[index];
+        let mut bytes = Bytes::new(alloc);
+        bytes.extend(contents)?;
+        items.push(Item {
+            name: entry.name,
+            select: entry.select,
+            writable: flag == 1,
+            bytes,
+        })?;
+        rest = after;
+    }
+    Ok(items)
+}
