@@ -1,0 +1,4 @@
+pub mod Ranges
+pub mod Edits
+pub mod Bytes
+pub mod Windows

@@ -1,0 +1,43 @@
+ghost use Rattle.std.specs.Prelude.{◌≡◌, ◌+◌, ◌^◌, ◌≤◌, ◌↔◌, ◌⊎◌, IsErr, OnOk, OnErr};
+ghost use Rattle.vt_bytes.specs.Numbers.{le, le_bytes};
+ghost use Rattle.guest_memory.specs.Memory.{IsRamRange, bytes_at, Puts};
+
+use crate::memory::GuestMemory;
+use thiserror::Error;
+
+/// A sum doesn't fit its field.
+#[derive(Clone, Copy, Debug, PartialEq, Eq, Error)]
+#[error("the number does not fit its field")]
+pub struct TooFar;
+
+impl GuestMemory {
+    /// Adds to the little-endian number of `size` bytes at an address.
+    pub fn patch_add(&mut self, address: u64, size: u8, amount: u64) -> Result<(), TooFar>
+        requires size { (size ≡ 1) ⊎ ((size ≡ 2) ⊎ ((size ≡ 4) ⊎ (size ≡ 8))) }
+        requires ram { IsRamRange self.old.top address size }
+        ensures ok { OnOk result (Puts self.old self.new address
+            (le_bytes size (le (bytes_at self.old address size) + amount))) }
+        ensures too_far { IsErr result ↔ (256 ^ size ≤ le (bytes_at self.old address size) + amount) }
+        ensures err { OnErr result (self.new ≡ self.old) }
+    {
+        let number = self.number_at(address, size);
+        let Some(sum) = number.checked_add(amount) else {
+            return Err(TooFar);
+        };
+        if size < 8 && sum >> (8 * u32::from(size)) != 0 {
+            return Err(TooFar);
+        }
+        self.put_number(address, size, sum);
+        Ok(())
+    }
+
+    // Puts a number in `size` bytes at an address, low byte first.
+    fn put_number(&mut self, address: u64, size: u8, number: u64)
+        requires size { size ≤ 8 }
+        requires ram { IsRamRange self.old.top address size }
+        ensures { Puts self.old self.new address (le_bytes size number) }
+    {
+        let bytes = number.to_le_bytes();
+        self.copy_in(address, &bytes[..usize::from(size)]);
+    }
+}
