@@ -1,0 +1,15 @@
+use Rattle.std.proofs.Common.{◌≡◌, ◌-◌, ◌<◌, ◌≤◌, length}
+use Rattle.vt_outside.specs.Stream.{in_front}
+use Rattle.vmtables.specs.Outcome.{input_limit}
+use Rattle.vmtables.proofs.input.read_to_end.Given as goal
+
+abbrev pub invariant-loop-count : goal.invariant-loop-count
+invariant-loop-count g l = record {
+  given : g.S.Source.left l.initial.source ≡ in_front l.bytes (g.S.Source.left l.source);
+  within : length l.bytes ≤ input_limit;
+  never_fell : g.S.Source.faults l.initial.source ≤ g.S.Source.faults l.source;
+  some : 0 < length l.piece.items;
+}
+
+abbrev pub decreases-loop-count : goal.decreases-loop-count
+decreases-loop-count g l = input_limit - length l.bytes

@@ -1,0 +1,7 @@
+use Rattle.std.proofs.Common.{rules}
+use Rattle.vmtables.specs.Image.{end_structure}
+use Rattle.vmtables.proofs.smbios.tables_of.Goals as goal
+
+pub returns : goal.returns
+unfolding end_structure
+returns c = search rules

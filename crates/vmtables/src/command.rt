@@ -1,0 +1,19 @@
+ghost use Rattle.std.specs.Prelude.{◌≡◌, map, string_bytes};
+ghost use Rattle.vmtables.specs.Command.{command_of};
+
+/// What the words of a command line ask for.
+#[derive(Clone, Copy, Debug, PartialEq, Eq)]
+pub(crate) enum Command {
+    /// Builds, loads and dumps a machine.
+    Boot,
+}
+
+/// The command that the words are, or None where they are no command.
+pub(crate) fn read_words(words: &[String]) -> Option<Command>
+    ensures { result ≡ command_of (map string_bytes words.now) }
+{
+    match words {
+        [word] if word.as_str() == "boot" => Some(Command::Boot),
+        _ => None,
+    }
+}

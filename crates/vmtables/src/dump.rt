@@ -1,0 +1,103 @@
+ghost use Rattle.std.specs.Prelude.{◌≡◌, ◌≤◌, ◌+◌, ◌*◌, ◌==◌, length, OnOk, OnErr};
+ghost use Rattle.std.specs.List.{list_all};
+ghost use Rattle.vt_outside.specs.Stream.{Rose};
+ghost use Rattle.guest_memory.specs.Memory.{IsTop, IsRamRange, bytes_at};
+ghost use Rattle.vmtables.specs.Dump.{dump, header_line, row_text, rows_text};
+ghost use Rattle.hex.specs.Hex.{encode_lower};
+ghost use Rattle.vmtables.specs.Output.{Took, TookFront};
+
+use crate::output::write_all;
+use guest_memory::GuestMemory;
+use vt_outside::{Failed, Sink};
+
+// How many bytes of RAM a line tells.
+const ROW: u64 = 16;
+
+/// Writes the text of a memory, line by line.
+pub(crate) fn dump_to<K: Sink>(memory: &GuestMemory, out: &mut K) -> Result<(), Failed>
+    ensures ok { OnOk result (Took (K.taken out.old) (K.taken out.new) (dump memory.now)) }
+    ensures front { OnErr result (TookFront (K.taken out.old) (K.taken out.new) (dump memory.now)) }
+
+    ensures failed { OnErr result (Rose (K.faults out.old) (K.faults out.new)) }
+    ensures never_falls { K.faults out.old ≤ K.faults out.new }
+{
+    let top = u64::from(memory.top());
+    write_all(out, &header(memory.top(), memory.fill()))?;
+    dump_rows(memory, out, 0, 0xA000)?;
+    dump_rows(memory, out, 0xE_0000, 0x2000)?;
+    dump_rows(memory, out, top - 0x200_0000, 0x20_0000)?;
+    write_all(out, b"end\n")
+}
+
+// Writes the lines of so many rows from an address on.
+fn dump_rows<K: Sink>(
+    memory: &GuestMemory,
+    out: &mut K,
+    start: u64,
+    count: u64,
+) -> Result<(), Failed>
+    requires lawful { IsTop memory.now.top }
+    requires ram { IsRamRange memory.now.top start (16 * count) }
+    ensures ok { OnOk result (Took (K.taken out.old) (K.taken out.new) (rows_text memory.now start count)) }
+    ensures front { OnErr result (TookFront (K.taken out.old) (K.taken out.new) (rows_text memory.now start count)) }
+
+    ensures failed { OnErr result (Rose (K.faults out.old) (K.faults out.new)) }
+    ensures never_falls { K.faults out.old ≤ K.faults out.new }
+{
+    let fill = memory.fill();
+    for k in 0..count {
+        let address = start + ROW * k;
+        let row = row_at(memory, address);
+        if !is_filled(&row, fill) {
+            write_all(out, &line(address as u32, &row))?;
+        }
+    }
+    Ok(())
+}
+
+// The 16 bytes at an address.
+fn row_at(memory: &GuestMemory, address: u64) -> [u8; 16]
+    requires lawful { IsTop memory.now.top }
+    requires ram { IsRamRange memory.now.top address 16 }
+    ensures { result ≡ bytes_at memory.now address 16 }
+{
+    let mut row = [0; 16];
+    for (place, byte) in row.iter_mut().enumerate() {
+        *byte = memory.read(address + place as u64);
+    }
+    row
+}
+
+// Whether all 16 bytes are the fill byte.
+fn is_filled(row: &[u8; 16], fill: u8) -> bool
+    ensures { result ≡ list_all (λ byte. byte == fill) row.now }
+{
+    row.iter().all(|byte| *byte == fill)
+}
+
+fn header(top: u32, fill: u8) -> [u8; 21]
+    ensures { result ≡ header_line top fill }
+{
+    let mut text = *b"top ........ fill ..\n";
+    put_hex(&mut text[4..12], &top.to_be_bytes());
+    put_hex(&mut text[18..20], &[fill]);
+    text
+}
+
+fn line(address: u32, row: &[u8; 16]) -> [u8; 42]
+    ensures { result ≡ row_text address row.now }
+{
+    let mut text = [b' '; 42];
+    put_hex(&mut text[..8], &address.to_be_bytes());
+    put_hex(&mut text[9..41], row);
+    text[41] = b'\n';
+    text
+}
+
+// Writes the digits of bytes over as many places.
+fn put_hex(text: &mut [u8], bytes: &[u8])
+    requires { length text.old ≡ 2 * length bytes.now }
+    ensures { text.new ≡ encode_lower bytes.now }
+{
+    hex::encode_to_slice(bytes, text).unwrap();
+}

@@ -1,0 +1,68 @@
+ghost use Rattle.std.specs.Prelude.{◌≡◌, ℕ, ◌<◌, ◌≤◌, ◌↔◌, [], length, Err, IfOk, OnOk, IfSome};
+ghost use Rattle.vt_outside.specs.Stream.{Rose, in_front};
+ghost use Rattle.vmtables.specs.Outcome.{input_limit, given_count};
+
+use std::alloc::Global;
+use vt_outside::{Bytes, Failed, OutOfMemory, Source};
+
+/// How many bytes an input may have.
+const INPUT_LIMIT: usize = 67_108_864;
+
+// How many bytes are asked for at a time.
+const PIECE: usize = 65_536;
+
+/// Why an input wasn't read to its end.
+#[derive(Clone, Copy, Debug, PartialEq, Eq)]
+pub(crate) enum InputFault {
+    /// The source failed.
+    Failed,
+    /// The source gave more bytes than an input may have.
+    TooLong,
+    /// Memory ran out.
+    OutOfMemory,
+}
+
+impl From<OutOfMemory> for InputFault {
+    ghost use Rattle.std.specs.Prelude.{◌≡◌};
+    ghost use Rattle.vmtables.specs.declared.input.InputFault.TheVariants.{OutOfMemory};
+
+    ghost from_gives = { λ _ fault. fault ≡ OutOfMemory };
+
+    fn from(_fault: OutOfMemory) -> InputFault {
+        InputFault::OutOfMemory
+    }
+}
+
+/// Reads a source to its end, in memory that is bounded by the limit on an input.
+pub(crate) fn read_to_end<S: Source>(alloc: Global, source: &mut S) -> Result<Bytes, InputFault>
+    ensures given { IfOk result (λ bytes. S.left source.old ≡ in_front bytes (S.left source.new)) }
+    ensures end { OnOk result (IfSome (S.left source.new) (λ rest. rest ≡ [])) }
+    ensures within { IfOk result (λ bytes. length bytes ≤ input_limit) }
+
+    ensures failed { result ≡ Err InputFault.Failed → Rose (S.faults source.old) (S.faults source.new) }
+    ensures too_long { IfSome (S.left source.old) (λ _.
+        (result ≡ Err InputFault.TooLong) ↔ (input_limit < given_count (S.left source.old) (S.left source.new))) }
+    ensures never_falls { S.faults source.old ≤ S.faults source.new }
+{
+    let mut bytes = Bytes::new(alloc);
+    let mut piece = buffer(alloc, PIECE)?;
+    loop {
+        let count = match source.read(&mut piece) {
+            Ok(count) => count,
+            Err(Failed) => return Err(InputFault::Failed),
+        };
+        if count == 0 {
+            return Ok(bytes);
+        }
+        if count > INPUT_LIMIT - bytes.len() {
+            return Err(InputFault::TooLong);
+        }
+        bytes.extend(&piece[..count])?;
+    }
+}
+
+fn buffer(alloc: Global, len: usize) -> Result<Vec<u8>, OutOfMemory>
+    ensures { IfOk result (λ buffer. length buffer.items ≡ len) }
+{
+    Ok(vec![in alloc; 0; len]?)
+}

@@ -1,0 +1,29 @@
+//! The top call of the program: words and a description in, the dump of a guest's memory out.
+//!
+//! `boot` reads a machine's description (TOML), builds the files that a firmware loads (SMBIOS structures and
+//! their anchor, DSP0134) and the script that places, patches and checksums them, runs that script on the memory
+//! of a guest, and writes the memory as text.
+#![tactic(auto)]
+
+mod command;
+mod description;
+mod dump;
+mod files;
+mod image;
+mod input;
+pub mod laws;
+mod loading;
+mod output;
+mod placing;
+mod smbios;
+mod state;
+mod status;
+mod string_set;
+mod top_call;
+mod world;
+
+pub use files::FileBytes;
+pub use state::State;
+pub use status::Status;
+pub use top_call::top;
+pub use world::World;

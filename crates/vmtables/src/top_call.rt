@@ -1,0 +1,142 @@
+ghost use Rattle.std.specs.Prelude.{◌≡◌, ◌≢◌, ◌<◌, ◌≤◌, ◌↔◌, ◌⊎◌, List, [], map, string_bytes, Err, Some, None, Option, IfSome, IsSome, IfErr, OnOk, OnErr, IsSomeAnd};
+ghost use Rattle.vt_outside.specs.Stream.{Rose};
+ghost use Rattle.machine_desc.specs.declared.machine.Machine.{Machine};
+ghost use Rattle.vmtables.specs.Boot.{HasLoaded, IsLoaded, LeavesWorld, BootEnds, status_of};
+ghost use Rattle.vmtables.specs.Command.{command_of};
+ghost use Rattle.vmtables.specs.Dump.{dump};
+ghost use Rattle.vmtables.specs.Outcome.{input_limit, given_count, line_of};
+ghost use Rattle.vmtables.specs.Output.{Took, TookFront, AllFlushed};
+ghost use Rattle.vmtables.specs.Reads.{Reads};
+
+use crate::command::{Command, read_words};
+use crate::description::read_machine;
+use crate::dump::dump_to;
+use crate::image::image_of;
+use crate::input::read_to_end;
+use crate::output::write_all;
+use crate::status::Status;
+use crate::world::World;
+use std::alloc::Global;
+use vt_outside::{Failed, Sink, Source};
+
+// How many bytes a MiB has.
+const MIB: u32 = 0x10_0000;
+
+/// Does what the words say: `boot` reads a description from `source`, builds the machine's files, loads them into
+/// the memory of `world`, and writes its dump to `out`. Nothing is written before all but the writing is done.
+///
+/// `say` takes the line of a status other than `Ok`. What becomes of that line changes nothing else.
+pub fn top<S: Source, K: Sink, E: Sink>(
+    alloc: Global,
+    words: &[String],
+    source: &mut S,
+    out: &mut K,
+    say: &mut E,
+    world: &mut World,
+) -> Status
+    // With Ok, and with a write fault, the source has nothing left, and what it had is a description whose machine
+    // is loaded in the world.
+    ensures read { HasLoaded result → IfSome (S.left source.new) (λ rest. rest ≡ []) }
+    ensures loaded { HasLoaded result → IfSome (S.left source.old) (λ bytes. IsSomeAnd world.new (IsLoaded bytes)) }
+
+    // With Ok, out took the dump of the world's memory, and all that out took is flushed.
+    ensures dumped { result ≡ Status.Ok → IsSomeAnd world.new (λ w. Took (K.taken out.old) (K.taken out.new) (dump w.memory)) }
+    ensures flushed { result ≡ Status.Ok → AllFlushed (K.taken out.new) (K.flushed out.new) }
+
+    // When each other status comes. Want of memory may come at any time.
+    ensures usage { (result ≡ Status.Usage) ↔ (command_of (map string_bytes words.now) ≡ None) }
+    ensures read_fault { result ≡ Status.ReadFault → Rose (S.faults source.old) (S.faults source.new) }
+    ensures too_long { IfSome (S.left source.old) (λ _.
+        (result ≡ Status.InputTooLong) ↔ (input_limit < given_count (S.left source.old) (S.left source.new))) }
+    ensures refused { result ≡ Status.DescriptionRefused → IfSome (S.left source.old) (λ bytes.
+        (machine : Machine) → Reads bytes machine → ⊥) }
+    ensures write_fault { result ≡ Status.WriteFault → Rose (K.faults out.old) (K.faults out.new) }
+
+    // What is left with another status than Ok.
+    ensures front { result ≡ Status.WriteFault → IsSomeAnd world.new (λ w. TookFront (K.taken out.old) (K.taken out.new) (dump w.memory)) }
+    ensures nothing { result ≢ Status.Ok → result ≢ Status.WriteFault → K.taken out.new ≡ K.taken out.old }
+    ensures world { LeavesWorld result world.old world.new }
+
+    // Say took the line of the status, or, where it failed, a part of it from its front.
+    ensures said { Took (E.taken say.old) (E.taken say.new) (line_of result)
+        ⊎ (TookFront (E.taken say.old) (E.taken say.new) (line_of result) × Rose (E.faults say.old) (E.faults say.new)) }
+{
+    let outcome = match read_words(words) {
+        Some(Command::Boot) => boot(alloc, source, out, world),
+        None => Err(Status::Usage),
+    };
+    let status = status_of(outcome);
+    // A fault of `say` has no place to be told.
+    let _ = write_all(say, status.line().as_bytes());
+    status
+}
+
+fn status_of(outcome: Result<(), Status>) -> Status
+    ensures { result ≡ status_of outcome }
+{
+    match outcome {
+        Ok(()) => Status::Ok,
+        Err(status) => status,
+    }
+}
+
+// Reads a description, loads its machine, and writes the dump.
+fn boot<S: Source, K: Sink>(
+    alloc: Global,
+    source: &mut S,
+    out: &mut K,
+    world: &mut World,
+) -> Result<(), Status>
+    ensures { BootEnds (status_of result)
+        (record { left = S.left source.old; faults = S.faults source.old })
+        (record { left = S.left source.new; faults = S.faults source.new })
+        (record { taken = K.taken out.old; flushed = K.flushed out.old; faults = K.faults out.old })
+        (record { taken = K.taken out.new; flushed = K.flushed out.new; faults = K.faults out.new })
+        world.old world.new }
+{
+    let bytes = read_to_end(alloc, source)?;
+    load_machine(alloc, bytes.as_slice(), world)?;
+    write_dump(world, out)
+}
+
+// Reads a machine's description, and loads its files into the world's memory.
+fn load_machine(alloc: Global, description: &[u8], world: &mut World) -> Result<(), Status>
+    ensures ok { OnOk result (IsSomeAnd world.new (IsLoaded description.now)) }
+    ensures status { IfErr result (λ status. (status ≡ Status.DescriptionRefused) ⊎ (status ≡ Status.OutOfMemory)) }
+    ensures refused { result ≡ Err Status.DescriptionRefused → (machine : Machine) → Reads description.now machine → ⊥ }
+    ensures kept { IfErr result (λ status. LeavesWorld status world.old world.new) }
+{
+    let machine = read_machine(alloc, description)?;
+    let image = image_of(alloc, &machine)?;
+    world.begin(alloc, image.files, image.script, machine.top_mib * MIB, 0)?;
+    world.load();
+    Ok(())
+}
+
+// Writes the dump of the world's memory, and flushes it.
+fn write_dump<K: Sink>(world: &World, out: &mut K) -> Result<(), Status>
+    requires { IsSome world.now }
+    ensures dumped { OnOk result (IsSomeAnd world.now (λ w. Took (K.taken out.old) (K.taken out.new) (dump w.memory))) }
+    ensures flushed { OnOk result (AllFlushed (K.taken out.new) (K.flushed out.new)) }
+    ensures status { IfErr result (λ status. status ≡ Status.WriteFault) }
+    ensures front { OnErr result (IsSomeAnd world.now (λ w. TookFront (K.taken out.old) (K.taken out.new) (dump w.memory))) }
+    ensures write_fault { OnErr result (Rose (K.faults out.old) (K.faults out.new)) }
+{
+    match dump_to(world.memory(), out) {
+        Ok(()) => flush(out),
+        Err(Failed) => Err(Status::WriteFault),
+    }
+}
+
+fn flush<K: Sink>(out: &mut K) -> Result<(), Status>
+    ensures taken { K.taken out.new ≡ K.taken out.old }
+    ensures flushed { OnOk result (AllFlushed (K.taken out.new) (K.flushed out.new)) }
+    ensures status { IfErr result (λ status. status ≡ Status.WriteFault) }
+    ensures write_fault { OnErr result (Rose (K.faults out.old) (K.faults out.new)) }
+    ensures never_falls { K.faults out.old ≤ K.faults out.new }
+{
+    match out.flush() {
+        Ok(()) => Ok(()),
+        Err(Failed) => Err(Status::WriteFault),
+    }
+}

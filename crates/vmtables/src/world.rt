@@ -1,0 +1,142 @@
+ghost use Rattle.std.specs.Prelude.{◌≡◌, ℕ, List as ListOf, [], None, Some, true, false, IsNone, IsSome, IfSome, IsSomeAnd, OnOk, OnErr};
+ghost use Rattle.guest_memory.specs.Memory.{IsTop};
+ghost use Rattle.vmtables.specs.World.{Begun, state_of, IsBegun};
+ghost use Rattle.vmtables.specs.WorldInside.{IsKept};
+ghost use Rattle.vmtables.specs.ScriptRun.{Placed, Runs, IsLeft};
+
+use crate::files::FileBytes;
+use crate::loading::run_script;
+use crate::placing::PlacedFile;
+use crate::state::State;
+use guest_memory::GuestMemory;
+use loader_script::Entry;
+use std::alloc::Global;
+use std::marker::Model;
+use vt_outside::{List, OutOfMemory};
+
+/// A guest's memory, and what a firmware loads into it.
+#[derive(Drop)]
+pub struct World {
+    load: Option<Load>,
+}
+
+// A load that was begun.
+#[derive(Drop)]
+struct Load {
+    memory: GuestMemory,
+    files: List<FileBytes>,
+    script: List<Entry>,
+    // Room for a file for each command, so that the load takes no memory.
+    placed: Vec<PlacedFile>,
+    done: bool,
+}
+
+impl Model for World {
+    ghost use Rattle.std.specs.Prelude.{Option, IfSome};
+    ghost use Rattle.vmtables.specs.World.{Begun};
+    ghost use Rattle.vmtables.specs.WorldInside.{begun_of, IsKept};
+
+    ghost Value = { Option Begun };
+
+    ghost view = { λ w. begun_of w.load };
+
+    ghost invariant = { λ w. IfSome w.load IsKept };
+}
+
+impl Load {
+    // Carries out the script.
+    fn run(&mut self)
+        requires kept { IsKept self.old }
+        requires running { self.old.done ≡ false }
+        requires runs { (after : ListOf Placed) × Runs self.old.memory.top self.old.files self.old.script [] after }
+        ensures done { self.new.done ≡ true }
+        ensures left { (after : ListOf Placed) → Runs self.old.memory.top self.old.files self.old.script [] after → IsLeft self.new.memory after }
+        ensures files { self.new.files ≡ self.old.files }
+        ensures script { self.new.script ≡ self.old.script }
+        ensures top { self.new.memory.top ≡ self.old.memory.top }
+        ensures fill { self.new.memory.fill ≡ self.old.memory.fill }
+    {
+        run_script(
+            &mut self.memory,
+            self.files.as_slice(),
+            self.script.as_slice(),
+            &mut self.placed,
+        );
+        self.done = true;
+    }
+}
+
+impl World {
+    /// A world in which nothing was begun.
+    pub fn idle() -> World
+        ensures { result ≡ None }
+    {
+        World { load: None }
+    }
+
+    /// Begins a load of files by a script, into memory below `top`, an address, in which every byte is `fill`. It
+    /// takes all memory that the load needs. After a refusal the world is idle.
+    pub fn begin(
+        &mut self,
+        alloc: Global,
+        files: List<FileBytes>,
+        script: List<Entry>,
+        top: u32,
+        fill: u8,
+    ) -> Result<(), OutOfMemory>
+        requires { IsTop top }
+        ensures ok { OnOk result (IsSomeAnd self.new (λ w. IsBegun w files script top fill)) }
+        ensures err { OnErr result (self.new ≡ None) }
+    {
+        self.load = None;
+        let placed = Vec::with_capacity(alloc, script.len())?;
+        let memory = GuestMemory::begin(alloc, top, fill)?;
+        self.load = Some(Load {
+            memory,
+            files,
+            script,
+            placed,
+            done: false,
+        });
+        Ok(())
+    }
+
+    /// Carries out the script, whose commands none refuses, and leaves the files in memory. Each file takes the
+    /// least free place of its zone. It takes no memory.
+    pub fn load(&mut self)
+        requires running { IsSomeAnd self.old (λ w. w.done ≡ false) }
+        requires runs { IfSome self.old (λ w. (after : ListOf Placed) × Runs w.memory.top w.files w.script [] after) }
+        ensures done { IsSomeAnd self.new (λ w. w.done ≡ true) }
+        ensures left { IfSome self.old (λ old. IfSome self.new (λ new. (after : ListOf Placed)
+            → Runs old.memory.top old.files old.script [] after → IsLeft new.memory after)) }
+        ensures same { IfSome self.old (λ old. IfSome self.new (λ new.
+            (new.files ≡ old.files) × (new.script ≡ old.script) × (new.memory.top ≡ old.memory.top) × (new.memory.fill ≡ old.memory.fill))) }
+    {
+        match &mut self.load {
+            Some(load) => load.run(),
+            None => unreachable!(),
+        }
+    }
+
+    /// How far the world is.
+    pub fn state(&self) -> State
+        ensures { result ≡ state_of self.now }
+    {
+        match &self.load {
+            None => State::Idle,
+            Some(load) if load.done => State::Done,
+            Some(_) => State::Running,
+        }
+    }
+
+    /// The guest's memory.
+    pub fn memory(&self) -> &GuestMemory
+        requires { IsSome self.now }
+        ensures { IsSomeAnd self.now (λ w. result.now ≡ w.memory) }
+    {
+        match &self.load {
+            Some(load) => &load.memory,
+            None => unreachable!(),
+        }
+    }
+}
