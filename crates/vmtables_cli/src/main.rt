@@ -1,0 +1,79 @@
+//! The program `vmtables`: the top call over the words, the streams and the status of a process.
+#![tactic(auto)]
+
+use std::env;
+use std::io::{self, BufWriter, ErrorKind};
+use std::process::ExitCode;
+use vmtables::{Status, World, top};
+use vt_outside::{ReadSource, WriteSink};
+
+const HELP: &str = "\
+usage: vmtables boot < DESCRIPTION > DUMP
+
+boot       reads a machine's description (TOML) from standard input, builds its tables and the script that
+           loads them, loads them into a guest's memory, and writes a dump of that memory to standard output
+--help     prints this text
+--version  prints the version
+
+Status: 0 done, 1 read fault, 2 usage, 3 description refused, 8 write fault, 9 out of memory, 10 input too
+long. With a status other than 0 a line on standard error says which.
+";
+
+const VERSION: &str = "vmtables 0.1.0\n";
+
+// How many bytes of output are gathered before they are written.
+const BUFFER: usize = 65_536;
+
+fn main(rt: HostRuntime) -> ExitCode {
+    let Ok(words) = words_of(&rt) else {
+        return out_of_memory(&rt);
+    };
+    match words.as_slice() {
+        [word] if word.as_str() == "--help" => print_text(&rt, HELP),
+        [word] if word.as_str() == "--version" => print_text(&rt, VERSION),
+        words => run(&rt, words),
+    }
+}
+
+// The words after the program's name. A word that isn't text stands as one empty word, which is no command.
+fn words_of(rt: &HostRuntime) -> io::Result<Vec<String>> {
+    let mut words = Vec::new(rt.alloc());
+    match env::args(rt) {
+        Ok(args) => {
+            for word in args.skip(1) {
+                words.push(word)?;
+            }
+        }
+        Err(error) if error.kind() == ErrorKind::OutOfMemory => return Err(error),
+        Err(_) => words.push(String::new(rt.alloc()))?,
+    }
+    Ok(words)
+}
+
+fn run(rt: &HostRuntime, words: &[String]) -> ExitCode {
+    let Ok(writer) = BufWriter::with_capacity(rt.alloc(), BUFFER, rt.stdout()) else {
+        return out_of_memory(rt);
+    };
+    let status = top(
+        rt.alloc(),
+        words,
+        &mut ReadSource::new(rt.stdin()),
+        &mut WriteSink::new(writer),
+        &mut WriteSink::new(rt.stderr()),
+        &mut World::idle(),
+    );
+    ExitCode::from(status.number())
+}
+
+fn print_text(rt: &HostRuntime, text: &str) -> ExitCode {
+    match rt.print(text) {
+        Ok(()) => ExitCode::from(Status::Ok.number()),
+        Err(_) => ExitCode::from(Status::WriteFault.number()),
+    }
+}
+
+// Ends a process that has no memory even to begin.
+fn out_of_memory(rt: &HostRuntime) -> ExitCode {
+    let _ = rt.eprintln("out of memory");
+    ExitCode::from(Status::OutOfMemory.number())
+}
