@@ -1,0 +1,209 @@
+//! Descriptions that are refused, and those on the border that are accepted.
+
+use crate::runs::{Ran, boot};
+use std::alloc::Global;
+use std::process::Abort;
+use std::test::Fail;
+use vmtables::Status;
+use vt_outside::{Bytes, OutOfMemory};
+
+// Each is a description of its own.
+const REFUSED: [&str; 38] = [
+    // tops
+    "version = 1\ntop_mib = 63\nsystem = {}\n",
+    "version = 1\ntop_mib = 3073\nsystem = {}\n",
+    "version = 1\ntop_mib = 64.0\nsystem = {}\n",
+    "version = 1\ntop_mib = \"64\"\nsystem = {}\n",
+    "version = 1\ntop_mib = -64\nsystem = {}\n",
+    "version = 1\ntop_mib = 4294967360\nsystem = {}\n",
+    "version = 1\ntop_mib = true\nsystem = {}\n",
+    "version = 1\ntop_mib = 18446744073709551680\nsystem = {}\n",
+    "version = 1\ntop_mib = 064\nsystem = {}\n",
+    "version = 1\ntop_mib = 0x\nsystem = {}\n",
+    "version = 1\ntop_mib = \nsystem = {}\n",
+    // versions
+    "version = 2\ntop_mib = 64\nsystem = {}\n",
+    "version = 0\ntop_mib = 64\nsystem = {}\n",
+    "version = \"1\"\ntop_mib = 64\nsystem = {}\n",
+    "version = 1.0\ntop_mib = 64\nsystem = {}\n",
+    // keys that aren't there
+    "top_mib = 64\nsystem = {}\n",
+    "version = 1\nsystem = {}\n",
+    "version = 1\ntop_mib = 64\n",
+    // what isn't one table
+    "version = 1\ntop_mib = 64\nsystem = \"x\"\n",
+    "version = 1\ntop_mib = 64\nsystem = []\n",
+    "version = 1\ntop_mib = 64\n[[system]]\n",
+    "version = 1\ntop_mib = 64\n[system]\n[system]\n",
+    // keys that are there twice, or unknown, or in another case
+    "version = 1\ntop_mib = 64\ntop_mib = 64\nsystem = {}\n",
+    "version = 1\ntop_mib = 64\nsystem = {}\ncolour = \"red\"\n",
+    "version = 1\ntop_mib = 64\nsystem = {}\noem_strings = []\n",
+    "version = 1\ntop_mib = 64\nsystem = {}\n\"\" = 1\n",
+    "version = 1\ntop_mib = 64\nSystem = {}\n",
+    "version = 1\ntop_mib = 64\nsystem = {}\n[ignored.nothing]\n",
+    "version = 1\ntop_mib = 64\nsystem = {}\nversion.x = 1\n",
+    // what is no document
+    "version = 1\ntop_mib = 64\nsystem = {}\n]\n",
+    "version = 1\ntop_mib = 64\nsystem = {\n",
+    "version = 1\ntop_mib = 64\nsystem\n",
+    "version = 1\ntop_mib = 64\nsystem = {}\n\u{feff}",
+    "version = 1 top_mib = 64\nsystem = {}\n",
+    "",
+    "# nothing\n",
+    "\n",
+    "\0",
+];
+
+// What stands below the header of `system` in a description that is lawful above it.
+const REFUSED_SYSTEMS: [&str; 26] = [
+    // keys
+    "colour = \"red\"",
+    "Product = \"VM\"",
+    "product = \"VM\"\nproduct = \"VM\"",
+    "product.name = \"VM\"",
+    // values
+    "product = 5",
+    "product = 1979-05-27T07:32:00Z",
+    "product = 1979-05-27",
+    "product = []",
+    "product = false",
+    "product =",
+    "product = \"VM",
+    "product = 'VM\n'",
+    // texts with another byte than 0x20 to 0x7E
+    "product = \"V\tM\"",
+    "product = \"V\\tM\"",
+    "product = \"V\\u0001M\"",
+    "product = \"V\\u007fM\"",
+    "product = \"Vé\"",
+    "product = \"V\\u0000M\"",
+    // UUIDs
+    "uuid = \"00000000-0000-0000-0000-000000000000\"",
+    "uuid = \"ffffffff-ffff-ffff-ffff-ffffffffffff\"",
+    "uuid = 5",
+    "uuid = \"x\"",
+    "uuid = \"\"",
+    "uuid = \"0011223344556677 8899AABBCCDDEEFF\"",
+    "uuid = \"0011223344556677889900112233445\"",
+    "uuid = \"001122334455667788990011223344556\"",
+];
+
+// Bytes below that header that are no UTF-8: a byte that never stands there, a lone byte of the middle, an overlong
+// form, a surrogate, and a character that is cut off.
+const NO_TEXT: [&[u8]; 5] = [
+    b"product = \"\xff\"\n",
+    b"product = \"\x80\"\n",
+    b"product = \"\xc0\xaf\"\n",
+    b"# \xed\xa0\x80\n",
+    b"# \xe2\x82",
+];
+
+const KEYS: [&str; 6] = [
+    "manufacturer",
+    "product",
+    "version",
+    "serial",
+    "sku",
+    "family",
+];
+
+const HEAD: &[u8] = b"version = 1\ntop_mib = 64\n[system]\n";
+
+#[test]
+fn refused_descriptions(rt: HostRuntime) -> Result<(), Fail> {
+    for description in REFUSED {
+        let ran = boot(rt.alloc(), description.as_bytes())?;
+        is_refused(&rt, &ran, description);
+    }
+    for system in REFUSED_SYSTEMS {
+        let ran = boot_system(rt.alloc(), system.as_bytes())?;
+        is_refused(&rt, &ran, system);
+    }
+    Ok(())
+}
+
+#[test]
+fn descriptions_of_other_bytes(rt: HostRuntime) -> Result<(), Fail> {
+    is_refused(&rt, &boot(rt.alloc(), b"\xff")?, "one byte 0xff");
+    for bytes in NO_TEXT {
+        is_refused(&rt, &boot_system(rt.alloc(), bytes)?, "no UTF-8");
+    }
+    for depth in [81, 50_000] {
+        let arrays = arrays(rt.alloc(), depth)?;
+        is_refused(&rt, &boot_system(rt.alloc(), arrays.as_slice())?, "arrays");
+    }
+    Ok(())
+}
+
+#[test]
+fn texts_on_the_border(rt: HostRuntime) -> Result<(), Fail> {
+    for key in KEYS {
+        let line = text_line(rt.alloc(), key, 65)?;
+        is_refused(&rt, &boot_system(rt.alloc(), line.as_slice())?, key);
+        let line = text_line(rt.alloc(), key, 64)?;
+        let ran = boot_system(rt.alloc(), line.as_slice())?;
+        assert_eq!(rt; ran.status, Status::Ok, "at {key}");
+    }
+    Ok(())
+}
+
+#[test]
+fn accepted_descriptions(rt: HostRuntime) -> Result<(), Fail> {
+    for description in [
+        "version = 1\ntop_mib = 64\nsystem = {}\n",
+        "version = 1\ntop_mib = 3072\nsystem = {}\n",
+        "version = 1\ntop_mib = 65\nsystem = { product = \" ~\" }\n",
+        "version = 1\ntop_mib = 64\nsystem.uuid = \"00000000-0000-0000-0000-000000000001\"\n",
+        "version = 1\ntop_mib = 64\nsystem.uuid = \"ffffffff-ffff-ffff-ffff-fffffffffffe\"\n",
+    ] {
+        let ran = boot(rt.alloc(), description.as_bytes())?;
+        assert_eq!(rt; ran.status, Status::Ok, "at {description}");
+        assert_eq!(rt; ran.say.taken().len(), 0, "at {description}");
+    }
+    Ok(())
+}
+
+fn is_refused(rt: &impl Abort, ran: &Ran, case: &str) {
+    assert_eq!(rt; ran.status, Status::DescriptionRefused, "at {case}");
+    assert_eq!(rt; ran.out.taken().len(), 0, "at {case}");
+    assert_eq!(rt;
+        ran.say.taken(),
+        b"description refused\n".as_slice(),
+        "at {case}"
+    );
+}
+
+// Runs `boot` on a description with these bytes below the header of `system`.
+fn boot_system(alloc: Global, system: &[u8]) -> Result<Ran, OutOfMemory> {
+    let mut description = Bytes::new(alloc);
+    description.extend(HEAD)?;
+    description.extend(system)?;
+    boot(alloc, description.as_slice())
+}
+
+// A key with a text of so many bytes.
+fn text_line(alloc: Global, key: &str, len: u32) -> Result<Bytes, OutOfMemory> {
+    let mut line = Bytes::new(alloc);
+    line.extend(key.as_bytes())?;
+    line.extend(b" = \"")?;
+    for _ in 0..len {
+        line.push(b'x')?;
+    }
+    line.extend(b"\"\n")?;
+    Ok(line)
+}
+
+// A product that is arrays within arrays.
+fn arrays(alloc: Global, depth: u32) -> Result<Bytes, OutOfMemory> {
+    let mut line = Bytes::new(alloc);
+    line.extend(b"product = ")?;
+    for _ in 0..depth {
+        line.push(b'[')?;
+    }
+    for _ in 0..depth {
+        line.push(b']')?;
+    }
+    line.extend(b"\n")?;
+    Ok(line)
+}
