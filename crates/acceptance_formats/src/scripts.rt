@@ -1,0 +1,73 @@
+//! Loader scripts as bytes, and why a command is refused.
+
+use loader_script::{
+    Cause, Entry, ScriptFault, decode_entry, decode_script, encode_script, refusal,
+};
+use std::test::Fail;
+use vt_outside::Name;
+
+// ALLOCATE of "a" to a multiple of 0x10 of the F segment.
+fn allocate() -> [u8; 128] {
+    let mut entry = [0; 128];
+    entry[0] = 1;
+    entry[4] = b'a';
+    entry[60] = 0x10;
+    entry[64] = 2;
+    entry
+}
+
+#[test]
+fn one_command(rt: HostRuntime) -> Result<(), Fail> {
+    let Entry::Allocate { file, align, zone } = decode_entry(&allocate()) else {
+        return Err(Fail::from("an Allocate"));
+    };
+    assert!(rt; file == Name::of("a")?);
+    assert_eq!(rt; (align, zone), (0x10, 2));
+    let written = encode_script(rt.alloc(), &[Entry::Allocate { file, align, zone }])?;
+    assert_eq!(rt; written.as_slice(), allocate().as_slice());
+    Ok(())
+}
+
+#[test]
+fn commands_of_other_numbers(rt: HostRuntime) {
+    for (number, is_skipped) in [(0, true), (1, false), (4, true), (0xFF, true)] {
+        let mut entry = allocate();
+        entry[0] = number;
+        assert_eq!(rt;
+            matches!(decode_entry(&entry), Entry::Skipped(_)),
+            is_skipped,
+            "at {number}"
+        );
+    }
+    // a name of 56 bytes without a NUL
+    let mut entry = allocate();
+    entry[4..60].fill(0x41);
+    assert!(rt; matches!(decode_entry(&entry), Entry::Misnamed(1)));
+}
+
+#[test]
+fn lengths_of_scripts(rt: HostRuntime) {
+    let alloc = rt.alloc();
+    assert_eq!(rt; decode_script(alloc, &[]).map(|script| script.len()), Ok(0));
+    assert_eq!(rt;
+        decode_script(alloc, &[0; 128]).map(|script| script.len()),
+        Ok(1)
+    );
+    assert_eq!(rt;
+        decode_script(alloc, &[0; 127]).err(),
+        Some(ScriptFault::ScriptLength)
+    );
+    assert_eq!(rt;
+        decode_script(alloc, &[0; 129]).err(),
+        Some(ScriptFault::ScriptLength)
+    );
+}
+
+#[test]
+fn causes_of_refusal(rt: HostRuntime) {
+    assert_eq!(rt; refusal(&Entry::Skipped(9), &[], &[]), None);
+    assert_eq!(rt;
+        refusal(&Entry::Misnamed(2), &[], &[]),
+        Some(Cause::BadName)
+    );
+}
