@@ -2,6 +2,7 @@
 use Rattle.std.proofs.Common.{◌≡◌, ℕ, zero, suc, ◌+◌, List, ◌∷◌, ◌++◌, Option, Some, None, MatchOption, arith, refl, ap, sym, ◌∙◌}
 use Rattle.vt_bytes.specs.Numbers.{le}
 use Rattle.guest_memory.specs.Memory.{Memory, at, bytes_at}
+use Rattle.guest_memory.proofs.Bytes.{bytes_at-parts}
 use Rattle.table_model.specs.declared.smbios.Structure.{Structure}
 use Rattle.table_model.specs.declared.smbios.SmbiosTable.{SmbiosTable}
 use Rattle.table_model.specs.declared.inventory.Inventory.{Inventory}
@@ -12,21 +13,12 @@ use Rattle.table_model.specs.Acpi.{IsRsdp, ShowsAcpi}
 use Rattle.table_model.proofs.OneTable.{one_table}
 use Rattle.table_model.proofs.OneAcpi.{one_least, one_acpi}
 
--- so many bytes and the ones after them
-bytes_at-split : (m : Memory) (a b n k total : ℕ) → b ≡ a + n → total ≡ n + k → bytes_at m a total ≡ bytes_at m a n ++ bytes_at m b k
-unfolding bytes_at
-bytes_at-split m a b zero k total next whole =
-    let here : b ≡ a = omega arith in
-    let all : total ≡ k = omega arith in
-    cc
-bytes_at-split m a b (suc n) k zero next whole = absurd (omega arith)
-bytes_at-split m a b (suc n) k (suc total) next whole = ap (λ bytes. at m a ∷ bytes) (bytes_at-split m (a + 1) b n k total (omega arith) (omega arith))
-
 -- one table of structures stands at an address, however many bytes it takes
 one_table_at : (m : Memory) (a n k : ℕ) (s t : List Structure) → AreStructures (bytes_at m a n) s → AreStructures (bytes_at m a k) t → s ≡ t
 one_table_at m a n k s t is also =
+    let turned : n + k ≡ k + n = omega arith in
     one_table s t (bytes_at m a n) (bytes_at m a k) (bytes_at m (a + n) k) (bytes_at m (a + k) n) is also
-    (sym (bytes_at-split m a (a + n) n k (n + k) refl refl) ∙ bytes_at-split m a (a + k) k n (n + k) refl (omega arith))
+    (sym (bytes_at-parts m a n k) ∙ ap (bytes_at m a) turned ∙ bytes_at-parts m a k n)
 
 -- the table of these parts
 table_from : ℕ → ℕ → ℕ → List Structure → SmbiosTable
