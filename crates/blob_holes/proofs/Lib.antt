@@ -4,3 +4,5 @@ pub mod Pointers
 pub mod Sums
 pub mod Kept
 pub mod Fill
+pub mod Pieces
+pub mod Fields

@@ -70,7 +70,7 @@ module _ (place_of : List ℕ → ℕ) where
   one_filled bytes hole = put_number bytes hole (number_in bytes hole + place_of hole.target)
 
   -- the other fields stay in range
-  rest_in : (bytes : List ℕ) (hole : PointerHole) (holes : List PointerHole) → ArePointers bytes (hole ∷ holes) → ArePointers (one_filled bytes hole) holes
+  pub rest_in : (bytes : List ℕ) (hole : PointerHole) (holes : List PointerHole) → ArePointers bytes (hole ∷ holes) → ArePointers (one_filled bytes hole) holes
   rest_in bytes hole holes h =
       let size = length-put_number bytes hole (number_in bytes hole + place_of hole.target) h.1 in
       ArePointers-longer bytes (one_filled bytes hole) holes (omega arith) h.3
@@ -94,7 +94,7 @@ module _ (place_of : List ℕ → ℕ) where
       index-with_pointers bytes holes place h (each_weaker (AreApart other) (IsOutsideField place) (λ hole a. elim a [ inl b ↦ inl (omega arith) | inr b ↦ inr (omega arith) ]) holes apart)))
 
   -- each place still fits once the first field is filled
-  rest_fit : (bytes : List ℕ) (hole : PointerHole) (holes : List PointerHole) → ArePointers bytes (hole ∷ holes) → Fit bytes holes → Fit (one_filled bytes hole) holes
+  pub rest_fit : (bytes : List ℕ) (hole : PointerHole) (holes : List PointerHole) → ArePointers bytes (hole ∷ holes) → Fit bytes holes → Fit (one_filled bytes hole) holes
   rest_fit bytes hole holes h fit =
       each_from (AreApart hole) (λ (other : PointerHole). number_in bytes other + place_of other.target < 256 ^ other.size) (λ (other : PointerHole). number_in (one_filled bytes hole) other + place_of other.target < 256 ^ other.size)
       (λ other apart fits. subst (λ number. number + place_of other.target < 256 ^ other.size) (sym (apart-put_number bytes hole other _ h.1 apart)) fits) holes h.2 fit

@@ -1,7 +1,10 @@
 //! Laws over the definitions, each the contract of a function that does nothing.
 
-ghost use Rattle.std.specs.Prelude.{◌≡◌, ℕ, ◌+◌, ◌<◌, List};
+ghost use Rattle.std.specs.Prelude.{◌≡◌, ℕ, ◌+◌, ◌<◌, List, length, Contains};
+ghost use Rattle.vt_bytes.specs.Numbers.{le};
 ghost use Rattle.vt_bytes.specs.Parts.{part};
+ghost use Rattle.blob_holes.specs.declared.layout.Field.{Field};
+ghost use Rattle.blob_holes.specs.Layout.{AreFields, spelled};
 ghost use Rattle.blob_holes.specs.Blob.{BlobState, IsBlob};
 ghost use Rattle.blob_holes.specs.Filled.{IsSolid, IsFilled, PlacesFit, AreInOrder, with_pointers, with_sums};
 
@@ -16,4 +19,10 @@ pub fn pointers_then_sums_fill()
 pub fn solid_parts_stay()
     ensures { (blob : BlobState) (place_of : List ℕ → ℕ) (bytes : List ℕ) (at count : ℕ) → IsFilled blob place_of bytes
         → ((i : ℕ) → i < count → IsSolid blob (at + i)) → part bytes at count ≡ part blob.bytes at count }
+{}
+
+/// Where a table's fields are spelled from a place on, the number of each stands where its layout says.
+pub fn fields_stand_in_their_places()
+    ensures { (bytes : List ℕ) (at : ℕ) (fields : List Field) (field : Field) → AreFields at fields → Contains fields field
+        → part bytes at (length (spelled fields)) ≡ spelled fields → le (part bytes field.at field.width) ≡ field.value }
 {}

@@ -8,6 +8,8 @@
 mod blob;
 mod hole;
 pub mod laws;
+mod layout;
 
 pub use blob::{Blob, Parts};
 pub use hole::{PointerHole, SumHole};
+pub use layout::{Field, append_fields};
