@@ -8,8 +8,7 @@ use Rattle.vmtables.specs.declared.placing.PlacedFile.{PlacedFile}
 use Rattle.vmtables.specs.ScriptRun.{summed, with_bytes}
 use Rattle.vmtables.specs.FilesInMemory.{file_named, placed_in, files_in, IsLoading, IsStep}
 use Rattle.vmtables.proofs.NamedInMemory.{found_in}
-use Rattle.guest_memory.proofs.Bytes.{length-bytes_at}
-use Rattle.vmtables.proofs.MemoryBytes.{part-bytes_at, index-bytes_at}
+use Rattle.guest_memory.proofs.Bytes.{length-bytes_at, part-bytes_at, index-bytes_at}
 use Rattle.vmtables.proofs.Writes.{ram_part}
 use Rattle.vmtables.proofs.PlacedFiles.{IsWrite, found_is_placed, file_written, step_written}
 use Rattle.vmtables.proofs.Commands.{IsAddChecksum, IsAddChecksum-from}

@@ -1,122 +1,190 @@
 -- The script of a machine's image, carried out command by command.
-use Rattle.std.proofs.Common.{◌≡◌, ℕ, ◌+◌, ◌-◌, ◌*◌, ◌%◌, ◌^◌, ◌<◌, ◌≤◌, inl, List, [], ◌∷◌, length, take, drop, Some, slice_index, slice_set, refl, ap, ◌∙◌, arith}
-use Rattle.vt_bytes.specs.Numbers.{le, le_bytes, byte_sum}
-use Rattle.vt_bytes.specs.Parts.{put_at}
+use Rattle.std.proofs.Common.{◌≡◌, ℕ, ◌+◌, ◌-◌, ◌*◌, ◌/◌, ◌^◌, ◌<◌, ◌≤◌, ◌⊎◌, inl, inr, List, [], ◌∷◌, length, Option, Some, None, refl, arith, ⊎_elim}
+use Rattle.std.specs.Int.{next_multiple_of}
+use Rattle.std.specs.List.{AllByRecursion}
 use Rattle.machine_desc.specs.declared.machine.Machine.{Machine}
+use Rattle.machine_desc.specs.declared.machine.Acpi.{Acpi}
+use Rattle.machine_desc.specs.declared.machine.Hpet.{Hpet}
 use Rattle.machine_desc.specs.Rules.{IsAccepted}
-use Rattle.loader_script.specs.declared.entry.Entry.TheVariants.{Allocate}
-use Rattle.vmtables.specs.Image.{image_files, image_script, tables_file, anchor_file, anchor_name, tables_name}
-use Rattle.vmtables.specs.ScriptRun.{Placed, carried_out, pointed, summed, IsLowPlace, Runs}
+use Rattle.blob_holes.specs.Blob.{BlobState}
+use Rattle.acpi_fixed.specs.Tables.{tables_name as acpi_tables_name}
+use Rattle.vmtables.specs.StructureBytes.{anchor_file, tables_file}
+use Rattle.vmtables.specs.Image.{AcpiImage, anchor_blob, anchor_name, tables_name, rsdp_name, files_from, script_from, acpi_files, smbios_image}
+use Rattle.vmtables.specs.AcpiHeld.{IsAcpiImage}
+use Rattle.vmtables.specs.ScriptRun.{Placed, Runs}
 use Rattle.vmtables.proofs.Accepted.{Lawful, lawful}
+use Rattle.vmtables.proofs.Anchor.{length-anchor_file, anchor_kept, anchor_fits}
 use Rattle.vmtables.proofs.TablesSize.{length-tables_file}
-use Rattle.vmtables.proofs.ScriptSteps.{sixteen, allocated-new, pointed-fits, summed-within}
-use Rattle.vmtables.proofs.RunsOnce.{one_run}
-use Rattle.vmtables.specs.PlacedImage.{anchor_with, checksum_of, whole_anchor, tables_place, placed_image}
-use Rattle.vmtables.proofs.PlacedImage.{anchor_file-is, length-anchor_with, address-zero, address-put, checksum-at, checksum-put, anchor-range}
+use Rattle.vmtables.proofs.ScriptSteps.{sixteen, sixty_four, allocated-new}
+use Rattle.vmtables.proofs.Linking.{AreTargets}
+use Rattle.vmtables.proofs.Linked.{place_in, place_in-low, linked}
+use Rattle.vmtables.proofs.ImageLinked.{Links, two_placed, four_placed, two_linked, four_linked}
 
--- the tables where they are placed
-abbrev tables_placed : Machine → Placed
-tables_placed m = record { name = tables_name; place = tables_place m; bytes = tables_file m }
+-- where the high zone begins
+abbrev pub high_place : Machine → ℕ
+high_place m = m.top_mib * 0x100000 - 0x1000000
 
--- an anchor where it is placed
-abbrev anchor_placed : List ℕ → Placed
-anchor_placed bytes = record { name = anchor_name; place = 0xF0000; bytes = bytes }
+-- the files of an image without ACPI tables, placed and linked
+abbrev pub two_left : Machine → List Placed
+two_left m =
+    let anchor = anchor_blob (length (tables_file m)) in
+    two_placed (high_place m) (tables_file m) (linked (place_in (two_placed (high_place m) (tables_file m) anchor.bytes)) anchor)
 
--- the least place for the tables is where the high zone begins
-tables_low : (m : Machine) → IsAccepted m → IsLowPlace (m.top_mib * 0x100000) (image_files m) [] (Allocate tables_name 16 1) (tables_place m)
-tables_low m accepted =
+-- its script runs and leaves them
+pub two_run : (m : Machine) → IsAccepted m → Runs (m.top_mib * 0x100000) (files_from None (smbios_image m)) (script_from None (smbios_image m)) [] (two_left m)
+two_run m accepted =
     let bounds : Lawful m = lawful m accepted in
-    let few : length (tables_file m) ≤ 1000 = (length-tables_file m accepted).1 in (
-      tables_file m,
-      refl,
-      record {
-        free = record { aligned = ((m.top_mib - 16) * 0x10000, omega arith); from = omega arith; within = omega arith; apart = tt };
-        least = λ other free. free.from;
-      },
-    )
-
--- the first command places the tables
-tables_allocated : (m : Machine) → IsAccepted m → carried_out (image_files m) (Allocate tables_name 16 1) (tables_place m) [] ≡ Some (tables_placed m ∷ [])
-tables_allocated m accepted = allocated-new (image_files m) [] tables_name (tables_file m) 16 1 (tables_place m) refl refl (length-tables_file m accepted).0 sixteen refl
-
--- an anchor's file has 24 bytes
-length-anchor_file : (size : ℕ) → length (anchor_file size) ≡ 24
-length-anchor_file size = ap length (anchor_file-is size) ∙ length-anchor_with 0 size 0
-
--- the least place for the anchor is where the F segment begins
-anchor_low : (m : Machine) → IsAccepted m → IsLowPlace (m.top_mib * 0x100000) (image_files m) (tables_placed m ∷ []) (Allocate anchor_name 16 2) 0xF0000
-anchor_low m accepted =
-    let bounds : Lawful m = lawful m accepted in
-    let size : length (anchor_file (length (tables_file m))) ≡ 24 = length-anchor_file (length (tables_file m)) in (
-      anchor_file (length (tables_file m)),
-      refl,
-      record {
-        free = record { aligned = (0xF000, refl); from = omega arith; within = omega arith; apart = (inl (omega arith), tt) };
-        least = λ other free. free.from;
-      },
-    )
-
--- the second command places the anchor
-anchor_allocated : (m : Machine) → carried_out (image_files m) (Allocate anchor_name 16 2) 0xF0000 (tables_placed m ∷ []) ≡ Some (tables_placed m ∷ anchor_placed (anchor_file (length (tables_file m))) ∷ [])
-anchor_allocated m =
+    let some : 0 < length (tables_file m) = (length-tables_file m accepted).0 in
+    let few : length (tables_file m) ≤ 1000 = (length-tables_file m accepted).1 in
+    let anchor : BlobState = anchor_blob (length (tables_file m)) in
     let size : length (anchor_file (length (tables_file m))) ≡ 24 = length-anchor_file (length (tables_file m)) in
-    allocated-new (image_files m) (tables_placed m ∷ []) anchor_name (anchor_file (length (tables_file m))) 16 2 0xF0000 refl refl (omega arith) sixteen refl
-
--- the third command adds the place of the tables to the anchor's address
-anchor_pointed : (m : Machine) (size : ℕ) → IsAccepted m → pointed (tables_placed m ∷ anchor_placed (anchor_with 0 size 0) ∷ []) anchor_name tables_name 16 8 ≡ Some (tables_placed m ∷ anchor_placed (anchor_with 0 size (tables_place m)) ∷ [])
-anchor_pointed m size accepted =
-    let bounds : Lawful m = lawful m accepted in
-    let anchor : Placed = anchor_placed (anchor_with 0 size 0) in
-    let sum : le (take 8 (drop 16 (anchor_with 0 size 0))) + tables_place m ≡ tables_place m = omega (arith, address-zero 0 size) in
-    let fits : le (take 8 (drop 16 (anchor_with 0 size 0))) + tables_place m < 256 ^ 8 = omega arith in
-    pointed-fits (tables_placed m ∷ anchor ∷ []) anchor_name tables_name 16 8 anchor (tables_placed m) refl refl refl (omega (arith, length-anchor_with 0 size 0)) fits
-    ∙ ap (λ place. Some (tables_placed m ∷ anchor_placed (put_at (anchor_with 0 size 0) 16 (le_bytes 8 place)) ∷ [])) sum
-    ∙ ap (λ bytes. Some (tables_placed m ∷ anchor_placed bytes ∷ [])) (address-put 0 size (tables_place m))
-
--- the fourth command makes the anchor sum to zero
-anchor_summed : (m : Machine) (size : ℕ) → summed (tables_placed m ∷ anchor_placed (anchor_with 0 size (tables_place m)) ∷ []) anchor_name 5 0 24 ≡ Some (tables_placed m ∷ anchor_placed (whole_anchor size (tables_place m)) ∷ [])
-unfolding checksum_of
-anchor_summed m size =
-    let address = tables_place m in
-    let anchor : Placed = anchor_placed (anchor_with 0 size address) in
-    let count : length (anchor_with 0 size address) ≡ 24 = length-anchor_with 0 size address in
-    let byte : slice_index (anchor_with 0 size address) 5 + (256 - byte_sum (take 24 (drop 0 (anchor_with 0 size address)))) ≡ 256 - byte_sum (anchor_with 0 size address) =
-    omega (arith, checksum-at 0 size address, ap byte_sum (anchor-range 0 size address)) in
-    summed-within (tables_placed m ∷ anchor ∷ []) anchor_name 5 0 24 anchor refl (omega arith) (omega arith)
-    ∙ ap (λ checksum. Some (tables_placed m ∷ anchor_placed (slice_set (anchor_with 0 size address) 5 (checksum % 256)) ∷ [])) byte
-    ∙ ap (λ bytes. Some (tables_placed m ∷ anchor_placed bytes ∷ [])) (checksum-put 0 (checksum_of size address) size address)
-
--- an accepted machine's script leaves its tables and its anchor
-pub image_runs-to : (m : Machine) → IsAccepted m → Runs (m.top_mib * 0x100000) (image_files m) image_script [] (placed_image m)
-unfolding placed_image
-image_runs-to m accepted =
-    let size = length (tables_file m) in
-    let anchor : anchor_file size ≡ anchor_with 0 size 0 = anchor_file-is size in
-    let pointed_file : pointed (tables_placed m ∷ anchor_placed (anchor_file size) ∷ []) anchor_name tables_name 16 8 ≡ Some (tables_placed m ∷ anchor_placed (anchor_with 0 size (tables_place m)) ∷ []) =
-    ap (λ bytes. pointed (tables_placed m ∷ anchor_placed bytes ∷ []) anchor_name tables_name 16 8) anchor ∙ anchor_pointed m size accepted in (
-      tables_place m,
-      tables_placed m ∷ [],
-      tables_low m accepted,
-      tables_allocated m accepted,
+    let files = files_from None (smbios_image m) in
+    let first : List Placed = record { name = tables_name; place = high_place m; bytes = tables_file m } ∷ [] in
+    let placed : List Placed = two_placed (high_place m) (tables_file m) (anchor_file (length (tables_file m))) in
+    let low : AllByRecursion (λ (p : Placed). p.place < 2 ^ 32) (two_placed (high_place m) (tables_file m) (anchor_file (length (tables_file m)))) = (omega arith, (omega arith, tt)) in
+    let links : Links (two_placed (high_place m) (tables_file m) (anchor_file (length (tables_file m)))) (anchor_blob (length (tables_file m))) = record {
+      kept = anchor_kept (length (tables_file m));
+      fit = anchor_fits (length (tables_file m)) (place_in placed) (place_in-low placed low);
+      targets = (refl, tt);
+    } in (
+      high_place m,
+      first,
+      (
+        tables_file m,
+        refl,
+        record {
+          free = record { aligned = ((m.top_mib - 16) * 0x10000, omega arith); from = omega arith; within = omega arith; apart = tt };
+          least = λ other free. free.from;
+        },
+      ),
+      allocated-new files [] tables_name (tables_file m) 16 1 (high_place m) refl refl some sixteen refl,
       (
         0xF0000,
-        tables_placed m ∷ anchor_placed (anchor_file size) ∷ [],
-        anchor_low m accepted,
-        anchor_allocated m,
+        placed,
         (
-          0,
-          tables_placed m ∷ anchor_placed (anchor_with 0 size (tables_place m)) ∷ [],
+          anchor_file (length (tables_file m)),
           refl,
-          pointed_file,
-          (0, tables_placed m ∷ anchor_placed (whole_anchor size (tables_place m)) ∷ [], refl, anchor_summed m size, refl),
+          record {
+            free = record { aligned = (0xF000, refl); from = omega arith; within = omega arith; apart = (inl (omega arith), tt) };
+            least = λ other free. free.from;
+          },
         ),
+        allocated-new files first anchor_name (anchor_file (length (tables_file m))) 16 2 0xF0000 refl refl (omega arith) sixteen refl,
+        two_linked (m.top_mib * 0x100000) files (high_place m) (tables_file m) anchor links,
       ),
     )
 
--- and nothing else
-pub image_runs-only : (m : Machine) (after : List Placed) → IsAccepted m → Runs (m.top_mib * 0x100000) (image_files m) image_script [] after → after ≡ placed_image m
-image_runs-only m after accepted runs = one_run (m.top_mib * 0x100000) (image_files m) image_script [] after (placed_image m) runs (image_runs-to m accepted)
+-- behind the ACPI tables no multiple of 16 is free below the next one
+behind_least : (high tables size other mib factor : ℕ) → high ≡ mib * 0x100000 → other ≡ factor * 16 → high ≤ other → 0 < size → (other + size ≤ high) ⊎ (high + tables ≤ other) → high + next_multiple_of tables 16 ≤ other
+behind_least high tables size other mib factor place multiple from some apart =
+    ⊎_elim (λ before. absurd (omega arith)) (λ after. omega arith) apart
 
--- an accepted machine's script runs
-pub image_runs : (m : Machine) → IsAccepted m → (after : List Placed) × Runs (m.top_mib * 0x100000) (image_files m) image_script [] after
-image_runs m accepted = (placed_image m, image_runs-to m accepted)
+-- behind the RSDP no multiple of 16 is free below 0xF0030
+anchor_least : (rsdp size other factor : ℕ) → rsdp ≡ 36 → size ≡ 24 → other ≡ factor * 16 → 0xF0000 ≤ other → (other + size ≤ 0xF0000) ⊎ (0xF0000 + rsdp ≤ other) → 0xF0030 ≤ other
+anchor_least rsdp size other factor rsdp_size its_size multiple from apart =
+    ⊎_elim (λ before. absurd (omega arith)) (λ after. omega arith) apart
+
+-- where the structures stand behind the ACPI tables
+abbrev pub behind_place : Machine → AcpiImage → ℕ
+behind_place m acpi = high_place m + next_multiple_of (length acpi.tables.bytes) 16
+
+-- the files of an image with ACPI tables, placed
+abbrev pub four_before : Machine → AcpiImage → List Placed
+four_before m acpi = four_placed (high_place m) (behind_place m acpi) acpi.tables.bytes acpi.rsdp.bytes (tables_file m) (anchor_file (length (tables_file m)))
+
+-- and linked
+abbrev pub four_left : Machine → AcpiImage → List Placed
+four_left m acpi =
+    let place_of = place_in (four_before m acpi) in
+    four_placed (high_place m) (behind_place m acpi) (linked place_of acpi.tables) (linked place_of acpi.rsdp) (tables_file m) (linked place_of (anchor_blob (length (tables_file m))))
+
+-- each stands below 4 GiB
+pub four_low : (m : Machine) (acpi : AcpiImage) → IsAccepted m → length acpi.tables.bytes ≤ 200 → AllByRecursion (λ (p : Placed). p.place < 2 ^ 32) (four_before m acpi)
+four_low m acpi accepted few_tables =
+    let bounds : Lawful m = lawful m accepted in
+    (omega arith, (omega arith, (omega arith, (omega arith, tt))))
+
+-- the pointers of the ACPI files lead to the tables
+tables_targets : (m : Machine) (maker : Acpi) (hpet : Option Hpet) → AreTargets (four_before m (acpi_files hpet maker)) (place_in (four_before m (acpi_files hpet maker))) (acpi_files hpet maker).tables.pointers
+tables_targets m maker None = tt
+tables_targets m maker (Some hpet) = (refl, tt)
+
+-- its script runs and leaves them
+pub four_run : (m : Machine) (maker : Acpi) (hpet : Option Hpet) → IsAccepted m → IsAcpiImage maker hpet (acpi_files hpet maker)
+    → Runs (m.top_mib * 0x100000) (files_from (Some (acpi_files hpet maker)) (smbios_image m)) (script_from (Some (acpi_files hpet maker)) (smbios_image m)) [] (four_left m (acpi_files hpet maker))
+four_run m maker hpet accepted is =
+    let acpi : AcpiImage = acpi_files hpet maker in
+    let bounds : Lawful m = lawful m accepted in
+    let some : 0 < length (tables_file m) = (length-tables_file m accepted).0 in
+    let few : length (tables_file m) ≤ 1000 = (length-tables_file m accepted).1 in
+    let some_tables : 0 < length (acpi_files hpet maker).tables.bytes = is.tables.some in
+    let few_tables : length (acpi_files hpet maker).tables.bytes ≤ 200 = is.tables.few in
+    let rsdp_size : length (acpi_files hpet maker).rsdp.bytes ≡ 36 = is.rsdp_size in
+    let size : length (anchor_file (length (tables_file m))) ≡ 24 = length-anchor_file (length (tables_file m)) in
+    let files = files_from (Some (acpi_files hpet maker)) (smbios_image m) in
+    let place_of = place_in (four_before m (acpi_files hpet maker)) in
+    let low = place_in-low (four_before m (acpi_files hpet maker)) (four_low m (acpi_files hpet maker) accepted few_tables) in
+    let one : List Placed = record { name = acpi_tables_name; place = high_place m; bytes = acpi.tables.bytes } ∷ [] in
+    let two : List Placed = record { name = acpi_tables_name; place = high_place m; bytes = acpi.tables.bytes } ∷ record { name = rsdp_name; place = 0xF0000; bytes = acpi.rsdp.bytes } ∷ [] in
+    let three : List Placed = record { name = acpi_tables_name; place = high_place m; bytes = acpi.tables.bytes } ∷ record { name = rsdp_name; place = 0xF0000; bytes = acpi.rsdp.bytes } ∷ record { name = tables_name; place = behind_place m (acpi_files hpet maker); bytes = tables_file m } ∷ [] in
+    let four : List Placed = four_before m acpi in (
+      high_place m,
+      one,
+      (
+        acpi.tables.bytes,
+        refl,
+        record {
+          free = record { aligned = ((m.top_mib - 16) * 0x4000, omega arith); from = omega arith; within = omega arith; apart = tt };
+          least = λ other free. free.from;
+        },
+      ),
+      allocated-new files [] acpi_tables_name acpi.tables.bytes 64 1 (high_place m) refl refl some_tables sixty_four refl,
+      (
+        0xF0000,
+        two,
+        (
+          acpi.rsdp.bytes,
+          refl,
+          record {
+            free = record { aligned = (0xF000, refl); from = omega arith; within = omega arith; apart = (inl (omega arith), tt) };
+            least = λ other free. free.from;
+          },
+        ),
+        allocated-new files one rsdp_name acpi.rsdp.bytes 16 2 0xF0000 refl refl (omega arith) sixteen refl,
+        (
+          behind_place m acpi,
+          three,
+          (
+            tables_file m,
+            refl,
+            record {
+              free = record {
+                aligned = ((m.top_mib - 16) * 0x10000 + next_multiple_of (length acpi.tables.bytes) 16 / 16, omega arith);
+                from = omega arith;
+                within = omega arith;
+                apart = (inr (omega arith), (inr (omega arith), tt));
+              };
+              least = λ other free. behind_least (high_place m) (length acpi.tables.bytes) (length (tables_file m)) other (m.top_mib - 16) free.aligned.0 (omega arith) free.aligned.1 free.from some free.apart.0;
+            },
+          ),
+          allocated-new files two tables_name (tables_file m) 16 1 (behind_place m acpi) refl refl some sixteen refl,
+          (
+            0xF0030,
+            four,
+            (
+              anchor_file (length (tables_file m)),
+              refl,
+              record {
+                free = record { aligned = (0xF003, refl); from = omega arith; within = omega arith; apart = (inl (omega arith), (inr (omega arith), (inl (omega arith), tt))) };
+                least = λ other free. anchor_least (length acpi.rsdp.bytes) (length (anchor_file (length (tables_file m)))) other free.aligned.0 rsdp_size size free.aligned.1 free.from free.apart.1.0;
+              },
+            ),
+            allocated-new files three anchor_name (anchor_file (length (tables_file m))) 16 2 0xF0030 refl refl (omega arith) sixteen refl,
+            four_linked (m.top_mib * 0x100000) files (high_place m) (behind_place m acpi) acpi (tables_file m) (anchor_blob (length (tables_file m)))
+                (record { kept = is.tables_blob; fit = is.tables.linkable.fit place_of low; targets = tables_targets m maker hpet })
+                (record { kept = is.rsdp_blob; fit = is.rsdp_linkable.fit place_of low; targets = (refl, tt) })
+                (record { kept = anchor_kept (length (tables_file m)); fit = anchor_fits (length (tables_file m)) place_of low; targets = (refl, tt) }),
+          ),
+        ),
+      ),
+    )

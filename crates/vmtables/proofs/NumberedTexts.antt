@@ -5,7 +5,7 @@ use Rattle.std.proofs.lemmas.Bool.{and_parts, cond-false}
 use Rattle.std.proofs.lemmas.Bool.Decides.{nat_tests}
 use Rattle.vt_outside.specs.Name.{is_printable}
 use Rattle.machine_desc.specs.Rules.{is_text}
-use Rattle.vmtables.specs.Image.{string_numbers, strings_of}
+use Rattle.vmtables.specs.StructureBytes.{string_numbers, strings_of}
 use Rattle.table_model.specs.Smbios.{string_of, HasNoNul, IsString, AreStrings}
 
 -- each text has a number, and is the string of that number

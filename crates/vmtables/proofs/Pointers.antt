@@ -7,10 +7,9 @@ use Rattle.vmtables.specs.declared.placing.PlacedFile.{PlacedFile}
 use Rattle.vmtables.specs.ScriptRun.{pointed, with_bytes}
 use Rattle.vmtables.specs.FilesInMemory.{file_named, placed_in, files_in, IsLoading, IsStep}
 use Rattle.vmtables.proofs.NamedInMemory.{found_in}
-use Rattle.guest_memory.proofs.Bytes.{length-bytes_at}
+use Rattle.guest_memory.proofs.Bytes.{length-bytes_at, part-bytes_at}
 use Rattle.vt_bytes.proofs.Numbers.{length-le_bytes}
 use Rattle.vt_bytes.specs.Parts.{put_at}
-use Rattle.vmtables.proofs.MemoryBytes.{part-bytes_at}
 use Rattle.vmtables.proofs.Writes.{ram_part}
 use Rattle.vmtables.proofs.PlacedFiles.{IsWrite, found_is_placed, file_written, step_written}
 use Rattle.vmtables.proofs.Commands.{IsAddPointer, IsAddPointer-from}

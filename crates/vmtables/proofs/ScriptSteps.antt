@@ -9,7 +9,11 @@ use Rattle.vt_bytes.specs.Parts.{put_at}
 use Rattle.vmtables.specs.declared.files.FileBytes.{FileBytes}
 use Rattle.vmtables.specs.ScriptRun.{Placed, bytes_of, placed_of, with_bytes, is_size, allocated, pointed, summed}
 
--- 16 is a power of two
+-- 16 and 64 are powers of two
+pub sixty_four : is_power_of_two 64 ≡ true
+unfolding ones
+sixty_four = refl
+
 pub sixteen : is_power_of_two 16 ≡ true
 unfolding ones
 sixteen = refl

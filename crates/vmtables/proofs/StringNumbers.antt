@@ -4,7 +4,7 @@ use Rattle.std.proofs.lemmas.List.{append-nil}
 use Rattle.std.proofs.lemmas.Bool.{cond-false}
 use Rattle.std.proofs.lemmas.Bool.Decides.{nat_tests}
 use Rattle.vmtables.specs.StringSet.{Strings, number_in, with_text}
-use Rattle.vmtables.specs.Image.{string_numbers, strings_of}
+use Rattle.vmtables.specs.StructureBytes.{string_numbers, strings_of}
 use Rattle.table_model.specs.Smbios.{with_nuls, string_set}
 
 -- the strings with one more

@@ -5,7 +5,7 @@ use Rattle.vt_bytes.specs.Numbers.{le_bytes}
 use Rattle.table_model.specs.Inventory.{uuid_field}
 use Rattle.vmtables.specs.StringSet.{Strings}
 use Rattle.machine_desc.specs.Rules.{system_texts}
-use Rattle.vmtables.specs.Image.{string_numbers, strings_of, system_structure}
+use Rattle.vmtables.specs.StructureBytes.{string_numbers, strings_of, system_structure}
 use Rattle.table_model.specs.Smbios.{string_set}
 use Rattle.vmtables.proofs.StringNumbers.{none, AreAdded, numbers_in-texts, ended, ended-texts}
 

@@ -10,7 +10,7 @@ use Rattle.machine_desc.specs.Rules.{is_text, IsAccepted, system_texts}
 use Rattle.table_model.specs.declared.smbios.Body.TheVariants.{System as SystemBody, End}
 use Rattle.table_model.specs.Smbios.{IsSystemArea, IsStructure, AreStructures, string_of, string_set}
 use Rattle.table_model.specs.Inventory.{uuid_field, info_of}
-use Rattle.vmtables.specs.Image.{string_numbers, strings_of, system_structure, end_structure, tables_file}
+use Rattle.vmtables.specs.StructureBytes.{string_numbers, strings_of, system_structure, end_structure, tables_file}
 use Rattle.vmtables.proofs.Structures.{structure_of, system_structure-is}
 use Rattle.vmtables.proofs.TablesSize.{length-uuid_field}
 use Rattle.vmtables.proofs.Accepted.{lawful}

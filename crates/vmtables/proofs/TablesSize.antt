@@ -8,7 +8,7 @@ use Rattle.vt_outside.specs.Name.{is_printable}
 use Rattle.machine_desc.specs.Rules.{is_text, IsAccepted, system_texts}
 use Rattle.table_model.specs.Smbios.{with_nuls, string_set}
 use Rattle.table_model.specs.Inventory.{uuid_field}
-use Rattle.vmtables.specs.Image.{string_numbers, strings_of, system_structure, end_structure, tables_file}
+use Rattle.vmtables.specs.StructureBytes.{string_numbers, strings_of, system_structure, end_structure, tables_file}
 use Rattle.vmtables.proofs.Structures.{system_structure-is, length-structure_of}
 use Rattle.vmtables.proofs.Accepted.{lawful}
 

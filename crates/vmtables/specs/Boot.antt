@@ -26,12 +26,12 @@ HasLoaded _ = ⊥
 
 -- A world in which the machine of a description is loaded: the machine is read from the bytes, its files and its
 -- script are the world's, the load is done, memory is what the run of the script leaves, and it shows, from its
--- anchor, exactly the machine's inventory.
+-- RSDP and its anchor, exactly the machine's inventory.
 pub record IsLoaded (bytes : List ℕ) (w : Begun) : Type 0 where
   pub machine : Machine
   pub read : Reads bytes machine
   pub files : w.files ≡ image_files machine
-  pub script : w.script ≡ image_script
+  pub script : w.script ≡ image_script machine
   pub done : w.done ≡ true
   pub placed : List Placed
   pub runs : Runs w.memory.top w.files w.script [] placed

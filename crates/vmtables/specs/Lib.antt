@@ -9,8 +9,9 @@ pub mod Places
 pub mod ScriptRun
 pub mod StringSet
 pub mod FilesInMemory
+pub mod StructureBytes
 pub mod Image
-pub mod PlacedImage
+pub mod AcpiHeld
 pub mod World
 pub mod WorldInside
 pub mod Boot
@@ -23,3 +24,8 @@ pub use Rattle.machine_desc.specs.Rules
 pub use Rattle.table_model.specs.Smbios
 pub use Rattle.table_model.specs.Acpi
 pub use Rattle.table_model.specs.Inventory
+pub use Rattle.blob_holes.specs.Blob
+pub use Rattle.blob_holes.specs.Filled
+pub use Rattle.blob_holes.specs.Grown
+pub use Rattle.acpi_fixed.specs.Tables
+pub use Rattle.acpi_fixed.specs.Held

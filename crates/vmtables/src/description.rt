@@ -1,4 +1,4 @@
-ghost use Rattle.std.specs.Prelude.{◌≡◌, map, option_map, Some};
+ghost use Rattle.std.specs.Prelude.{◌≡◌, ◌+◌, ◌≤◌, codes, map, option_map, IfOk, Some};
 ghost use Rattle.std.specs.List.{list_any};
 ghost use Rattle.std.specs.Option.{option_copied};
 ghost use Rattle.std.specs.Str.{bytes_eq};
@@ -6,9 +6,9 @@ ghost use Rattle.toml.specs.Data.{get_member, integer, string as string_value, t
 ghost use Rattle.toml.specs.Parse.{parse_document};
 ghost use Rattle.toml.specs.View.{view, table_view};
 ghost use Rattle.vmtables.specs.Reader.{Answers};
-ghost use Rattle.vmtables.specs.Reads.{HasOnlyKeys, IsTextAt, IsUuidAt, IsSystemTable, IsRootTable, Reads};
+ghost use Rattle.vmtables.specs.Reads.{HasOnlyKeys, IsTextOr, IsTextAt, IsNumberOr, IsUuidAt, IsPartAt, IsSystemTable, IsAcpiTable, IsHpetTable, IsRootTable, Reads};
 
-use machine_desc::{Machine, System};
+use machine_desc::{Acpi, Hpet, Machine, System};
 use std::alloc::Global;
 use std::str;
 use toml::{Table, Value};
@@ -35,7 +35,7 @@ impl From<OutOfMemory> for DescriptionFault {
     }
 }
 
-const ROOT_KEYS: [&str; 3] = ["version", "top_mib", "system"];
+const ROOT_KEYS: [&str; 5] = ["version", "top_mib", "system", "acpi", "hpet"];
 
 const SYSTEM_KEYS: [&str; 7] = [
     "manufacturer",
@@ -46,6 +46,10 @@ const SYSTEM_KEYS: [&str; 7] = [
     "family",
     "uuid",
 ];
+
+const ACPI_KEYS: [&str; 2] = ["oem_id", "oem_table_id"];
+
+const HPET_KEYS: [&str; 4] = ["address", "block_id", "number", "min_tick"];
 
 /// The machine that the bytes describe: a TOML document, whose machine keeps all rules.
 pub(crate) fn read_machine(alloc: Global, bytes: &[u8]) -> Result<Machine, DescriptionFault>
@@ -86,11 +90,13 @@ fn machine_of(alloc: Global, root: &Table) -> Result<Machine, DescriptionFault>
         Err(_) => return Err(DescriptionFault::Refused),
     };
     let system = system_of(alloc, table_at(root, "system")?)?;
+    let acpi = acpi_at(alloc, root)?;
+    let hpet = hpet_at(root)?;
     Ok(Machine {
         top_mib,
         system,
-        acpi: None,
-        hpet: None,
+        acpi,
+        hpet,
     })
 }
 
@@ -114,6 +120,56 @@ fn system_of(alloc: Global, table: &Table) -> Result<System, DescriptionFault>
         sku,
         family,
         uuid,
+    })
+}
+
+// What a root says of ACPI tables; none where it has no table `acpi`.
+fn acpi_at(alloc: Global, root: &Table) -> Result<Option<Acpi>, DescriptionFault>
+    ensures { Answers (λ acpi. acpi) result (IsPartAt (codes "acpi") IsAcpiTable (table_view root.now)) }
+{
+    match part_at(root, "acpi")? {
+        Some(table) => Ok(Some(acpi_of(alloc, table)?)),
+        None => Ok(None),
+    }
+}
+
+// What the table `acpi` says.
+fn acpi_of(alloc: Global, table: &Table) -> Result<Acpi, DescriptionFault>
+    ensures { Answers (λ acpi. acpi) result (IsAcpiTable (table_view table.now)) }
+{
+    only_keys(table, &ACPI_KEYS)?;
+    let oem_id = text_or(alloc, table, "oem_id", "BOCHS")?;
+    let oem_table_id = text_or(alloc, table, "oem_table_id", "BXPC")?;
+    Ok(Acpi {
+        oem_id,
+        oem_table_id,
+    })
+}
+
+// What a root says of an HPET; none where it has no table `hpet`.
+fn hpet_at(root: &Table) -> Result<Option<Hpet>, DescriptionFault>
+    ensures { Answers (λ hpet. hpet) result (IsPartAt (codes "hpet") IsHpetTable (table_view root.now)) }
+{
+    match part_at(root, "hpet")? {
+        Some(table) => Ok(Some(hpet_of(table)?)),
+        None => Ok(None),
+    }
+}
+
+// The HPET of the table `hpet`.
+fn hpet_of(table: &Table) -> Result<Hpet, DescriptionFault>
+    ensures { Answers (λ hpet. hpet) result (IsHpetTable (table_view table.now)) }
+{
+    only_keys(table, &HPET_KEYS)?;
+    let address = number_or(table, "address", 0xFED0_0000, u32::MAX)?;
+    let block_id = number_or(table, "block_id", 0x8086_A201, u32::MAX)?;
+    let number = number_or(table, "number", 0, u8::MAX as u32)?;
+    let min_tick = number_or(table, "min_tick", 100, u16::MAX as u32)?;
+    Ok(Hpet {
+        address,
+        block_id,
+        number: number as u8,
+        min_tick: min_tick as u16,
     })
 }
 
@@ -155,6 +211,36 @@ fn table_at<'a>(table: &'a Table, key: &str) -> Result<&'a Table, DescriptionFau
     value.as_table().ok_or(DescriptionFault::Refused)
 }
 
+// The table at a key, or None where the key isn't there.
+fn part_at<'a>(table: &'a Table, key: &str) -> Result<Option<&'a Table>, DescriptionFault>
+    ensures { Answers (option_map (λ inside. table_view inside.now)) result (λ found. get_member key.now (table_view table.now) ≡ option_map table_value found) }
+{
+    let Some(value) = value_at(table, key) else {
+        return Ok(None);
+    };
+    match value.as_table() {
+        Some(inside) => Ok(Some(inside)),
+        None => Err(DescriptionFault::Refused),
+    }
+}
+
+// The number at a key, which is at most `most`; the default where the key isn't there.
+fn number_or(table: &Table, key: &str, default: u32, most: u32) -> Result<u32, DescriptionFault>
+    ensures answer { Answers (λ number. number) result (IsNumberOr key.now (most + 1) default (table_view table.now)) }
+    ensures within { default ≤ most → IfOk result (λ number. number ≤ most) }
+{
+    let Some(value) = value_at(table, key) else {
+        return Ok(default);
+    };
+    let Some(integer) = value.as_integer() else {
+        return Err(DescriptionFault::Refused);
+    };
+    match u32::try_from(integer) {
+        Ok(number) if number <= most => Ok(number),
+        _ => Err(DescriptionFault::Refused),
+    }
+}
+
 // The string at a key, or None where the key isn't there.
 fn string_at<'a>(table: &'a Table, key: &str) -> Result<Option<&'a str>, DescriptionFault>
     ensures { Answers option_copied result (λ found. get_member key.now (table_view table.now) ≡ option_map string_value found) }
@@ -178,10 +264,16 @@ fn value_at<'a>(table: &'a Table, key: &str) -> Option<&'a Value>
 fn text_at(alloc: Global, table: &Table, key: &str) -> Result<Text, DescriptionFault>
     ensures { Answers (λ text. text) result (IsTextAt key.now (table_view table.now)) }
 {
+    text_or(alloc, table, key, "")
+}
+
+// The text at a key; the default where the key isn't there.
+fn text_or(alloc: Global, table: &Table, key: &str, default: &str) -> Result<Text, DescriptionFault>
+    ensures { Answers (λ text. text) result (IsTextOr key.now default.now (table_view table.now)) }
+{
+    let string = string_at(table, key)?.unwrap_or(default);
     let mut text = Text::new(alloc);
-    if let Some(string) = string_at(table, key)? {
-        text.extend(string.as_bytes())?;
-    }
+    text.extend(string.as_bytes())?;
     Ok(text)
 }
 

@@ -1,14 +1,19 @@
-ghost use Rattle.std.specs.Prelude.{◌≡◌, ◌*◌, [], List as ListOf, IfOk};
+ghost use Rattle.std.specs.Prelude.{◌≡◌, ◌*◌, ◌++◌, [], List as ListOf, IfOk, OnOk, map};
 ghost use Rattle.machine_desc.specs.Rules.{IsAccepted};
-ghost use Rattle.vmtables.specs.Image.{image_files, image_script, anchor_name, tables_name};
-ghost use Rattle.vmtables.specs.ScriptRun.{Placed, Runs};
+ghost use Rattle.guest_memory.specs.Memory.{Memory};
+ghost use Rattle.table_model.specs.Inventory.{Shows, inventory_of};
+ghost use Rattle.vmtables.specs.Image.{image_files, image_script, files_from, script_from, acpi_allocations, smbios_allocations, add_pointer, add_checksum, add_pointers, add_checksums, acpi_by_name, acpi_tables_first, smbios_by_name};
+ghost use Rattle.vmtables.specs.ScriptRun.{Placed, Runs, IsLeft};
 
+use crate::acpi::{AcpiFiles, build_acpi};
 use crate::files::FileBytes;
-use crate::smbios::{anchor_of, tables_of};
+use crate::names::{acpi_tables_name, anchor_name, rsdp_name, tables_name};
+use crate::smbios::{SmbiosFiles, build_smbios};
+use blob_holes::Parts;
 use loader_script::Entry;
 use machine_desc::Machine;
 use std::alloc::Global;
-use vt_outside::{Bytes, List, Name, OutOfMemory};
+use vt_outside::{List, Name, OutOfMemory};
 
 // The zones of an Allocate.
 const HIGH: u8 = 1;
@@ -23,70 +28,145 @@ pub(crate) struct Image {
 }
 
 /// Builds the image of a machine.
-#[tactic(auto, using(crate::proofs::ImageRuns::image_runs))]
 pub(crate) fn image_of(alloc: Global, machine: &Machine) -> Result<Image, OutOfMemory>
     requires { IsAccepted machine.now }
     ensures files { IfOk result (λ image. image.files ≡ image_files machine.now) }
-    ensures script { IfOk result (λ image. image.script ≡ image_script) }
-    ensures runs { (after : ListOf Placed) × Runs (machine.now.top_mib * 0x100000) (image_files machine.now) image_script [] after }
+    ensures script { IfOk result (λ image. image.script ≡ image_script machine.now) }
+
+    // The script runs, and what it leaves in zeroed memory shows the machine.
+    ensures runs { OnOk result ((after : ListOf Placed)
+        × Runs (machine.now.top_mib * 0x100000) (image_files machine.now) (image_script machine.now) [] after) }
+    ensures shown { OnOk result ((after : ListOf Placed) (m : Memory)
+        → Runs (machine.now.top_mib * 0x100000) (image_files machine.now) (image_script machine.now) [] after
+        → m.top ≡ machine.now.top_mib * 0x100000 → m.fill ≡ 0 → IsLeft m after → Shows m (inventory_of machine.now)) }
 {
-    let tables = tables_of(alloc, machine)?;
-    let mut anchor = Bytes::new(alloc);
-    anchor.extend(&anchor_of(tables.len() as u32))?;
-    let mut files = List::new(alloc);
-    files.push(FileBytes {
-        name: anchor_name(),
-        bytes: anchor,
-    })?;
-    files.push(FileBytes {
-        name: tables_name(),
-        bytes: tables,
-    })?;
-    Ok(Image {
-        files,
-        script: script(alloc)?,
-    })
+    let acpi = build_acpi(alloc, machine)?;
+    let smbios = build_smbios(alloc, machine)?;
+    let script = script_of(alloc, &acpi, &smbios)?;
+    let files = files_of(alloc, acpi, smbios)?;
+    Ok(Image { files, script })
 }
 
-// The tables go to high memory and the anchor to the F segment. The tables' address is added to the anchor's field
-// at 16, and its byte at 5 makes its 24 bytes sum to zero (DSP0134 5.2.2).
-fn script(alloc: Global) -> Result<List<Entry>, OutOfMemory>
-    ensures { IfOk result (λ script. script ≡ image_script) }
+// The files by name.
+fn files_of(
+    alloc: Global,
+    acpi: Option<AcpiFiles>,
+    smbios: SmbiosFiles,
+) -> Result<List<FileBytes>, OutOfMemory>
+    ensures { IfOk result (λ files. files ≡ files_from acpi smbios) }
+{
+    let mut files = List::new(alloc);
+    if let Some(AcpiFiles { rsdp, tables }) = acpi {
+        files.push(file_of(rsdp_name(), rsdp))?;
+        files.push(file_of(acpi_tables_name(), tables))?;
+    }
+    let SmbiosFiles { anchor, tables } = smbios;
+    files.push(file_of(anchor_name(), anchor))?;
+    files.push(file_of(tables_name(), tables))?;
+    Ok(files)
+}
+
+fn file_of(name: Name, parts: Parts) -> FileBytes
+    ensures name { result.name ≡ name }
+    ensures bytes { result.bytes ≡ parts.bytes }
+{
+    FileBytes {
+        name,
+        bytes: parts.bytes,
+    }
+}
+
+// Every file is placed, then every pointer's field is filled, and then every sum's byte.
+fn script_of(
+    alloc: Global,
+    acpi: &Option<AcpiFiles>,
+    smbios: &SmbiosFiles,
+) -> Result<List<Entry>, OutOfMemory>
+    ensures { IfOk result (λ script. script ≡ script_from acpi.now smbios.now) }
 {
     let mut script = List::new(alloc);
-    script.push(Entry::Allocate {
-        file: tables_name(),
-        align: 16,
-        zone: HIGH,
-    })?;
-    script.push(Entry::Allocate {
-        file: anchor_name(),
-        align: 16,
-        zone: F_SEGMENT,
-    })?;
-    script.push(Entry::AddPointer {
-        dest: anchor_name(),
-        src: tables_name(),
-        offset: 16,
-        size: 8,
-    })?;
-    script.push(Entry::AddChecksum {
-        file: anchor_name(),
-        offset: 5,
-        start: 0,
-        length: 24,
-    })?;
+    push_allocations(&mut script, acpi)?;
+    push_all_pointers(&mut script, acpi, smbios)?;
+    push_all_checksums(&mut script, acpi, smbios)?;
     Ok(script)
 }
 
-fn anchor_name() -> Name
-    ensures { result ≡ anchor_name }
+// The tables of each kind go to high memory, and what leads to them to the F segment, where a guest looks for it (ACPI 6.5,
+// 5.2.5.1; DSP0134 5.2.2).
+fn push_allocations(script: &mut List<Entry>, acpi: &Option<AcpiFiles>) -> Result<(), OutOfMemory>
+    ensures { OnOk result (script.new ≡ script.old ++ (acpi_allocations acpi.now ++ smbios_allocations)) }
 {
-    Name::of("etc/smbios/smbios-anchor").unwrap()
+    if acpi.is_some() {
+        script.push(allocate(acpi_tables_name(), 64, HIGH))?;
+        script.push(allocate(rsdp_name(), 16, F_SEGMENT))?;
+    }
+    script.push(allocate(tables_name(), 16, HIGH))?;
+    script.push(allocate(anchor_name(), 16, F_SEGMENT))
 }
 
-fn tables_name() -> Name
-    ensures { result ≡ tables_name }
+fn push_all_pointers(
+    script: &mut List<Entry>,
+    acpi: &Option<AcpiFiles>,
+    smbios: &SmbiosFiles,
+) -> Result<(), OutOfMemory>
+    ensures { OnOk result (script.new ≡ script.old ++ add_pointers (acpi_by_name acpi.now ++ smbios_by_name smbios.now)) }
 {
-    Name::of("etc/smbios/smbios-tables").unwrap()
+    if let Some(acpi) = acpi {
+        push_pointers(script, rsdp_name(), &acpi.rsdp)?;
+        push_pointers(script, acpi_tables_name(), &acpi.tables)?;
+    }
+    push_pointers(script, anchor_name(), &smbios.anchor)?;
+    push_pointers(script, tables_name(), &smbios.tables)
+}
+
+// The tables are summed before the RSDP.
+fn push_all_checksums(
+    script: &mut List<Entry>,
+    acpi: &Option<AcpiFiles>,
+    smbios: &SmbiosFiles,
+) -> Result<(), OutOfMemory>
+    ensures { OnOk result (script.new ≡ script.old ++ add_checksums (acpi_tables_first acpi.now ++ smbios_by_name smbios.now)) }
+{
+    if let Some(acpi) = acpi {
+        push_checksums(script, acpi_tables_name(), &acpi.tables)?;
+        push_checksums(script, rsdp_name(), &acpi.rsdp)?;
+    }
+    push_checksums(script, anchor_name(), &smbios.anchor)?;
+    push_checksums(script, tables_name(), &smbios.tables)
+}
+
+// A command for each pointer of a file, in their order.
+fn push_pointers(script: &mut List<Entry>, file: Name, parts: &Parts) -> Result<(), OutOfMemory>
+    ensures { OnOk result (script.new ≡ script.old ++ map (add_pointer file) parts.now.pointers) }
+{
+    for hole in parts.pointers.as_slice() {
+        script.push(Entry::AddPointer {
+            dest: file,
+            src: hole.target,
+            offset: hole.at,
+            size: hole.size,
+        })?;
+    }
+    Ok(())
+}
+
+// A command for each sum of a file, in their order.
+fn push_checksums(script: &mut List<Entry>, file: Name, parts: &Parts) -> Result<(), OutOfMemory>
+    ensures { OnOk result (script.new ≡ script.old ++ map (add_checksum file) parts.now.sums) }
+{
+    for hole in parts.sums.as_slice() {
+        script.push(Entry::AddChecksum {
+            file,
+            offset: hole.at,
+            start: hole.start,
+            length: hole.length,
+        })?;
+    }
+    Ok(())
+}
+
+fn allocate(file: Name, align: u32, zone: u8) -> Entry
+    ensures { result ≡ Entry.Allocate file align zone }
+{
+    Entry::Allocate { file, align, zone }
 }

@@ -5,6 +5,7 @@
 //! of a guest, and writes the memory as text.
 #![tactic(auto)]
 
+mod acpi;
 mod command;
 mod description;
 mod dump;
@@ -13,6 +14,7 @@ mod image;
 mod input;
 pub mod laws;
 mod loading;
+mod names;
 mod output;
 mod placing;
 mod smbios;

@@ -1,10 +1,8 @@
-use Rattle.std.proofs.Common.{ap, ◌≡◌, length, arith, ◌∙◌}
-use Rattle.vmtables.specs.Image.{tables_file}
-use Rattle.vmtables.proofs.TablesSize.{length-tables_file}
+use Rattle.vmtables.proofs.MachineShown.{machine_runs, machine_shown}
 use Rattle.vmtables.proofs.image.image_of.Goals as goal
 
-pub overflow_cast-len : goal.overflow_cast-len
-overflow_cast-len c =
-    let few = length-tables_file c.args.machine.now c.requires in
-    let size : c.len.result ≡ length (tables_file c.args.machine.now) = c.len.ensures ∙ ap length c.in_ok-tables.ensures in
-    omega arith
+pub returns-clause-runs : goal.returns-clause-runs
+returns-clause-runs c = machine_runs c.args.machine.now c.requires c.in_ok-acpi.ensures.held
+
+pub returns-clause-shown : goal.returns-clause-shown
+returns-clause-shown c = machine_shown c.args.machine.now c.requires c.in_ok-acpi.ensures.held

@@ -1,6 +1,6 @@
 use Rattle.std.proofs.Common.{◌≡◌, ◌∙◌}
 use Rattle.vt_bytes.specs.Numbers.{le_bytes}
-use Rattle.vmtables.specs.Image.{anchor_file}
+use Rattle.vmtables.specs.StructureBytes.{anchor_file}
 use Rattle.vmtables.proofs.LittleEndian.{to_le_bytes-word}
 use Rattle.vmtables.proofs.smbios.anchor_of.Goals as goal
 

@@ -1,5 +1,5 @@
 use Rattle.std.proofs.Common.{rules}
-use Rattle.vmtables.specs.Image.{end_structure}
+use Rattle.vmtables.specs.StructureBytes.{end_structure}
 use Rattle.vmtables.proofs.smbios.tables_of.Goals as goal
 
 pub returns : goal.returns

@@ -1,6 +1,6 @@
 use Rattle.std.proofs.Common.{rules}
 use Rattle.vt_outside.specs.Name.{name_of}
-use Rattle.vmtables.proofs.image.tables_name.Goals as goal
+use Rattle.vmtables.proofs.names.rsdp_name.Goals as goal
 
 pub unwrap-requires : goal.unwrap-requires
 unfolding name_of

@@ -1,0 +1,38 @@
+-- The files of an image once they are linked.
+use Rattle.std.proofs.Common.{◌≡◌, ℕ, ◌^◌, ◌<◌, List, [], ◌∷◌, length, true, false, cond, Some, ◌∙◌, arith}
+use Rattle.std.specs.List.{AllByRecursion}
+use Rattle.std.specs.Option.{option_map_or}
+use Rattle.std.specs.Str.{bytes_eq}
+use Rattle.blob_holes.specs.Blob.{BlobState, IsBlob}
+use Rattle.blob_holes.specs.Filled.{IsFilled, with_pointers, with_sums}
+use Rattle.blob_holes.specs.Grown.{IsLinkable}
+use Rattle.blob_holes.proofs.Fill.{filled}
+use Rattle.blob_holes.proofs.Pointers.{length-with_pointers}
+use Rattle.blob_holes.proofs.Sums.{length-with_sums}
+use Rattle.vmtables.specs.ScriptRun.{Placed, placed_of}
+
+-- where the file of a name stands, and 0 where there is none
+abbrev pub place_in : List Placed → List ℕ → ℕ
+place_in placed name = option_map_or (λ (p : Placed). p.place) (placed_of placed name) 0
+
+-- it is below 4 GiB where all files are
+pub place_in-low : (placed : List Placed) → AllByRecursion (λ (p : Placed). p.place < 2 ^ 32) placed → (name : List ℕ) → place_in placed name < 2 ^ 32
+place_in-low [] low name = omega arith
+place_in-low (p ∷ placed) low name =
+    elim (bytes_eq p.name name) as (λ named. option_map_or (λ (q : Placed). q.place) (cond named (Some p) (placed_of placed name)) 0 < 2 ^ 32) [
+      | true ↦ low.0
+      | false ↦ place_in-low placed low.1 name
+    ]
+
+-- a file with every hole filled
+abbrev pub linked : (List ℕ → ℕ) → BlobState → List ℕ
+linked place_of blob = with_sums (with_pointers blob.bytes blob.pointers place_of) blob.sums
+
+-- it is filled
+pub linked-filled : (blob : BlobState) (place_of : List ℕ → ℕ) → IsBlob blob → IsLinkable blob → ((name : List ℕ) → place_of name < 2 ^ 32) → IsFilled blob place_of (linked place_of blob)
+linked-filled blob place_of kept linkable low = filled blob place_of kept (linkable.fit place_of low) linkable.ordered
+
+-- it has as many bytes
+pub length-linked : (blob : BlobState) (place_of : List ℕ → ℕ) → IsBlob blob → length (linked place_of blob) ≡ length blob.bytes
+length-linked blob place_of kept =
+    length-with_sums (with_pointers blob.bytes blob.pointers place_of) blob.sums ∙ length-with_pointers place_of blob.bytes blob.pointers kept.pointers
