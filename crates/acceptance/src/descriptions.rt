@@ -8,7 +8,7 @@ use vmtables::Status;
 use vt_outside::{Bytes, OutOfMemory};
 
 // Each is a description of its own.
-const REFUSED: [&str; 38] = [
+const REFUSED: [&str; 44] = [
     // tops
     "version = 1\ntop_mib = 63\nsystem = {}\n",
     "version = 1\ntop_mib = 3073\nsystem = {}\n",
@@ -35,6 +35,12 @@ const REFUSED: [&str; 38] = [
     "version = 1\ntop_mib = 64\nsystem = []\n",
     "version = 1\ntop_mib = 64\n[[system]]\n",
     "version = 1\ntop_mib = 64\n[system]\n[system]\n",
+    "version = 1\ntop_mib = 64\nacpi = 5\nsystem = {}\n",
+    "version = 1\ntop_mib = 64\nacpi = []\nsystem = {}\n",
+    "version = 1\ntop_mib = 64\nsystem = {}\n[[acpi]]\n",
+    "version = 1\ntop_mib = 64\nsystem = {}\n[acpi]\n[acpi]\n",
+    "version = 1\ntop_mib = 64\nhpet = true\nacpi = {}\nsystem = {}\n",
+    "version = 1\ntop_mib = 64\nsystem = {}\nacpi = {}\n[[hpet]]\n",
     // keys that are there twice, or unknown, or in another case
     "version = 1\ntop_mib = 64\ntop_mib = 64\nsystem = {}\n",
     "version = 1\ntop_mib = 64\nsystem = {}\ncolour = \"red\"\n",
@@ -55,8 +61,9 @@ const REFUSED: [&str; 38] = [
     "\0",
 ];
 
-// What stands below the header of `system` in a description that is lawful above it.
-const REFUSED_SYSTEMS: [&str; 26] = [
+// What stands below the header of `system` in a description that is lawful above it: keys of that table, or other
+// tables.
+const REFUSED_SYSTEMS: [&str; 50] = [
     // keys
     "colour = \"red\"",
     "Product = \"VM\"",
@@ -87,6 +94,32 @@ const REFUSED_SYSTEMS: [&str; 26] = [
     "uuid = \"0011223344556677 8899AABBCCDDEEFF\"",
     "uuid = \"0011223344556677889900112233445\"",
     "uuid = \"001122334455667788990011223344556\"",
+    // the table `acpi`
+    "[acpi]\ncolour = 5",
+    "[acpi]\noem_id = 5",
+    "[acpi]\noem_id = \"EXAMPLE\"",
+    "[acpi]\noem_id = \"EXMPL \"",
+    "[acpi]\noem_id = \" \"",
+    "[acpi]\noem_id = \"EX\\tPL\"",
+    "[acpi]\noem_id = \"EX\\u007f\"",
+    "[acpi]\noem_id = \"É\"",
+    "[acpi]\noem_table_id = [\"VM\"]",
+    "[acpi]\noem_table_id = \"VMTABLES1\"",
+    "[acpi]\noem_table_id = \"VMTABLE \"",
+    "[acpi]\noem_table_id = \"VM\\u0000\"",
+    // the table `hpet`
+    "[hpet]",
+    "[acpi]\n[hpet]\ncolour = 5",
+    "[acpi]\n[hpet]\naddress = 0xFED00200",
+    "[acpi]\n[hpet]\naddress = 4294967296",
+    "[acpi]\n[hpet]\naddress = -1024",
+    "[acpi]\n[hpet]\naddress = \"0xFED00000\"",
+    "[acpi]\n[hpet]\nblock_id = 4294967296",
+    "[acpi]\n[hpet]\nblock_id = 1.0",
+    "[acpi]\n[hpet]\nnumber = 256",
+    "[acpi]\n[hpet]\nnumber = -1",
+    "[acpi]\n[hpet]\nmin_tick = 65536",
+    "[acpi]\n[hpet]\nmin_tick = false",
 ];
 
 // Bytes below that header that are no UTF-8: a byte that never stands there, a lone byte of the middle, an overlong
@@ -156,6 +189,13 @@ fn accepted_descriptions(rt: HostRuntime) -> Result<(), Fail> {
         "version = 1\ntop_mib = 65\nsystem = { product = \" ~\" }\n",
         "version = 1\ntop_mib = 64\nsystem.uuid = \"00000000-0000-0000-0000-000000000001\"\n",
         "version = 1\ntop_mib = 64\nsystem.uuid = \"ffffffff-ffff-ffff-ffff-fffffffffffe\"\n",
+        "version = 1\ntop_mib = 64\nsystem = {}\nacpi = {}\n",
+        "version = 1\ntop_mib = 64\nsystem = {}\nhpet = {}\nacpi = {}\n",
+        "version = 1\ntop_mib = 64\nsystem = {}\nacpi = { oem_id = \"\", oem_table_id = \"\" }\n",
+        "version = 1\ntop_mib = 64\nsystem = {}\nacpi = { oem_id = \" EXMPL\", oem_table_id = \"VMTABLES\" }\n",
+        "version = 1\ntop_mib = 64\nsystem = {}\nacpi = {}\nhpet = { address = 0, block_id = 0, number = 0, min_tick = 0 }\n",
+        "version = 1\ntop_mib = 64\nsystem = {}\nacpi = {}\nhpet = { address = 0xFFFFFC00, block_id = 4294967295 }\n",
+        "version = 1\ntop_mib = 64\nsystem = {}\nacpi = {}\nhpet = { number = 255, min_tick = 65535 }\n",
     ] {
         let ran = boot(rt.alloc(), description.as_bytes())?;
         assert_eq!(rt; ran.status, Status::Ok, "at {description}");

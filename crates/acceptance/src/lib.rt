@@ -2,6 +2,8 @@
 #![tactic(auto)]
 
 #[cfg(test)]
+mod acpi_dumps;
+#[cfg(test)]
 mod descriptions;
 #[cfg(test)]
 mod dumps;
