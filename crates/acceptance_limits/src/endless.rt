@@ -1,0 +1,52 @@
+//! A source that never ends.
+
+ghost use Rattle.std.specs.Prelude.{◌≡◌, ◌<◌, ◌≤◌, ◌-◌, ◌^◌, length, None, IfOk, IfSome, OnErr};
+ghost use Rattle.vt_outside.specs.Stream.{Rose, in_front};
+
+use crate::runs::{boot_word, sink};
+use std::test::Fail;
+use vmtables::{State, Status, World, top};
+use vt_outside::{Failed, Source};
+
+// Each call fills all that it is given, and is counted by its bytes.
+#[derive(Drop)]
+struct Endless {
+    byte: u8,
+    given: u64,
+}
+
+impl Source for Endless {
+    ghost left = { λ _. None };
+
+    ghost faults = { λ _. 0 };
+
+    fn read(&mut self, into: &mut [u8]) -> Result<usize, Failed> {
+        into.fill(self.byte);
+        self.given = self.given.saturating_add(into.len() as u64);
+        Ok(into.len())
+    }
+}
+
+#[test]
+fn a_source_that_never_ends(rt: HostRuntime) -> Result<(), Fail> {
+    let mut source = Endless { byte: 0, given: 0 };
+    let mut out = sink(rt.alloc())?;
+    let mut say = sink(rt.alloc())?;
+    let mut world = World::idle();
+    let status = top(
+        rt.alloc(),
+        boot_word(rt.alloc())?.as_slice(),
+        &mut source,
+        &mut out,
+        &mut say,
+        &mut world,
+    );
+    assert_eq!(rt; status, Status::InputTooLong);
+    assert_eq!(rt; out.taken().len(), 0);
+    assert_eq!(rt; say.taken(), b"input too long\n".as_slice());
+    assert_eq!(rt; world.state(), State::Idle);
+    // it gave more bytes than an input may have, but by no more than the call after the last that fits
+    assert!(rt; source.given > 67_108_864);
+    assert!(rt; source.given <= 67_108_864 + 65_536);
+    Ok(())
+}
