@@ -1,0 +1,157 @@
+#!/usr/bin/env bash
+# Has programs that others wrote read the memory that `vmtables boot` leaves for each description of examples/: dmidecode reads
+# the SMBIOS structures, and iasl the ACPI tables. Each must print what is described and find no fault; and each must find one
+# where a bit of a checksum is flipped, or it would be no judge. Nothing is proved here.
+#
+# usage: judges/run.sh [PROGRAM]     PROGRAM stands for ./vmtables
+#
+# Status 0: no fault was found; 1: one was. A judge that isn't there and can't be installed is named as skipped.
+set -u
+shopt -s nullglob
+here=$(dirname "$(readlink -f "$0")")
+root=$(dirname "$here")
+program=$(readlink -f "${1:-$root/vmtables}")
+PATH=$PATH:/usr/sbin # where Debian has dmidecode
+work=$(mktemp -d)
+trap 'rm -rf "$work"' EXIT
+faults=0
+
+has() {
+    command -v "$1" >/dev/null
+}
+
+install_judges() {
+    DEBIAN_FRONTEND=noninteractive timeout 300 apt-get install -y -qq dmidecode acpica-tools >/dev/null 2>&1 </dev/null
+}
+
+install_missing_judges() {
+    has dmidecode && has iasl && return
+    has apt-get && [ "$(id -u)" -eq 0 ] || return
+    install_judges || { timeout 300 apt-get update -qq >/dev/null 2>&1 </dev/null && install_judges; }
+}
+
+# fault TOOL FILE TEXT: counts and prints a fault with what the tool said.
+fault() {
+    faults=$((faults + 1))
+    printf '  FAULT: %s, %s of %s:\n' "$1" "$2" "$description"
+    sed 's/^/    /' <<<"$3"
+}
+
+# reads_as EXPECTED TEXT WORDS: whether a text has each line of a file, white space and iasl's offsets aside, and no other line
+# with one of the words; prints where it isn't so.
+reads_as() {
+    local lines missing complaints
+    lines=$(sed 's/^[[:space:]]*\(\[[^]]*\]\)\{0,1\}[[:space:]]*//' <<<"$2")
+    missing=$(grep -Fxv -f <(echo "$lines") "$1")
+    complaints=$(grep -Fxv -f "$1" <<<"$lines" | grep -iE "$3")
+    [ -z "$missing" ] || sed 's/^/expected, and not printed: /' <<<"$missing"
+    [ -z "$complaints" ] || sed 's/^/a complaint: /' <<<"$complaints"
+    [ -z "$missing$complaints" ]
+}
+
+# Each judge_ takes the folder of a machine's tables and one of its files, prints what the tool says and what is wrong with that,
+# and has status 0 where nothing is wrong.
+
+judge_structures() {
+    local said
+    said=$(dmidecode --from-dump "$1/$2" 2>&1 </dev/null) || { echo "$said"; return 1; }
+    echo "$said"
+    reads_as "$1/smbios.expected" "$said" \
+        'invalid|truncated|warning|error|wrong|broken|bad index|out of spec|unreachable|unsupported|not fully|sorry'
+}
+
+judge_table() {
+    local said table=${2%.aml} expected=/dev/null
+    said=$(cd "$1" && iasl -d "$2" 2>&1 </dev/null) || { echo "$said"; return 1; }
+    echo "$said"
+    [ -e "$1/$table.expected" ] && expected=$1/$table.expected
+    reads_as /dev/null "$said" 'warning|error|incorrect|invalid' &&
+        reads_as "$expected" "$(sed '/^Raw Table Data/,$d' "$1/$table.dsl")" 'incorrect|invalid|\*\*\*\*'
+}
+
+# iasl reads no RSDP, but makes one: it must be the same.
+judge_pointer() {
+    (cd "$1" && iasl RSDP.asl 2>&1 </dev/null && cmp RSDP.aml "$2" 2>&1)
+}
+
+# flip FILE OFFSET: flips the lowest bit of a byte.
+flip() {
+    local byte
+    byte=$(od -An -tu1 -j "$2" -N 1 "$1")
+    printf '%b' "\\x$(printf %02x $((byte ^ 1)))" | dd of="$1" bs=1 seek="$2" conv=notrunc status=none
+}
+
+# ask TOOL JUDGE FILE CHECKSUM: has the tool judge a file, and then a copy with a bit flipped in the byte at CHECKSUM.
+ask() {
+    local said
+    said=$("$2" "$folder" "$3" 2>&1) || { fault "$1" "$3" "$said"; return; }
+    rm -rf "$folder.flipped"
+    cp -r "$folder" "$folder.flipped"
+    flip "$folder.flipped/$3" "$4"
+    if said=$("$2" "$folder.flipped" "$3" 2>&1); then
+        fault "$1" "$3" "no judge: it finds nothing wrong with a checksum in which a bit is flipped
+$said"
+    else
+        echo "  $1: $3: as described, and no fault; a wrong checksum is found"
+    fi
+}
+
+# Boots the description into a dump and makes files of that, or counts a fault.
+make_files() {
+    local said
+    mkdir "$folder"
+    said=$("$program" boot 2>&1 >"$folder/dump" <"$root/$description") || { fault "vmtables boot" "the dump" "$said"; return 1; }
+    said=$(python3 "$here/dump_tables.py" "$folder/dump" "$folder" 2>&1) || { fault dump_tables.py "the dump" "$said"; return 1; }
+    said=$(python3 "$here/described.py" "$root/$description" "$folder" 2>&1) || { fault described.py "the text" "$said"; return 1; }
+}
+
+ask_iasl() {
+    local table
+    if [ ! -e "$folder/RSDP.bin" ]; then
+        echo "  iasl: the memory has no ACPI tables"
+        return
+    fi
+    for table in "$folder"/*.aml; do
+        ask iasl judge_table "$(basename "$table")" 9
+    done
+    ask iasl judge_pointer RSDP.bin 8
+}
+
+find_described_tables() {
+    local lines table
+    for lines in "$folder"/[A-Z]*.expected; do
+        table=$(basename "$lines" .expected)
+        [ -e "$folder/$table.aml" ] || fault dump_tables.py "the dump" "no $table, which is described"
+    done
+}
+
+judge_description() {
+    description=$1
+    folder=$work/$(basename "$1" .toml)
+    echo "$description"
+    make_files || return
+    find_described_tables
+    ! has dmidecode || ask dmidecode judge_structures smbios.bin 5
+    ! has iasl || ask_iasl
+}
+
+main() {
+    local at
+    install_missing_judges
+    for tool in dmidecode iasl; do
+        has "$tool" || echo "skipped: $tool"
+    done
+    if ! python3 -c 'import tomllib' 2>/dev/null; then
+        echo "skipped: dmidecode and iasl, since python3 of 3.11 or later isn't there to make files for them"
+        return
+    fi
+    "$program" --version || exit 1 # builds ./vmtables where it isn't built, in sight
+    cd "$root" || exit 1
+    for at in examples/*.toml; do
+        judge_description "$at"
+    done
+    echo "judges: faults found: $faults"
+    [ "$faults" -eq 0 ]
+}
+
+main
