@@ -54,7 +54,7 @@ reads_as() {
 
 judge_structures() {
     local said
-    said=$(dmidecode --from-dump "$1/$2" 2>&1 </dev/null) || { echo "$said"; return 1; }
+    said=$(cd "$1" && dmidecode --from-dump "$2" 2>&1 </dev/null) || { echo "$said"; return 1; }
     echo "$said"
     reads_as "$1/smbios.expected" "$said" \
         'invalid|truncated|warning|error|wrong|broken|bad index|out of spec|unreachable|unsupported|not fully|sorry'
@@ -100,9 +100,9 @@ $said"
 make_files() {
     local said
     mkdir "$folder"
-    said=$("$program" boot 2>&1 >"$folder/dump" <"$root/$description") || { fault "vmtables boot" "the dump" "$said"; return 1; }
+    said=$("$program" boot 2>&1 >"$folder/dump" <"$description") || { fault "vmtables boot" "the dump" "$said"; return 1; }
     said=$(python3 "$here/dump_tables.py" "$folder/dump" "$folder" 2>&1) || { fault dump_tables.py "the dump" "$said"; return 1; }
-    said=$(python3 "$here/described.py" "$root/$description" "$folder" 2>&1) || { fault described.py "the text" "$said"; return 1; }
+    said=$(python3 "$here/described.py" "$description" "$folder" 2>&1) || { fault described.py "the text" "$said"; return 1; }
 }
 
 ask_iasl() {
