@@ -6,6 +6,8 @@ mod blobs;
 #[cfg(test)]
 mod containers;
 #[cfg(test)]
+mod items;
+#[cfg(test)]
 mod numbers;
 #[cfg(test)]
 mod scripts;

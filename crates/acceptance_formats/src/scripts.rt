@@ -1,7 +1,9 @@
 //! Loader scripts as bytes, and why a command is refused.
 
+ghost use Rattle.std.specs.Prelude.{◌≡◌, codes};
+
 use loader_script::{
-    Cause, Entry, ScriptFault, decode_entry, decode_script, encode_script, refusal,
+    Cause, Entry, FileInfo, ScriptFault, decode_entry, decode_script, encode_script, refusal,
 };
 use std::test::Fail;
 use vt_outside::Name;
@@ -70,4 +72,68 @@ fn causes_of_refusal(rt: HostRuntime) {
         refusal(&Entry::Misnamed(2), &[], &[]),
         Some(Cause::BadName)
     );
+}
+
+// Of two files "a", of 16 bytes at 0x03000000, and "b", of 8 bytes, writable and not placed.
+fn cause_of(entry: &Entry) -> Option<Cause> {
+    refusal(
+        entry,
+        &[
+            FileInfo {
+                name: a(),
+                size: 16,
+                writable: false,
+            },
+            FileInfo {
+                name: b(),
+                size: 8,
+                writable: true,
+            },
+        ],
+        &[Some(0x0300_0000), None],
+    )
+}
+
+fn a() -> Name
+    ensures { result ≡ codes "a" }
+{
+    Name::of("a").unwrap()
+}
+
+fn b() -> Name
+    ensures { result ≡ codes "b" }
+{
+    Name::of("b").unwrap()
+}
+
+#[test]
+fn causes_with_files(rt: HostRuntime) -> Result<(), Fail> {
+    let (a, b, other) = (a(), b(), Name::of("etc/other")?);
+    for (entry, cause) in [
+        (allocate_of(a, 16, 1), Some(Cause::AlreadyPlaced)),
+        (allocate_of(b, 16, 2), None),
+        (allocate_of(b, 24, 1), Some(Cause::BadAlign)),
+        (allocate_of(b, 16, 3), Some(Cause::BadZone)),
+        (allocate_of(other, 16, 1), Some(Cause::NoFile)),
+        (add_pointer(a, a, 8, 8), None),
+        (add_pointer(a, a, 9, 8), Some(Cause::OutOfRange)),
+        (add_pointer(a, a, 8, 3), Some(Cause::BadSize)),
+        (add_pointer(a, b, 8, 8), Some(Cause::NotPlaced)),
+    ] {
+        assert_eq!(rt; cause_of(&entry), cause, "at {entry:?}");
+    }
+    Ok(())
+}
+
+fn allocate_of(file: Name, align: u32, zone: u8) -> Entry {
+    Entry::Allocate { file, align, zone }
+}
+
+fn add_pointer(dest: Name, src: Name, offset: u32, size: u8) -> Entry {
+    Entry::AddPointer {
+        dest,
+        src,
+        offset,
+        size,
+    }
 }
