@@ -1,6 +1,6 @@
 -- A container of files: the directory, a byte for each file that says whether it may be written, and the files' bytes in
 -- the directory's order.
-use Rattle.std.specs.Prelude.{◌≡◌, ℕ, zero, suc, ◌+◌, ◌*◌, Bool, true, false, not, ◌&&◌, List, [], ◌∷◌, ◌++◌, length, take, drop, map, sum_by, Result, Ok, Err, nat_lt, nat_le, ◌==◌, if◌then◌else◌}
+use Rattle.std.specs.Prelude.{◌≡◌, ℕ, zero, suc, ◌+◌, ◌*◌, ◌≤◌, Bool, true, false, not, ◌&&◌, List, [], ◌∷◌, ◌++◌, length, take, drop, map, sum_by, Result, Ok, Err, nat_lt, nat_le, ◌==◌, if◌then◌else◌}
 use Rattle.std.specs.List.{flat_map, list_any}
 use Rattle.std.specs.Str.{bytes_eq}
 use Rattle.vt_outside.specs.Name.{name_of, before_nul}
@@ -108,6 +108,10 @@ counted_so count bytes =
 -- The items that the bytes are a container of, or the first refusal.
 unfoldable pub read_so : List ℕ → Result (List Item) ImageFault
 read_so bytes = if nat_lt (length bytes) 4 then Err Truncated else counted_so (be (take 4 bytes)) (drop 4 bytes)
+
+-- The number of files is there and isn't too large, and so many entries are there: what is known before memory is needed.
+abbrev pub HasEntries : List ℕ → Type 0
+HasEntries bytes = (4 ≤ length bytes) × (be (take 4 bytes) ≤ file_limit) × (64 * be (take 4 bytes) ≤ length (drop 4 bytes))
 
 -- What a call answered is what reading gives, unless memory ran out.
 abbrev pub Gives : {T A : Type 0} → (T → A) → Result T ImageFault → Result A ImageFault → Type 0

@@ -1,8 +1,8 @@
-ghost use Rattle.std.specs.Prelude.{◌≡◌, ◌++◌, List as ListOf, map, Ok, IfOk, OnOk};
+ghost use Rattle.std.specs.Prelude.{◌≡◌, ◌++◌, List as ListOf, map, Ok, Err, IfOk, OnOk};
 ghost use Rattle.std.specs.List.{flat_map};
 ghost use Rattle.cfg_directory.specs.declared.item.Item.{Item};
 ghost use Rattle.cfg_directory.specs.declared.container.ImageFault.TheVariants.{OutOfMemory as NoMemory};
-ghost use Rattle.cfg_directory.specs.Container.{IsContainer, Gives, read_so, container_of, flag_of};
+ghost use Rattle.cfg_directory.specs.Container.{IsContainer, Gives, HasEntries, read_so, container_of, flag_of};
 
 use crate::directory::put_directory;
 use crate::item::Item;
@@ -11,7 +11,7 @@ use crate::reading::read_parts;
 use std::alloc::Global;
 use vt_outside::{Bytes, OutOfMemory};
 
-/// Why bytes are no container. An index is that of the entry, from 0. A fault's number is its position from 1.
+/// Why bytes are no container. An index is that of the entry, from 0.
 #[derive(Clone, Copy, Debug, PartialEq, Eq)]
 pub enum ImageFault {
     /// They end too early.
@@ -52,6 +52,8 @@ pub fn read_image(alloc: Global, bytes: &[u8]) -> Result<Items, ImageFault>
     ensures only { (items : ListOf Item) → IsContainer bytes.now items → Gives (λ read. read) result (Ok items) }
     // Which refusal it is.
     ensures exact { Gives (λ read. read) result (read_so bytes.now) }
+    // Memory is needed only once the entries are there.
+    ensures no_memory { result ≡ Err NoMemory → HasEntries bytes.now }
 {
     Ok(Items::of(read_parts(alloc, bytes)?))
 }

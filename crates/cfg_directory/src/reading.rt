@@ -1,10 +1,12 @@
 //! The parts of a container, each read from the front of what is left.
 
-ghost use Rattle.std.specs.Prelude.{◌≡◌, ◌==◌, ◌≤◌, Ok, IfOk, length, map, nat_lt, sum_by};
+ghost use Rattle.std.specs.Prelude.{◌≡◌, ◌≢◌, ◌==◌, ◌*◌, ◌≤◌, Ok, Err, IfOk, length, take, drop, map, nat_lt, sum_by};
 ghost use Rattle.std.specs.List.{list_any, position};
 ghost use Rattle.std.specs.Str.{bytes_eq};
-ghost use Rattle.cfg_directory.specs.Items.{file_limit};
-ghost use Rattle.cfg_directory.specs.Container.{Gives, listed_so, listed_of, items_so, contents_so};
+ghost use Rattle.vt_bytes.specs.Numbers.{be};
+ghost use Rattle.cfg_directory.specs.declared.container.ImageFault.TheVariants.{OutOfMemory as NoMemory};
+ghost use Rattle.cfg_directory.specs.Items.{file_limit, bytes_limit};
+ghost use Rattle.cfg_directory.specs.Container.{Gives, HasEntries, listed_so, listed_of, items_so, contents_so};
 ghost use Rattle.cfg_directory.specs.Parts.{is_set, count_at, directory_at, flags_at, parts_of};
 
 use crate::container::ImageFault;
@@ -30,7 +32,8 @@ const NAME_AT: usize = 8;
 /// The items that the bytes are a container of.
 #[tactic(auto, unfolding(crate::specs::Parts::parts_of))]
 pub(crate) fn read_parts(alloc: Global, bytes: &[u8]) -> Result<List<Item>, ImageFault>
-    ensures { Gives (λ items. items) result (parts_of bytes.now) }
+    ensures exact { Gives (λ items. items) result (parts_of bytes.now) }
+    ensures no_memory { result ≡ Err NoMemory → HasEntries bytes.now }
 {
     let (count, rest) = read_count(bytes)?;
     let (listed, rest) = read_directory(alloc, count, rest)?;
@@ -43,6 +46,8 @@ pub(crate) fn read_parts(alloc: Global, bytes: &[u8]) -> Result<List<Item>, Imag
 fn read_count(bytes: &[u8]) -> Result<(u32, &[u8]), ImageFault>
     ensures exact { Gives (λ x. (x.0, x.1.now)) result (count_at bytes.now) }
     ensures few { IfOk result (λ x. x.0 ≤ file_limit) }
+    ensures sure { result ≢ Err NoMemory }
+    ensures said { IfOk result (λ x. (4 ≤ length bytes.now) × (x.0 ≡ be (take 4 bytes.now)) × (x.1.now ≡ drop 4 bytes.now)) }
 {
     if bytes.len() < 4 {
         return Err(ImageFault::Truncated);
@@ -64,6 +69,8 @@ fn read_directory(
     requires { count ≤ file_limit }
     ensures exact { Gives (λ x. (x.0, x.1.now)) result (directory_at count bytes.now) }
     ensures count { IfOk result (λ x. length x.0 ≡ count) }
+    ensures there { IfOk result (λ _. 64 * count ≤ length bytes.now) }
+    ensures no_memory { result ≡ Err NoMemory → 64 * count ≤ length bytes.now }
 {
     if bytes.len() < ENTRY_SIZE * count as usize {
         return Err(ImageFault::Truncated);
@@ -83,7 +90,8 @@ fn read_directory(
 #[tactic(auto, unfolding(crate::specs::Container::listed_of))]
 fn read_entry(index: u32, before: &[Listed], entry: &[u8]) -> Result<Listed, ImageFault>
     requires { length entry.now ≡ 64 }
-    ensures { Gives (λ listed. listed) result (listed_of index before.now entry.now) }
+    ensures exact { Gives (λ listed. listed) result (listed_of index before.now entry.now) }
+    ensures sure { result ≢ Err NoMemory }
 {
     let size = get_be(entry, 0, 4) as u32;
     let select = get_be(entry, SELECT_AT, 2) as u16;
@@ -130,6 +138,7 @@ fn is_selected(listed: &[Listed], select: u16) -> bool
 fn read_flags(count: u32, bytes: &[u8]) -> Result<(&[u8], &[u8]), ImageFault>
     ensures exact { Gives (λ x. (map is_set x.0.now, x.1.now)) result (flags_at count bytes.now) }
     ensures count { IfOk result (λ x. length x.0.now ≡ count) }
+    ensures sure { result ≢ Err NoMemory }
 {
     if bytes.len() < count as usize {
         return Err(ImageFault::Truncated);
@@ -158,7 +167,8 @@ fn read_contents(
 ) -> Result<List<Item>, ImageFault>
     requires few { length listed.now ≤ file_limit }
     requires flags { length flags.now ≡ length listed.now }
-    ensures { Gives (λ items. items) result (contents_so listed.now (map is_set flags.now) bytes.now) }
+    ensures exact { Gives (λ items. items) result (contents_so listed.now (map is_set flags.now) bytes.now) }
+    ensures no_memory { result ≡ Err NoMemory → (sum_by (λ l. l.size) listed.now ≤ bytes_limit) × (length bytes.now ≡ sum_by (λ l. l.size) listed.now) }
 {
     let total = total_of(listed);
     if total > BYTES_LIMIT {
