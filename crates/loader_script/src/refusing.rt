@@ -5,7 +5,7 @@ ghost use Rattle.loader_script.specs.declared.entry.Entry.TheVariants.{Allocate,
 use crate::entry::Entry;
 use vt_outside::Name;
 
-/// Why a command is refused. A cause's number is its position from 1.
+/// Why a command is refused.
 #[derive(Clone, Copy, Debug, PartialEq, Eq)]
 pub enum Cause {
     /// One of its names is no name.

@@ -57,6 +57,10 @@ pub fn top<S: Source, K: Sink, E: Sink>(
     ensures nothing { result ≢ Status.Ok → result ≢ Status.WriteFault → K.taken out.new ≡ K.taken out.old }
     ensures world { LeavesWorld result world.old world.new }
 
+    // Where the words are no command the source and out aren't used.
+    ensures unread { result ≡ Status.Usage → (S.left source.new ≡ S.left source.old) × (S.faults source.new ≡ S.faults source.old) }
+    ensures unused { result ≡ Status.Usage → (K.flushed out.new ≡ K.flushed out.old) × (K.faults out.new ≡ K.faults out.old) }
+
     // Say took the line of the status, or, where it failed, a part of it from its front.
     ensures said { Took (E.taken say.old) (E.taken say.new) (line_of result)
         ⊎ (TookFront (E.taken say.old) (E.taken say.new) (line_of result) × Rose (E.faults say.old) (E.faults say.new)) }
