@@ -5,9 +5,10 @@ use crate::fault::Failed;
 use crate::stream::{Sink, Source};
 use std::io::{ErrorKind, Read, Write};
 
-/// A reader of std as a source. It tells nothing of the bytes, and counts each error.
+/// A reader of std as a source. It tells nothing of the bytes, and counts each error that it answers with
+/// Failed.
 ///
-/// A call that was interrupted is made again.
+/// A call that was interrupted is made again, and is no error.
 #[derive(Drop)]
 pub struct ReadSource<R> {
     reader: R,
@@ -30,21 +31,19 @@ impl<R: Read> Source for ReadSource<R> {
         for _turn in 0..u64::MAX {
             match self.reader.read(into) {
                 Ok(count) => return Ok(count),
-                Err(error) => {
-                    self.faults = self.faults.saturating_add(1);
-                    if error.kind() != ErrorKind::Interrupted {
-                        return Err(Failed);
-                    }
-                }
+                Err(error) if error.kind() == ErrorKind::Interrupted => {}
+                Err(_) => break,
             }
         }
+        self.faults = self.faults.saturating_add(1);
         Err(Failed)
     }
 }
 
-/// A writer of std as a sink. It tells nothing of the bytes, and counts each error.
+/// A writer of std as a sink. It tells nothing of the bytes, and counts each error that it answers with
+/// Failed.
 ///
-/// A call that was interrupted is made again, and a write that takes nothing is a fault.
+/// A call that was interrupted is made again, and is no error. A write that takes nothing is one.
 #[derive(Drop)]
 pub struct WriteSink<W> {
     writer: W,
@@ -68,19 +67,13 @@ impl<W: Write> Sink for WriteSink<W> {
     fn write(&mut self, piece: &[u8]) -> Result<usize, Failed> {
         for _turn in 0..u64::MAX {
             match self.writer.write(piece) {
-                Ok(0) => {
-                    self.faults = self.faults.saturating_add(1);
-                    return Err(Failed);
-                }
+                Ok(0) => break,
                 Ok(count) => return Ok(count),
-                Err(error) => {
-                    self.faults = self.faults.saturating_add(1);
-                    if error.kind() != ErrorKind::Interrupted {
-                        return Err(Failed);
-                    }
-                }
+                Err(error) if error.kind() == ErrorKind::Interrupted => {}
+                Err(_) => break,
             }
         }
+        self.faults = self.faults.saturating_add(1);
         Err(Failed)
     }
 
@@ -88,14 +81,11 @@ impl<W: Write> Sink for WriteSink<W> {
         for _turn in 0..u64::MAX {
             match self.writer.flush() {
                 Ok(()) => return Ok(()),
-                Err(error) => {
-                    self.faults = self.faults.saturating_add(1);
-                    if error.kind() != ErrorKind::Interrupted {
-                        return Err(Failed);
-                    }
-                }
+                Err(error) if error.kind() == ErrorKind::Interrupted => {}
+                Err(_) => break,
             }
         }
+        self.faults = self.faults.saturating_add(1);
         Err(Failed)
     }
 }

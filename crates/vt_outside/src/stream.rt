@@ -8,7 +8,7 @@ pub trait Source {
     // The bytes that are left, where the source tells them.
     ghost left: { Self → Option (List ℕ) };
 
-    // How many reads have failed. A count that is kept in a u64 stays at its last value.
+    // How many reads were answered with Failed. A count that is kept in a u64 stays at its last value.
     ghost faults: { Self → ℕ };
 
     /// Reads the next bytes into the front of `into`, and tells how many. 0 means that none is left.
@@ -20,6 +20,7 @@ pub trait Source {
 
         ensures kept { OnErr result (left self.new ≡ left self.old) }
         ensures failed { OnErr result (Rose (faults self.old) (faults self.new)) }
+        ensures sound { OnOk result (faults self.new ≡ faults self.old) }
         ensures never_falls { faults self.old ≤ faults self.new };
 }
 
@@ -31,7 +32,7 @@ pub trait Sink {
     // How many of the bytes taken are flushed.
     ghost flushed: { Self → ℕ };
 
-    // How many writes and flushes have failed. A count that is kept in a u64 stays at its last value.
+    // How many writes and flushes were answered with Failed. A count that is kept in a u64 stays at its last value.
     ghost faults: { Self → ℕ };
 
     /// Takes some of the bytes from the front of `piece`, at least one, and tells how many.
@@ -44,6 +45,7 @@ pub trait Sink {
 
         ensures kept { OnErr result (taken self.new ≡ taken self.old) }
         ensures failed { OnErr result (Rose (faults self.old) (faults self.new)) }
+        ensures sound { OnOk result (faults self.new ≡ faults self.old) }
         ensures never_falls { faults self.old ≤ faults self.new };
 
     /// Hands on all that was taken.
@@ -53,5 +55,6 @@ pub trait Sink {
 
         ensures kept { taken self.new ≡ taken self.old }
         ensures failed { OnErr result (Rose (faults self.old) (faults self.new)) }
+        ensures sound { OnOk result (faults self.new ≡ faults self.old) }
         ensures never_falls { faults self.old ≤ faults self.new };
 }
