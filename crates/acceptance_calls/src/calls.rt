@@ -280,6 +280,9 @@ fn ranges_of_memory(rt: HostRuntime) -> Result<(), Fail> {
     assert_eq!(rt; memory.sum_range(0xFFE, 5), 13);
     assert_eq!(rt; memory.sum_range(0x3FF_FFFE, 2), 13);
     assert_eq!(rt; memory.sum_range(0, 0), 0);
+    assert_eq!(rt; memory.bytes_at(0xFFD, 4), [0, 0xFF, 2, 3].as_slice());
+    assert_eq!(rt; memory.bytes_at(0x3FF_FFFD, 3), [0, 6, 7].as_slice());
+    assert_eq!(rt; memory.bytes_at(u64::MAX, 0), [].as_slice());
 
     assert_eq!(rt; memory.patch_add(0xFFE, 1, 1), Err(TooFar));
     assert_eq!(rt; memory.read(0xFFE), 0xFF);
@@ -326,6 +329,21 @@ fn rules(rt: HostRuntime) -> Result<(), Fail> {
         let machine = machine(rt.alloc(), top_mib, product, uuid)?;
         let broken = rule.map(|rule| Broken { rule, index: 0 });
         assert_eq!(rt; machine.check().err(), broken, "at {top_mib}, {product}");
+    }
+    Ok(())
+}
+
+#[test]
+fn texts_of_errors(rt: HostRuntime) -> Result<(), Fail> {
+    for (text, error) in [
+        ("a read or a write failed", Failed.to_string(rt.alloc())?),
+        ("out of memory", OutOfMemory.to_string(rt.alloc())?),
+        (
+            "the number does not fit its field",
+            TooFar.to_string(rt.alloc())?,
+        ),
+    ] {
+        assert_eq!(rt; error.as_str(), text);
     }
     Ok(())
 }

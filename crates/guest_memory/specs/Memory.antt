@@ -1,6 +1,5 @@
 -- Guest memory: a top, a fill byte, and a byte at each RAM address.
 use Rattle.std.specs.Prelude.{◌≡◌, ℕ, zero, suc, ◌+◌, ◌-◌, ◌%◌, ◌<◌, ◌≤◌, ◌⊎◌, List, [], ◌∷◌, length, slice_index, nat_lt, if◌then◌else◌}
-use Rattle.vt_bytes.specs.Numbers.{byte_sum}
 
 -- The two windows: the bytes at 0 to 0xFFFFF, and those of the 32 MiB that end at the top.
 pub record Memory : Type 0 where
@@ -49,8 +48,3 @@ pub record IsMemory (m : Memory) : Type 0 where
   pub low : length m.low ≡ 0x100000
   pub high : length m.high ≡ 0x2000000
   pub hole : (a : ℕ) → 0xA0000 ≤ a → a < 0xE0000 → slice_index m.low a ≡ m.fill
-
--- the bytes are RAM, and their sum is a multiple of 256
-pub record SumsToZero (m : Memory) (address count : ℕ) : Type 0 where
-  pub ram : IsRamRange m.top address count
-  pub zero : byte_sum (bytes_at m address count) ≡ 0

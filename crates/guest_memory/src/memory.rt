@@ -122,22 +122,11 @@ impl GuestMemory {
         requires { IsRamRange self.now.top address len }
         ensures { result ≡ byte_sum (bytes_at self.now address len) }
     {
-        byte_sum(self.part(address, len as usize))
+        byte_sum(self.bytes_at(address, len as usize))
     }
 
-    // The little-endian number of `size` bytes at an address.
-    pub(crate) fn number_at(&self, address: u64, size: u8) -> u64
-        requires some { 1 ≤ size }
-        requires size { size ≤ 8 }
-        requires ram { IsRamRange self.now.top address size }
-        ensures { result ≡ le (bytes_at self.now address size) }
-    {
-        let size = usize::from(size);
-        get_le(self.part(address, size), 0, size)
-    }
-
-    // The bytes of a range.
-    fn part(&self, address: u64, len: usize) -> &[u8]
+    /// `len` bytes from an address on, lent as they stand.
+    pub fn bytes_at(&self, address: u64, len: usize) -> &[u8]
         requires { IsRamRange self.now.top address len }
         ensures { result.now ≡ bytes_at self.now address len }
     {
@@ -151,6 +140,17 @@ impl GuestMemory {
             let place = self.place_in_high(address);
             &self.high[place..place + len]
         }
+    }
+
+    // The little-endian number of `size` bytes at an address.
+    pub(crate) fn number_at(&self, address: u64, size: u8) -> u64
+        requires some { 1 ≤ size }
+        requires size { size ≤ 8 }
+        requires ram { IsRamRange self.now.top address size }
+        ensures { result ≡ le (bytes_at self.now address size) }
+    {
+        let size = usize::from(size);
+        get_le(self.bytes_at(address, size), 0, size)
     }
 
     // Where the upper window has the byte of an address past the lower one.

@@ -3,7 +3,7 @@ use Rattle.guest_memory.specs.Memory.{IsTop}
 use Rattle.guest_memory.proofs.Bytes.{bytes_at-none}
 use Rattle.guest_memory.proofs.Ranges.{in_low, in_high}
 use Rattle.guest_memory.proofs.Windows.{part_low, part_high}
-use Rattle.guest_memory.proofs.memory.GuestMemory.part.Goals as goal
+use Rattle.guest_memory.proofs.memory.GuestMemory.bytes_at.Goals as goal
 
 pub returns-then-len-eq0 : goal.returns-then-len-eq0
 returns-then-len-eq0 c = bytes_at-none _ _ _ c.if-len-eq0.true
