@@ -1,5 +1,5 @@
 -- Bytes that are put in place of others, and parts of a list.
-use Rattle.std.proofs.Common.{◌≡◌, ℕ, ◌+◌, ◌-◌, ◌<◌, ◌≤◌, ◌⊎◌, inl, inr, List, ◌++◌, length, slice_index, take, drop, min, arith, ap, sym, ◌∙◌, length-append, length-take, length-drop, get_or-take, get_or-drop, append_assoc}
+use Rattle.std.proofs.Common.{◌≡◌, ℕ, ◌+◌, ◌-◌, ◌<◌, ◌≤◌, ◌⊎◌, List, ◌++◌, length, slice_index, take, drop, min, arith, ap, sym, ◌∙◌, length-append, length-take, length-drop, get_or-take, get_or-drop, append_assoc}
 use Rattle.std.proofs.lemmas.Grind.{same_number_lists}
 use Rattle.std.proofs.lemmas.List.{places, take_at, drop_at}
 use Rattle.vt_bytes.specs.Parts.{part, put_at}
@@ -29,10 +29,3 @@ part_same xs ys at n size same =
     get_or-take n (drop at xs) k 0 below ∙ get_or-drop at xs k 0
     ∙ same (at + k) (omega arith) (omega arith)
     ∙ sym (get_or-take n (drop at ys) k 0 below ∙ get_or-drop at ys k 0))
-
--- a part beside them stays
-pub part-put_at_beside : (bytes : List ℕ) (at : ℕ) (piece : List ℕ) (start n : ℕ) → at + length piece ≤ length bytes → (start + n ≤ at) ⊎ (at + length piece ≤ start) → part (put_at bytes at piece) start n ≡ part bytes start n
-part-put_at_beside bytes at piece start n within beside =
-    part_same (put_at bytes at piece) bytes start n (length-put_at bytes at piece within) (λ place from below.
-    let outside : (place < at) ⊎ (at + length piece ≤ place) = elim beside [ inl a ↦ inl (omega arith) | inr a ↦ inr (omega arith) ] in
-    index-put_at bytes at piece place within outside)

@@ -1,5 +1,5 @@
 -- At most one inventory is shown by a memory.
-use Rattle.std.proofs.Common.{◌≡◌, ℕ, zero, suc, ◌+◌, List, ◌∷◌, ◌++◌, Option, Some, None, MatchOption, arith, refl, ap, sym, ◌∙◌}
+use Rattle.std.proofs.Common.{◌≡◌, ℕ, ◌+◌, List, Option, Some, None, MatchOption, arith, refl, ap, sym, ◌∙◌}
 use Rattle.vt_bytes.specs.Numbers.{le}
 use Rattle.guest_memory.specs.Memory.{Memory, at, bytes_at}
 use Rattle.guest_memory.proofs.Bytes.{bytes_at-parts}
