@@ -38,6 +38,7 @@ none_given (Some all) = (λ is. cc, λ long. absurd (omega arith))
 pub ends_loaded : (r : Result (Unit {0}) Status) (bytes : List ℕ) (source source_after : SourceSeen) (out out_after : SinkSeen) (world world_after : Option Begun)
     → source.left ≡ in_front bytes source_after.left
     → IfSome source_after.left (λ rest. rest ≡ [])
+    → source_after.faults ≡ source.faults
     → IfSome source.left (λ _. (was_read bytes ≡ Err input.TooLong) ↔ (input_limit < given_count source.left source_after.left))
     → IsSomeAnd world_after (IsLoaded bytes)
     → OnOk r (IsSomeAnd world_after (λ w. Took out.taken out_after.taken (dump w.memory)))
@@ -45,31 +46,36 @@ pub ends_loaded : (r : Result (Unit {0}) Status) (bytes : List ℕ) (source sour
     → IfErr r (λ s. s ≡ status.WriteFault)
     → OnErr r (IsSomeAnd world_after (λ w. TookFront out.taken out_after.taken (dump w.memory)))
     → OnErr r (Rose out.faults out_after.faults)
+    → OnOk r (out_after.faults ≡ out.faults)
     → BootEnds (status_of r) source source_after out out_after world world_after
-ends_loaded (Ok done) bytes source source_after out out_after world world_after given end too_long is_loaded dumped flushed failed front rose = record {
+ends_loaded (Ok done) bytes source source_after out out_after world world_after given end all_sound too_long is_loaded dumped flushed failed front rose out_sound = record {
   known = λ is. cc;
   read = λ _. end;
   loaded = λ _. all_read source.left source_after.left bytes (λ all. IsSomeAnd world_after (IsLoaded all)) given end is_loaded;
   dumped = λ _. dumped;
   flushed = λ _. flushed;
   read_fault = λ is. cc;
+  read_sound = λ _. all_sound;
   too_long = not_too_long source.left status.Ok bytes _ (λ is. cc) too_long;
   refused = λ is. cc;
   write_fault = λ is. cc;
+  write_sound = λ _. out_sound;
   front = λ is. cc;
   nothing = λ other _. absurd (other refl);
   kept = tt;
 }
-ends_loaded (Err s) bytes source source_after out out_after world world_after given end too_long is_loaded dumped flushed failed front rose = rw failed (record {
+ends_loaded (Err s) bytes source source_after out out_after world world_after given end all_sound too_long is_loaded dumped flushed failed front rose out_sound = rw failed (record {
   known = λ is. cc;
   read = λ _. end;
   loaded = λ _. all_read source.left source_after.left bytes (λ all. IsSomeAnd world_after (IsLoaded all)) given end is_loaded;
   dumped = λ is. cc;
   flushed = λ is. cc;
   read_fault = λ is. cc;
+  read_sound = λ _. all_sound;
   too_long = not_too_long source.left status.WriteFault bytes _ (λ is. cc) too_long;
   refused = λ is. cc;
   write_fault = λ _. rose;
+  write_sound = λ other. absurd (other refl);
   front = λ _. front;
   nothing = λ _ other. absurd (other refl);
   kept = tt;

@@ -22,7 +22,6 @@ pub mod Loaded
 pub mod RunsOnce
 pub mod Taken
 pub mod Rows
-pub mod RowBytes
 pub mod Lines
 pub mod Parts
 pub mod AfterLoad

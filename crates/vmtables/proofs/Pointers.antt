@@ -1,5 +1,5 @@
 -- A number of a placed file that gets a place added.
-use Rattle.std.proofs.Common.{◌≡◌, ℕ, ◌+◌, ◌^◌, ◌<◌, ◌≤◌, ◌⊎◌, List, take, drop, Some, IsSome, Result, Ok, Err, IsOk, IsErr, OnOk, arith, refl, ap, subst, sym, ◌∙◌}
+use Rattle.std.proofs.Common.{◌≡◌, ℕ, ◌+◌, ◌^◌, ◌<◌, ◌≤◌, List, take, drop, Some, IsSome, Result, Ok, Err, IsOk, IsErr, OnOk, arith, refl, ap, subst, sym, ◌∙◌}
 use Rattle.std.proofs.lemmas.Result.{IfOk-at_ok}
 use Rattle.vt_bytes.specs.Numbers.{le, le_bytes}
 use Rattle.guest_memory.specs.Memory.{Memory, IsRamRange, bytes_at, Puts}
@@ -34,10 +34,6 @@ pub record IsPointer (m : Memory) (placed : List PlacedFile) (dest src : List �
 said : (m : Memory) (placed : List PlacedFile) (dest src : List ℕ) (offset size : ℕ) (p s : PlacedFile) → IsPointer m placed dest src offset size p s → IsAddPointer (files_in m placed) dest src offset size (placed_in m p) (placed_in m s)
 said m placed dest src offset size p s pointer =
     IsAddPointer-from (files_in m placed) dest src offset size (placed_in m p) (placed_in m s) (found_in m placed dest p pointer.dest_is) (found_in m placed src s pointer.src_is) pointer.lawful
-
--- the number has a lawful size
-pub pointer_size : (m : Memory) (placed : List PlacedFile) (dest src : List ℕ) (offset size : ℕ) (p s : PlacedFile) → IsPointer m placed dest src offset size p s → (size ≡ 1) ⊎ ((size ≡ 2) ⊎ ((size ≡ 4) ⊎ (size ≡ 8)))
-pointer_size m placed dest src offset size p s pointer = (said m placed dest src offset size p s pointer).lawful_size
 
 -- the number is in its file
 number_within : (m : Memory) (placed : List PlacedFile) (dest src : List ℕ) (offset size : ℕ) (p s : PlacedFile) → IsPointer m placed dest src offset size p s → offset + size ≤ p.size

@@ -19,10 +19,6 @@ behind-nothing (Some before) = ap (λ (bytes : List ℕ). Some bytes) (sym (appe
 abbrev pub TookUpTo : Option (List ℕ) → Option (List ℕ) → List ℕ → List ℕ → Type 0
 TookUpTo before after text rest = (front : List ℕ) × (text ≡ front ++ rest) × Took before after front
 
--- before the first piece
-pub took_none : (before : Option (List ℕ)) (text : List ℕ) → TookUpTo before before text text
-took_none before text = ([], refl, behind-nothing before)
-
 -- one more piece from the front of the rest, which leaves what stands after it
 pub took_piece : (before now after : Option (List ℕ)) (text rest : List ℕ) (count : ℕ) → TookUpTo before now text rest → after ≡ behind now (take count rest) → TookUpTo before after text (take (length rest - count) (drop count rest))
 took_piece before now after text rest count so_far more =
@@ -32,16 +28,6 @@ took_piece before now after text rest count so_far more =
     let taken : after ≡ behind before (so_far.0 ++ take count rest) =
     more ∙ ap (λ (o : Option (List ℕ)). behind o (take count rest)) so_far.2 ∙ behind-append before so_far.0 (take count rest) in
     rw left (so_far.0 ++ take count rest, whole, taken)
-
--- no rest is left
-pub took_all : (before after : Option (List ℕ)) (text rest : List ℕ) → TookUpTo before after text rest → rest ≡ [] → Took before after text
-took_all before after text rest so_far none =
-    let whole : so_far.0 ≡ text = sym (so_far.1 ∙ ap (λ (bytes : List ℕ). so_far.0 ++ bytes) none ∙ append-nil so_far.0) in
-    so_far.2 ∙ ap (behind before) whole
-
--- what stands before the rest is a front
-pub took_front : (before after : Option (List ℕ)) (text rest : List ℕ) → TookUpTo before after text rest → TookFront before after text
-took_front before after text rest so_far = (so_far.0, rest, so_far.1, so_far.2)
 
 -- a text, and then another
 pub took_then : (before now after : Option (List ℕ)) (text more : List ℕ) → Took before now text → Took now after more → Took before after (text ++ more)

@@ -66,9 +66,11 @@ pub record BootEnds (ended : Status) (source source_after : SourceSeen) (out out
   pub dumped : ended ≡ status.Ok → IsSomeAnd world_after (λ w. Took out.taken out_after.taken (dump w.memory))
   pub flushed : ended ≡ status.Ok → AllFlushed out_after.taken out_after.flushed
   pub read_fault : ended ≡ status.ReadFault → Rose source.faults source_after.faults
+  pub read_sound : ended ≢ status.ReadFault → source_after.faults ≡ source.faults
   pub too_long : IfSome source.left (λ _. (ended ≡ status.InputTooLong) ↔ (input_limit < given_count source.left source_after.left))
   pub refused : ended ≡ status.DescriptionRefused → IfSome source.left (λ bytes. (machine : Machine) → Reads bytes machine → ⊥)
   pub write_fault : ended ≡ status.WriteFault → Rose out.faults out_after.faults
+  pub write_sound : ended ≢ status.WriteFault → out_after.faults ≡ out.faults
   pub front : ended ≡ status.WriteFault → IsSomeAnd world_after (λ w. TookFront out.taken out_after.taken (dump w.memory))
-  pub nothing : ended ≢ status.Ok → ended ≢ status.WriteFault → out_after.taken ≡ out.taken
+  pub nothing : ended ≢ status.Ok → ended ≢ status.WriteFault → (out_after.taken ≡ out.taken) × (out_after.flushed ≡ out.flushed)
   pub kept : LeavesWorld ended world world_after

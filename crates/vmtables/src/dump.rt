@@ -1,4 +1,4 @@
-ghost use Rattle.std.specs.Prelude.{◌≡◌, ◌≤◌, ◌+◌, ◌*◌, ◌==◌, length, OnOk, OnErr};
+ghost use Rattle.std.specs.Prelude.{◌≡◌, ◌+◌, ◌*◌, ◌==◌, length, OnOk, OnErr};
 ghost use Rattle.std.specs.List.{list_all};
 ghost use Rattle.vt_outside.specs.Stream.{Rose};
 ghost use Rattle.guest_memory.specs.Memory.{IsTop, IsRamRange, bytes_at};
@@ -19,7 +19,7 @@ pub(crate) fn dump_to<K: Sink>(memory: &GuestMemory, out: &mut K) -> Result<(), 
     ensures front { OnErr result (TookFront (K.taken out.old) (K.taken out.new) (dump memory.now)) }
 
     ensures failed { OnErr result (Rose (K.faults out.old) (K.faults out.new)) }
-    ensures never_falls { K.faults out.old ≤ K.faults out.new }
+    ensures sound { OnOk result (K.faults out.new ≡ K.faults out.old) }
 {
     let top = u64::from(memory.top());
     write_all(out, &header(memory.top(), memory.fill()))?;
@@ -42,34 +42,21 @@ fn dump_rows<K: Sink>(
     ensures front { OnErr result (TookFront (K.taken out.old) (K.taken out.new) (rows_text memory.now start count)) }
 
     ensures failed { OnErr result (Rose (K.faults out.old) (K.faults out.new)) }
-    ensures never_falls { K.faults out.old ≤ K.faults out.new }
+    ensures sound { OnOk result (K.faults out.new ≡ K.faults out.old) }
 {
     let fill = memory.fill();
     for k in 0..count {
         let address = start + ROW * k;
-        let row = row_at(memory, address);
-        if !is_filled(&row, fill) {
-            write_all(out, &line(address as u32, &row))?;
+        let row = memory.bytes_at(address, ROW as usize);
+        if !is_filled(row, fill) {
+            write_all(out, &line(address as u32, row))?;
         }
     }
     Ok(())
 }
 
-// The 16 bytes at an address.
-fn row_at(memory: &GuestMemory, address: u64) -> [u8; 16]
-    requires lawful { IsTop memory.now.top }
-    requires ram { IsRamRange memory.now.top address 16 }
-    ensures { result ≡ bytes_at memory.now address 16 }
-{
-    let mut row = [0; 16];
-    for (place, byte) in row.iter_mut().enumerate() {
-        *byte = memory.read(address + place as u64);
-    }
-    row
-}
-
-// Whether all 16 bytes are the fill byte.
-fn is_filled(row: &[u8; 16], fill: u8) -> bool
+// Whether all bytes are the fill byte.
+fn is_filled(row: &[u8], fill: u8) -> bool
     ensures { result ≡ list_all (λ byte. byte == fill) row.now }
 {
     row.iter().all(|byte| *byte == fill)
@@ -84,7 +71,8 @@ fn header(top: u32, fill: u8) -> [u8; 21]
     text
 }
 
-fn line(address: u32, row: &[u8; 16]) -> [u8; 42]
+fn line(address: u32, row: &[u8]) -> [u8; 42]
+    requires { length row.now ≡ 16 }
     ensures { result ≡ row_text address row.now }
 {
     let mut text = [b' '; 42];

@@ -1,4 +1,4 @@
-ghost use Rattle.std.specs.Prelude.{◌≡◌, ℕ, ◌<◌, ◌≤◌, ◌↔◌, [], length, Err, IfOk, OnOk, IfSome};
+ghost use Rattle.std.specs.Prelude.{◌≡◌, ◌≢◌, ℕ, ◌<◌, ◌≤◌, ◌↔◌, [], length, Err, IfOk, OnOk, IfSome};
 ghost use Rattle.vt_outside.specs.Stream.{Rose, in_front};
 ghost use Rattle.vmtables.specs.Outcome.{input_limit, given_count};
 
@@ -42,7 +42,7 @@ pub(crate) fn read_to_end<S: Source>(alloc: Global, source: &mut S) -> Result<By
     ensures failed { result ≡ Err InputFault.Failed → Rose (S.faults source.old) (S.faults source.new) }
     ensures too_long { IfSome (S.left source.old) (λ _.
         (result ≡ Err InputFault.TooLong) ↔ (input_limit < given_count (S.left source.old) (S.left source.new))) }
-    ensures never_falls { S.faults source.old ≤ S.faults source.new }
+    ensures sound { result ≢ Err InputFault.Failed → S.faults source.new ≡ S.faults source.old }
 {
     let mut bytes = Bytes::new(alloc);
     let mut piece = buffer(alloc, PIECE)?;

@@ -1,4 +1,4 @@
-ghost use Rattle.std.specs.Prelude.{◌≡◌, ◌≤◌, length, OnOk, OnErr};
+ghost use Rattle.std.specs.Prelude.{◌≡◌, length, OnOk, OnErr};
 ghost use Rattle.vt_outside.specs.Stream.{Rose};
 ghost use Rattle.vmtables.specs.Output.{Took, TookFront};
 
@@ -11,7 +11,7 @@ pub(crate) fn write_all<K: Sink>(out: &mut K, text: &[u8]) -> Result<(), Failed>
     ensures unflushed { K.flushed out.new ≡ K.flushed out.old }
 
     ensures failed { OnErr result (Rose (K.faults out.old) (K.faults out.new)) }
-    ensures never_falls { K.faults out.old ≤ K.faults out.new }
+    ensures sound { OnOk result (K.faults out.new ≡ K.faults out.old) }
 {
     let mut rest = text;
     while !rest.is_empty() {

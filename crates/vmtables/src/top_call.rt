@@ -46,23 +46,24 @@ pub fn top<S: Source, K: Sink, E: Sink>(
     // When each other status comes. Want of memory may come at any time.
     ensures usage { (result ≡ Status.Usage) ↔ (command_of (map string_bytes words.now) ≡ None) }
     ensures read_fault { result ≡ Status.ReadFault → Rose (S.faults source.old) (S.faults source.new) }
+    ensures read_sound { result ≢ Status.ReadFault → S.faults source.new ≡ S.faults source.old }
     ensures too_long { IfSome (S.left source.old) (λ _.
         (result ≡ Status.InputTooLong) ↔ (input_limit < given_count (S.left source.old) (S.left source.new))) }
     ensures refused { result ≡ Status.DescriptionRefused → IfSome (S.left source.old) (λ bytes.
         (machine : Machine) → Reads bytes machine → ⊥) }
     ensures write_fault { result ≡ Status.WriteFault → Rose (K.faults out.old) (K.faults out.new) }
+    ensures write_sound { result ≢ Status.WriteFault → K.faults out.new ≡ K.faults out.old }
 
     // What is left with another status than Ok.
     ensures front { result ≡ Status.WriteFault → IsSomeAnd world.new (λ w. TookFront (K.taken out.old) (K.taken out.new) (dump w.memory)) }
-    ensures nothing { result ≢ Status.Ok → result ≢ Status.WriteFault → K.taken out.new ≡ K.taken out.old }
+    ensures nothing { result ≢ Status.Ok → result ≢ Status.WriteFault → (K.taken out.new ≡ K.taken out.old) × (K.flushed out.new ≡ K.flushed out.old) }
     ensures world { LeavesWorld result world.old world.new }
 
-    // Where the words are no command the source and out aren't used.
-    ensures unread { result ≡ Status.Usage → (S.left source.new ≡ S.left source.old) × (S.faults source.new ≡ S.faults source.old) }
-    ensures unused { result ≡ Status.Usage → (K.flushed out.new ≡ K.flushed out.old) × (K.faults out.new ≡ K.faults out.old) }
+    // Where the words are no command the source isn't read.
+    ensures unread { result ≡ Status.Usage → S.left source.new ≡ S.left source.old }
 
     // Say took the line of the status, or, where it failed, a part of it from its front.
-    ensures said { Took (E.taken say.old) (E.taken say.new) (line_of result)
+    ensures said { (Took (E.taken say.old) (E.taken say.new) (line_of result) × (E.faults say.new ≡ E.faults say.old))
         ⊎ (TookFront (E.taken say.old) (E.taken say.new) (line_of result) × Rose (E.faults say.old) (E.faults say.new)) }
 {
     let outcome = match read_words(words) {
@@ -125,6 +126,7 @@ fn write_dump<K: Sink>(world: &World, out: &mut K) -> Result<(), Status>
     ensures status { IfErr result (λ status. status ≡ Status.WriteFault) }
     ensures front { OnErr result (IsSomeAnd world.now (λ w. TookFront (K.taken out.old) (K.taken out.new) (dump w.memory))) }
     ensures write_fault { OnErr result (Rose (K.faults out.old) (K.faults out.new)) }
+    ensures sound { OnOk result (K.faults out.new ≡ K.faults out.old) }
 {
     match dump_to(world.memory(), out) {
         Ok(()) => flush(out),
@@ -137,7 +139,7 @@ fn flush<K: Sink>(out: &mut K) -> Result<(), Status>
     ensures flushed { OnOk result (AllFlushed (K.taken out.new) (K.flushed out.new)) }
     ensures status { IfErr result (λ status. status ≡ Status.WriteFault) }
     ensures write_fault { OnErr result (Rose (K.faults out.old) (K.faults out.new)) }
-    ensures never_falls { K.faults out.old ≤ K.faults out.new }
+    ensures sound { OnOk result (K.faults out.new ≡ K.faults out.old) }
 {
     match out.flush() {
         Ok(()) => Ok(()),

@@ -1,33 +1,37 @@
-use Rattle.std.proofs.Common.{arith, ap, ◌∙◌}
+use Rattle.std.proofs.Common.{length, refl, ap, ◌∙◌}
+use Rattle.guest_memory.proofs.Bytes.{length-bytes_at}
 use Rattle.vmtables.proofs.Taken.{on_err}
 use Rattle.vmtables.proofs.Rows.{row_ram, line_at-filled, line_at-written, rows_none, rows_more, rows_same, rows_failed}
 use Rattle.vmtables.proofs.dump.dump_rows.Goals as goal
 use Rattle.vmtables.proofs.dump.dump_rows.Goals.{then-not-is_filled+in_ok-write_all, else-not-is_filled}
 
 pub loop-k-init : goal.loop-k-init
-loop-k-init g c = record { so_far = rows_none _ _ _; never_fell = omega arith }
+loop-k-init g c = record { so_far = rows_none _ _ _; sound = refl }
 
-pub row_at-row-requires-clause-ram : goal.row_at-row-requires-clause-ram
-row_at-row-requires-clause-ram g c = row_ram _ _ c.args.count _ c.requires.ram c.loop-k-test.true
+pub bytes_at-row-requires : goal.bytes_at-row-requires
+bytes_at-row-requires g c = row_ram _ _ c.args.count _ c.requires.ram c.loop-k-test.true
+
+pub line-requires : goal.line-requires
+line-requires g c = ap length c.bytes_at-row.ensures ∙ length-bytes_at _ _ _
 
 pub returns-in_err-write_all-clause-front : goal.returns-in_err-write_all-clause-front
 returns-in_err-write_all-clause-front g c =
-    let is_line = line_at-written c.args.memory.now c.args.start c.loop-k.k _ _ _ _ c.row_at-row.ensures c.fill-fill.ensures c.is_filled.ensures c.if-not-is_filled.true c.line.ensures in
+    let is_line = line_at-written c.args.memory.now c.args.start c.loop-k.k _ _ _ _ c.bytes_at-row.ensures c.fill-fill.ensures c.is_filled.ensures c.if-not-is_filled.true c.line.ensures in
     on_err c.from_residual.result _ (rows_failed _ _ _ _ _ _ _ _ c.loop-k-test.true c.loop-k.invariant.so_far c.in_err-write_all.ensures.front is_line)
 
 pub loop-k-preserved : goal.loop-k-preserved
 loop-k-preserved g c =
     elim c.if-not-is_filled.branch [
       | then-not-is_filled+in_ok-write_all w ↦
-          let is_line = line_at-written c.args.memory.now c.args.start c.loop-k.k _ _ _ _ c.row_at-row.ensures c.fill-fill.ensures c.is_filled.ensures w.if-not-is_filled.true w.line.ensures in
+          let is_line = line_at-written c.args.memory.now c.args.start c.loop-k.k _ _ _ _ c.bytes_at-row.ensures c.fill-fill.ensures c.is_filled.ensures w.if-not-is_filled.true w.line.ensures in
           record {
             so_far = ap g.K.Sink.taken w.out-is ∙ rows_more _ _ _ _ _ _ _ c.loop-k.invariant.so_far w.in_ok-write_all.ensures.ok is_line;
-            never_fell = omega (arith, ap g.K.Sink.faults w.out-is, c.loop-k.invariant.never_fell, w.in_ok-write_all.ensures.never_falls);
+            sound = ap g.K.Sink.faults w.out-is ∙ w.in_ok-write_all.ensures.sound ∙ c.loop-k.invariant.sound;
           }
       | else-not-is_filled w ↦
-          let no_line = line_at-filled c.args.memory.now c.args.start c.loop-k.k _ _ _ c.row_at-row.ensures c.fill-fill.ensures c.is_filled.ensures w.if-not-is_filled.false in
+          let no_line = line_at-filled c.args.memory.now c.args.start c.loop-k.k _ _ _ c.bytes_at-row.ensures c.fill-fill.ensures c.is_filled.ensures w.if-not-is_filled.false in
           record {
             so_far = ap g.K.Sink.taken w.out-is ∙ rows_same _ _ _ _ _ c.loop-k.invariant.so_far no_line;
-            never_fell = omega (arith, ap g.K.Sink.faults w.out-is, c.loop-k.invariant.never_fell);
+            sound = ap g.K.Sink.faults w.out-is ∙ c.loop-k.invariant.sound;
           }
     ]

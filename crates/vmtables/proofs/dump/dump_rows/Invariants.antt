@@ -1,4 +1,4 @@
-use Rattle.std.proofs.Common.{◌≤◌}
+use Rattle.std.proofs.Common.{◌≡◌}
 use Rattle.vmtables.specs.Dump.{rows_text}
 use Rattle.vmtables.specs.Output.{Took}
 use Rattle.vmtables.proofs.dump.dump_rows.Given as goal
@@ -6,5 +6,5 @@ use Rattle.vmtables.proofs.dump.dump_rows.Given as goal
 abbrev pub invariant-loop-k : goal.invariant-loop-k
 invariant-loop-k g l = record {
   so_far : Took (g.K.Sink.taken l.initial.out) (g.K.Sink.taken l.out) (rows_text l.memory l.start l.k);
-  never_fell : g.K.Sink.faults l.initial.out ≤ g.K.Sink.faults l.out;
+  sound : g.K.Sink.faults l.out ≡ g.K.Sink.faults l.initial.out;
 }

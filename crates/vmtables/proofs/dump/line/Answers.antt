@@ -3,4 +3,4 @@ use Rattle.vmtables.proofs.dump.line.Goals as goal
 
 pub returns : goal.returns
 returns c =
-    line_written c.args.address c.args.row.now _ _ _ c.told-row c.to_be_bytes.ensures c.put_hex.ensures c.put_hex-2.ensures
+    line_written c.args.address c.args.row.now _ _ _ c.requires c.to_be_bytes.ensures c.put_hex.ensures c.put_hex-2.ensures

@@ -7,7 +7,7 @@ abbrev pub invariant-loop-count : goal.invariant-loop-count
 invariant-loop-count g l = record {
   given : g.S.Source.left l.initial.source ≡ in_front l.bytes (g.S.Source.left l.source);
   within : length l.bytes ≤ input_limit;
-  never_fell : g.S.Source.faults l.initial.source ≤ g.S.Source.faults l.source;
+  sound : g.S.Source.faults l.source ≡ g.S.Source.faults l.initial.source;
   some : 0 < length l.piece.items;
 }
 

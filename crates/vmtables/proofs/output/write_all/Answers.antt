@@ -1,4 +1,4 @@
-use Rattle.std.proofs.Common.{arith, ◌∙◌}
+use Rattle.std.proofs.Common.{◌∙◌}
 use Rattle.vmtables.proofs.Taken.{took_piece}
 use Rattle.vmtables.proofs.output.write_all.Goals as goal
 
@@ -6,5 +6,5 @@ pub loop-rest-preserved : goal.loop-rest-preserved
 loop-rest-preserved g c = record {
   so_far = took_piece _ _ _ _ _ _ c.loop-rest.invariant.so_far c.in_ok-count.ensures.took;
   unflushed = c.in_ok-count.ensures.unflushed ∙ c.loop-rest.invariant.unflushed;
-  never_fell = omega (arith, c.loop-rest.invariant.never_fell, c.in_ok-count.ensures.never_falls);
+  sound = c.in_ok-count.ensures.sound ∙ c.loop-rest.invariant.sound;
 }
