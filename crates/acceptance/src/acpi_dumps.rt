@@ -1,7 +1,7 @@
 //! Descriptions with ACPI tables, and the dumps of the machines that they describe. The dumps were made by a program
 //! apart from this one, from ACPI 6.5, IA-PC HPET 1.0a and DSP0134.
 
-use crate::runs::boot;
+use acceptance_runs::boot;
 use std::test::Fail;
 use vmtables::Status;
 

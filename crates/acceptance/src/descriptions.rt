@@ -1,6 +1,6 @@
 //! Descriptions that are refused, and those on the border that are accepted.
 
-use crate::runs::{Ran, boot};
+use acceptance_runs::{Ran, boot};
 use std::alloc::Global;
 use std::process::Abort;
 use std::test::Fail;

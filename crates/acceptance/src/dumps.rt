@@ -1,28 +1,11 @@
 //! Descriptions, and the dumps of the machines that they describe. The dumps were made by a program apart from this
 //! one, from DSP0134.
 
-use crate::runs::boot;
+use acceptance_runs::{MINIMAL, MINIMAL_DUMP, boot};
 use std::alloc::Global;
 use std::test::Fail;
 use vmtables::Status;
 use vt_outside::{OutOfMemory, Text};
-
-const MINIMAL: &str = "version = 1
-top_mib = 64
-[system]
-manufacturer = \"ACME\"
-product = \"VM\"
-uuid = \"00112233-4455-6677-8899-aabbccddeeff\"
-";
-
-const MINIMAL_DUMP: &str = "top 04000000 fill 00
-000f0000 5f534d335f261803000001002a000000
-000f0010 00000003000000000000000000000000
-03000000 011b0001010200003322110055447766
-03000010 8899aabbccddeeff06000041434d4500
-03000020 564d00007f04007f0000000000000000
-end
-";
 
 // The same machine in other spellings of TOML, and with the other texts of its UUID.
 const SPELLINGS: [&str; 9] = [

@@ -7,5 +7,3 @@ mod acpi_dumps;
 mod descriptions;
 #[cfg(test)]
 mod dumps;
-#[cfg(test)]
-mod runs;

@@ -1,8 +1,8 @@
 //! Sources that fail, and sources that give their bytes in pieces.
 
-use crate::runs::{MINIMAL_DUMP, ROOM, boot, minimal_source, sink};
+use acceptance_runs::{MINIMAL, MINIMAL_DUMP, run, source};
 use std::test::Fail;
-use vmtables::{State, Status};
+use vmtables::{State, Status, World};
 
 // How many bytes a call gives at most, and the calls that fail. In pieces of 117 bytes the second call tells the end.
 const FAILING: [(usize, &[u32]); 5] = [
@@ -26,12 +26,13 @@ const UNFAILING: [(usize, &[u32]); 5] = [
 fn sources_that_fail(rt: HostRuntime) -> Result<(), Fail> {
     for (piece, fails) in FAILING {
         assert!(rt; piece > 0);
-        let source = minimal_source(rt.alloc(), piece, fails)?;
-        let ran = boot(rt.alloc(), source, sink(rt.alloc(), ROOM, &[])?)?;
+        let mut source = source(rt.alloc(), MINIMAL.as_bytes(), piece, fails)?;
+        let mut world = World::idle();
+        let ran = run(rt.alloc(), &["boot"], &mut source, &mut world)?;
         assert_eq!(rt; ran.status, Status::ReadFault, "at {piece}");
         assert_eq!(rt; ran.out.taken().len(), 0, "at {piece}");
         assert_eq!(rt; ran.say.taken(), b"read fault\n".as_slice(), "at {piece}");
-        assert_eq!(rt; ran.state, State::Idle, "at {piece}");
+        assert_eq!(rt; world.state(), State::Idle, "at {piece}");
     }
     Ok(())
 }
@@ -40,12 +41,13 @@ fn sources_that_fail(rt: HostRuntime) -> Result<(), Fail> {
 fn sources_in_pieces(rt: HostRuntime) -> Result<(), Fail> {
     for (piece, fails) in UNFAILING {
         assert!(rt; piece > 0);
-        let source = minimal_source(rt.alloc(), piece, fails)?;
-        let ran = boot(rt.alloc(), source, sink(rt.alloc(), ROOM, &[])?)?;
+        let mut source = source(rt.alloc(), MINIMAL.as_bytes(), piece, fails)?;
+        let mut world = World::idle();
+        let ran = run(rt.alloc(), &["boot"], &mut source, &mut world)?;
         assert_eq!(rt; ran.status, Status::Ok, "at {piece}");
-        assert_eq!(rt; ran.out.taken(), MINIMAL_DUMP, "at {piece}");
+        assert_eq!(rt; ran.out.taken(), MINIMAL_DUMP.as_bytes(), "at {piece}");
         assert_eq!(rt; ran.say.taken().len(), 0, "at {piece}");
-        assert_eq!(rt; ran.state, State::Done, "at {piece}");
+        assert_eq!(rt; world.state(), State::Done, "at {piece}");
     }
     Ok(())
 }

@@ -3,9 +3,9 @@
 ghost use Rattle.std.specs.Prelude.{◌≡◌, ◌<◌, ◌≤◌, ◌-◌, ◌^◌, length, None, IfOk, IfSome, OnErr};
 ghost use Rattle.vt_outside.specs.Stream.{Rose, in_front};
 
-use crate::runs::{boot_word, sink};
+use acceptance_runs::run;
 use std::test::Fail;
-use vmtables::{State, Status, World, top};
+use vmtables::{State, Status, World};
 use vt_outside::{Failed, Source};
 
 // Each call fills all that it is given, and is counted by its bytes.
@@ -30,20 +30,11 @@ impl Source for Endless {
 #[test]
 fn a_source_that_never_ends(rt: HostRuntime) -> Result<(), Fail> {
     let mut source = Endless { byte: 0, given: 0 };
-    let mut out = sink(rt.alloc())?;
-    let mut say = sink(rt.alloc())?;
     let mut world = World::idle();
-    let status = top(
-        rt.alloc(),
-        boot_word(rt.alloc())?.as_slice(),
-        &mut source,
-        &mut out,
-        &mut say,
-        &mut world,
-    );
-    assert_eq!(rt; status, Status::InputTooLong);
-    assert_eq!(rt; out.taken().len(), 0);
-    assert_eq!(rt; say.taken(), b"input too long\n".as_slice());
+    let ran = run(rt.alloc(), &["boot"], &mut source, &mut world)?;
+    assert_eq!(rt; ran.status, Status::InputTooLong);
+    assert_eq!(rt; ran.out.taken().len(), 0);
+    assert_eq!(rt; ran.say.taken(), b"input too long\n".as_slice());
     assert_eq!(rt; world.state(), State::Idle);
     // it gave more bytes than an input may have, but by no more than the call after the last that fits
     assert!(rt; source.given > 67_108_864);

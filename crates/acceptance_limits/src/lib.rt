@@ -5,5 +5,3 @@
 mod endless;
 #[cfg(test)]
 mod limits;
-#[cfg(test)]
-mod runs;

@@ -1,36 +1,22 @@
 //! Inputs of as many bytes as one may have, and of one more.
 
-use crate::runs::{boot, padded};
+ghost use Rattle.std.specs.Prelude.{◌<◌};
+
+use acceptance_runs::{MINIMAL, MINIMAL_DUMP, Ran, copy_of, run};
+use std::alloc::Global;
 use std::test::Fail;
-use vmtables::Status;
+use vmtables::{Status, World};
+use vt_outside::{Bytes, List, ListSource, OutOfMemory};
 
 // How many bytes an input may have.
 const LIMIT: usize = 67_108_864;
 
-const MINIMAL: &[u8] = b"version = 1
-top_mib = 64
-[system]
-manufacturer = \"ACME\"
-product = \"VM\"
-uuid = \"00112233-4455-6677-8899-aabbccddeeff\"
-";
-
-// Made by a program apart from this one, from DSP0134.
-const MINIMAL_DUMP: &[u8] = b"top 04000000 fill 00
-000f0000 5f534d335f261803000001002a000000
-000f0010 00000003000000000000000000000000
-03000000 011b0001010200003322110055447766
-03000010 8899aabbccddeeff06000041434d4500
-03000020 564d00007f04007f0000000000000000
-end
-";
-
 #[test]
 fn the_longest_description(rt: HostRuntime) -> Result<(), Fail> {
-    let input = padded(rt.alloc(), MINIMAL, b'\n', LIMIT)?;
+    let input = padded(rt.alloc(), MINIMAL.as_bytes(), b'\n', LIMIT)?;
     let ran = boot(rt.alloc(), input, 65_536)?;
     assert_eq!(rt; ran.status, Status::Ok);
-    assert_eq!(rt; ran.out.taken(), MINIMAL_DUMP);
+    assert_eq!(rt; ran.out.taken(), MINIMAL_DUMP.as_bytes());
     assert_eq!(rt; ran.say.taken().len(), 0);
     Ok(())
 }
@@ -62,7 +48,7 @@ fn inputs_that_are_too_long(rt: HostRuntime) -> Result<(), Fail> {
         (LIMIT + 65_537, usize::MAX),
     ] {
         assert!(rt; piece > 0);
-        let input = padded(rt.alloc(), MINIMAL, b'\n', len)?;
+        let input = padded(rt.alloc(), MINIMAL.as_bytes(), b'\n', len)?;
         let ran = boot(rt.alloc(), input, piece)?;
         assert_eq!(rt; ran.status, Status::InputTooLong, "at {len}, {piece}");
         assert_eq!(rt; ran.out.taken().len(), 0, "at {len}, {piece}");
@@ -73,4 +59,21 @@ fn inputs_that_are_too_long(rt: HostRuntime) -> Result<(), Fail> {
         );
     }
     Ok(())
+}
+
+// Boots an input that is given in pieces of so many bytes.
+fn boot(alloc: Global, input: Bytes, piece: usize) -> Result<Ran, OutOfMemory>
+    requires { 0 < piece }
+{
+    let mut source = ListSource::new(input, piece, List::new(alloc));
+    run(alloc, &["boot"], &mut source, &mut World::idle())
+}
+
+// A text, and then one byte again and again, `len` bytes in all.
+fn padded(alloc: Global, text: &[u8], byte: u8, len: usize) -> Result<Bytes, OutOfMemory> {
+    let mut bytes = copy_of(alloc, text)?;
+    for _ in text.len()..len {
+        bytes.push(byte)?;
+    }
+    Ok(bytes)
 }

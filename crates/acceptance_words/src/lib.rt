@@ -2,8 +2,6 @@
 #![tactic(auto)]
 
 #[cfg(test)]
-mod runs;
-#[cfg(test)]
 mod says;
 #[cfg(test)]
 mod words;

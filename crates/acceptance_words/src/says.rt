@@ -1,6 +1,6 @@
 //! A `say` that fails changes nothing but what it took.
 
-use crate::runs::{MINIMAL, ROOM, Streams, run, sink, source};
+use acceptance_runs::{MINIMAL, ROOM, run_on, sink, source};
 use std::alloc::Global;
 use std::test::Fail;
 use vmtables::{Status, World};
@@ -10,7 +10,7 @@ use vt_outside::{ListSink, OutOfMemory};
 // ends: its status, and the line that says it.
 struct Ending {
     word: &'static str,
-    description: &'static [u8],
+    description: &'static str,
     fails: &'static [u32],
     room: usize,
     status: Status,
@@ -44,7 +44,7 @@ const ENDINGS: [Ending; 5] = [
     },
     Ending {
         word: "boot",
-        description: b"version = 2\n",
+        description: "version = 2\n",
         fails: &[],
         room: ROOM,
         status: Status::DescriptionRefused,
@@ -93,11 +93,17 @@ fn run_to(
     room: usize,
     fails: &[u32],
 ) -> Result<(Status, ListSink), OutOfMemory> {
-    let mut streams = Streams {
-        source: source(alloc, ending.description, ending.fails)?,
-        out: sink(alloc, ending.room, &[])?,
-        say: sink(alloc, room, fails)?,
-    };
-    let status = run(alloc, &[ending.word], &mut streams, &mut World::idle())?;
-    Ok((status, streams.say))
+    let mut source = source(alloc, ending.description.as_bytes(), ROOM, ending.fails)?;
+    let mut out = sink(alloc, ending.room, &[])?;
+    let mut say = sink(alloc, room, fails)?;
+    let words = [ending.word];
+    let status = run_on(
+        alloc,
+        &words,
+        &mut source,
+        &mut out,
+        &mut say,
+        &mut World::idle(),
+    )?;
+    Ok((status, say))
 }

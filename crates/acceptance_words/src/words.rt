@@ -1,8 +1,9 @@
 //! Words that are no command, and the numbers of statuses.
 
-use crate::runs::{MINIMAL, Streams, run};
+use acceptance_runs::{MINIMAL, ROOM, run, source};
 use std::test::Fail;
 use vmtables::{State, Status, World};
+use vt_outside::Source;
 
 const NO_COMMANDS: [&[&str]; 22] = [
     &[],
@@ -35,19 +36,23 @@ const NO_COMMANDS: [&[&str]; 22] = [
 #[test]
 fn words_that_are_no_command(rt: HostRuntime) -> Result<(), Fail> {
     for words in NO_COMMANDS {
-        let mut streams = Streams::of(rt.alloc(), MINIMAL)?;
+        let mut source = source(rt.alloc(), MINIMAL.as_bytes(), ROOM, &[])?;
         let mut world = World::idle();
-        let status = run(rt.alloc(), words, &mut streams, &mut world)?;
-        assert_eq!(rt; status, Status::Usage, "at {words:?}");
+        let ran = run(rt.alloc(), words, &mut source, &mut world)?;
+        assert_eq!(rt; ran.status, Status::Usage, "at {words:?}");
         assert_eq!(rt;
-            streams.say.taken(),
+            ran.say.taken(),
             b"usage: vmtables build, load, decode, boot, lint or gen\n".as_slice(),
             "at {words:?}"
         );
-        assert_eq!(rt; streams.out.taken().len(), 0, "at {words:?}");
+        assert_eq!(rt; ran.out.taken().len(), 0, "at {words:?}");
         assert_eq!(rt; world.state(), State::Idle, "at {words:?}");
         // nothing was read
-        assert_eq!(rt; streams.rest(), MINIMAL.len(), "at {words:?}");
+        assert_eq!(rt;
+            source.read(&mut [0; ROOM]).unwrap_or(0),
+            MINIMAL.len(),
+            "at {words:?}"
+        );
     }
     Ok(())
 }

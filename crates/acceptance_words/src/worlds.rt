@@ -1,14 +1,14 @@
 //! What becomes of a world over many runs.
 
-use crate::runs::{MINIMAL, ROOM, Streams, run, sink, source};
+use acceptance_runs::{MINIMAL, ROOM, run, source};
 use std::alloc::Global;
 use std::test::Fail;
 use vmtables::{State, Status, World};
 use vt_outside::OutOfMemory;
 
-const LARGER: &[u8] = b"version = 1\ntop_mib = 65\nsystem = {}\n";
+const LARGER: &str = "version = 1\ntop_mib = 65\nsystem = {}\n";
 
-const REFUSED: &[u8] = b"version = 2\ntop_mib = 65\nsystem = {}\n";
+const REFUSED: &str = "version = 2\ntop_mib = 65\nsystem = {}\n";
 
 // What is seen of a world: whether a machine is loaded, the top of its memory, and the checksum of its anchor, which
 // the bytes of the anchor give by DSP0134 5.2.2.
@@ -31,7 +31,7 @@ const LARGER_LOADED: Seen = Seen::Loaded {
 
 // One run after the other in one world: the words, the description, the calls of its source that fail, the status, and
 // what is seen of the world after it.
-const RUNS: [(&[&str], &[u8], &[u32], Status, Seen); 13] = [
+const RUNS: [(&[&str], &str, &[u32], Status, Seen); 13] = [
     (
         &["boot"],
         REFUSED,
@@ -87,16 +87,12 @@ fn runs_in_one_world(rt: HostRuntime) -> Result<(), Fail> {
 fn run_in(
     alloc: Global,
     words: &[&str],
-    description: &[u8],
+    description: &str,
     fails: &[u32],
     world: &mut World,
 ) -> Result<Status, OutOfMemory> {
-    let mut streams = Streams {
-        source: source(alloc, description, fails)?,
-        out: sink(alloc, ROOM, &[])?,
-        say: sink(alloc, ROOM, &[])?,
-    };
-    run(alloc, words, &mut streams, world)
+    let mut source = source(alloc, description.as_bytes(), ROOM, fails)?;
+    Ok(run(alloc, words, &mut source, world)?.status)
 }
 
 fn seen_of(world: &World) -> Seen {
