@@ -68,12 +68,17 @@ fn run(rt: &HostRuntime, words: &[String]) -> ExitCode {
 fn print_text(rt: &HostRuntime, text: &str) -> ExitCode {
     match rt.print(text) {
         Ok(()) => ExitCode::from(Status::Ok.number()),
-        Err(_) => ExitCode::from(Status::WriteFault.number()),
+        Err(_) => ended(rt, Status::WriteFault, "write fault"),
     }
 }
 
 // Ends a process that has no memory even to begin.
 fn out_of_memory(rt: &HostRuntime) -> ExitCode {
-    let _ = rt.eprintln("out of memory");
-    ExitCode::from(Status::OutOfMemory.number())
+    ended(rt, Status::OutOfMemory, "out of memory")
+}
+
+// Ends a process before the top call, or without it, with the line that the top call has for the status.
+fn ended(rt: &HostRuntime, status: Status, line: &str) -> ExitCode {
+    let _ = rt.eprintln(line);
+    ExitCode::from(status.number())
 }
