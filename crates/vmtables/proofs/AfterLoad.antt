@@ -45,10 +45,11 @@ pub ends_loaded : (r : Result (Unit {0}) Status) (bytes : List ℕ) (source sour
     → OnOk r (AllFlushed out_after.taken out_after.flushed)
     → IfErr r (λ s. s ≡ status.WriteFault)
     → OnErr r (IsSomeAnd world_after (λ w. TookFront out.taken out_after.taken (dump w.memory)))
+    → OnErr r (out_after.flushed ≡ out.flushed)
     → OnErr r (Rose out.faults out_after.faults)
     → OnOk r (out_after.faults ≡ out.faults)
     → BootEnds (status_of r) source source_after out out_after world world_after
-ends_loaded (Ok done) bytes source source_after out out_after world world_after given end all_sound too_long is_loaded dumped flushed failed front rose out_sound = record {
+ends_loaded (Ok done) bytes source source_after out out_after world world_after given end all_sound too_long is_loaded dumped flushed failed front out_unflushed rose out_sound = record {
   known = λ is. cc;
   read = λ _. end;
   loaded = λ _. all_read source.left source_after.left bytes (λ all. IsSomeAnd world_after (IsLoaded all)) given end is_loaded;
@@ -62,9 +63,10 @@ ends_loaded (Ok done) bytes source source_after out out_after world world_after 
   write_sound = λ _. out_sound;
   front = λ is. cc;
   nothing = λ other _. absurd (other refl);
+  unflushed = λ other. absurd (other refl);
   kept = tt;
 }
-ends_loaded (Err s) bytes source source_after out out_after world world_after given end all_sound too_long is_loaded dumped flushed failed front rose out_sound = rw failed (record {
+ends_loaded (Err s) bytes source source_after out out_after world world_after given end all_sound too_long is_loaded dumped flushed failed front out_unflushed rose out_sound = rw failed (record {
   known = λ is. cc;
   read = λ _. end;
   loaded = λ _. all_read source.left source_after.left bytes (λ all. IsSomeAnd world_after (IsLoaded all)) given end is_loaded;
@@ -78,5 +80,6 @@ ends_loaded (Err s) bytes source source_after out out_after world world_after gi
   write_sound = λ other. absurd (other refl);
   front = λ _. front;
   nothing = λ _ other. absurd (other refl);
+  unflushed = λ _. out_unflushed;
   kept = tt;
 })

@@ -72,5 +72,6 @@ pub record BootEnds (ended : Status) (source source_after : SourceSeen) (out out
   pub write_fault : ended ≡ status.WriteFault → Rose out.faults out_after.faults
   pub write_sound : ended ≢ status.WriteFault → out_after.faults ≡ out.faults
   pub front : ended ≡ status.WriteFault → IsSomeAnd world_after (λ w. TookFront out.taken out_after.taken (dump w.memory))
-  pub nothing : ended ≢ status.Ok → ended ≢ status.WriteFault → (out_after.taken ≡ out.taken) × (out_after.flushed ≡ out.flushed)
+  pub nothing : ended ≢ status.Ok → ended ≢ status.WriteFault → out_after.taken ≡ out.taken
+  pub unflushed : ended ≢ status.Ok → out_after.flushed ≡ out.flushed
   pub kept : LeavesWorld ended world world_after

@@ -17,6 +17,7 @@ const ROW: u64 = 16;
 pub(crate) fn dump_to<K: Sink>(memory: &GuestMemory, out: &mut K) -> Result<(), Failed>
     ensures ok { OnOk result (Took (K.taken out.old) (K.taken out.new) (dump memory.now)) }
     ensures front { OnErr result (TookFront (K.taken out.old) (K.taken out.new) (dump memory.now)) }
+    ensures unflushed { K.flushed out.new ≡ K.flushed out.old }
 
     ensures failed { OnErr result (Rose (K.faults out.old) (K.faults out.new)) }
     ensures sound { OnOk result (K.faults out.new ≡ K.faults out.old) }
@@ -40,6 +41,7 @@ fn dump_rows<K: Sink>(
     requires ram { IsRamRange memory.now.top start (16 * count) }
     ensures ok { OnOk result (Took (K.taken out.old) (K.taken out.new) (rows_text memory.now start count)) }
     ensures front { OnErr result (TookFront (K.taken out.old) (K.taken out.new) (rows_text memory.now start count)) }
+    ensures unflushed { K.flushed out.new ≡ K.flushed out.old }
 
     ensures failed { OnErr result (Rose (K.faults out.old) (K.faults out.new)) }
     ensures sound { OnOk result (K.faults out.new ≡ K.faults out.old) }

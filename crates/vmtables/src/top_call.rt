@@ -56,7 +56,8 @@ pub fn top<S: Source, K: Sink, E: Sink>(
 
     // What is left with another status than Ok.
     ensures front { result ≡ Status.WriteFault → IsSomeAnd world.new (λ w. TookFront (K.taken out.old) (K.taken out.new) (dump w.memory)) }
-    ensures nothing { result ≢ Status.Ok → result ≢ Status.WriteFault → (K.taken out.new ≡ K.taken out.old) × (K.flushed out.new ≡ K.flushed out.old) }
+    ensures nothing { result ≢ Status.Ok → result ≢ Status.WriteFault → K.taken out.new ≡ K.taken out.old }
+    ensures unflushed { result ≢ Status.Ok → K.flushed out.new ≡ K.flushed out.old }
     ensures world { LeavesWorld result world.old world.new }
 
     // Where the words are no command the source isn't read.
@@ -125,6 +126,7 @@ fn write_dump<K: Sink>(world: &World, out: &mut K) -> Result<(), Status>
     ensures flushed { OnOk result (AllFlushed (K.taken out.new) (K.flushed out.new)) }
     ensures status { IfErr result (λ status. status ≡ Status.WriteFault) }
     ensures front { OnErr result (IsSomeAnd world.now (λ w. TookFront (K.taken out.old) (K.taken out.new) (dump w.memory))) }
+    ensures unflushed { OnErr result (K.flushed out.new ≡ K.flushed out.old) }
     ensures write_fault { OnErr result (Rose (K.faults out.old) (K.faults out.new)) }
     ensures sound { OnOk result (K.faults out.new ≡ K.faults out.old) }
 {
@@ -136,6 +138,7 @@ fn write_dump<K: Sink>(world: &World, out: &mut K) -> Result<(), Status>
 
 fn flush<K: Sink>(out: &mut K) -> Result<(), Status>
     ensures taken { K.taken out.new ≡ K.taken out.old }
+    ensures unflushed { OnErr result (K.flushed out.new ≡ K.flushed out.old) }
     ensures flushed { OnOk result (AllFlushed (K.taken out.new) (K.flushed out.new)) }
     ensures status { IfErr result (λ status. status ≡ Status.WriteFault) }
     ensures write_fault { OnErr result (Rose (K.faults out.old) (K.faults out.new)) }

@@ -6,7 +6,7 @@ use Rattle.vmtables.proofs.dump.dump_rows.Goals as goal
 use Rattle.vmtables.proofs.dump.dump_rows.Goals.{then-not-is_filled+in_ok-write_all, else-not-is_filled}
 
 pub loop-k-init : goal.loop-k-init
-loop-k-init g c = record { so_far = rows_none _ _ _; sound = refl }
+loop-k-init g c = record { so_far = rows_none _ _ _; unflushed = refl; sound = refl }
 
 pub bytes_at-row-requires : goal.bytes_at-row-requires
 bytes_at-row-requires g c = row_ram _ _ c.args.count _ c.requires.ram c.loop-k-test.true
@@ -26,12 +26,14 @@ loop-k-preserved g c =
           let is_line = line_at-written c.args.memory.now c.args.start c.loop-k.k _ _ _ _ c.bytes_at-row.ensures c.fill-fill.ensures c.is_filled.ensures w.if-not-is_filled.true w.line.ensures in
           record {
             so_far = ap g.K.Sink.taken w.out-is ∙ rows_more _ _ _ _ _ _ _ c.loop-k.invariant.so_far w.in_ok-write_all.ensures.ok is_line;
+            unflushed = ap g.K.Sink.flushed w.out-is ∙ w.in_ok-write_all.ensures.unflushed ∙ c.loop-k.invariant.unflushed;
             sound = ap g.K.Sink.faults w.out-is ∙ w.in_ok-write_all.ensures.sound ∙ c.loop-k.invariant.sound;
           }
       | else-not-is_filled w ↦
           let no_line = line_at-filled c.args.memory.now c.args.start c.loop-k.k _ _ _ c.bytes_at-row.ensures c.fill-fill.ensures c.is_filled.ensures w.if-not-is_filled.false in
           record {
             so_far = ap g.K.Sink.taken w.out-is ∙ rows_same _ _ _ _ _ c.loop-k.invariant.so_far no_line;
+            unflushed = ap g.K.Sink.flushed w.out-is ∙ c.loop-k.invariant.unflushed;
             sound = ap g.K.Sink.faults w.out-is ∙ c.loop-k.invariant.sound;
           }
     ]

@@ -6,5 +6,6 @@ use Rattle.vmtables.proofs.dump.dump_rows.Given as goal
 abbrev pub invariant-loop-k : goal.invariant-loop-k
 invariant-loop-k g l = record {
   so_far : Took (g.K.Sink.taken l.initial.out) (g.K.Sink.taken l.out) (rows_text l.memory l.start l.k);
+  unflushed : g.K.Sink.flushed l.out ≡ g.K.Sink.flushed l.initial.out;
   sound : g.K.Sink.faults l.out ≡ g.K.Sink.faults l.initial.out;
 }
