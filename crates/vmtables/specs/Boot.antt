@@ -24,6 +24,13 @@ HasLoaded status.Ok = Unit {0}
 HasLoaded status.WriteFault = Unit {0}
 HasLoaded _ = ⊥
 
+-- the statuses with which the source was read to its end
+abbrev pub WasRead : Status → Type 0
+WasRead status.Ok = Unit {0}
+WasRead status.WriteFault = Unit {0}
+WasRead status.DescriptionRefused = Unit {0}
+WasRead _ = ⊥
+
 -- A world in which the machine of a description is loaded: the machine is read from the bytes, its files and its
 -- script are the world's, the load is done, memory is what the run of the script leaves, and it shows, from its
 -- RSDP and its anchor, exactly the machine's inventory.
@@ -61,7 +68,7 @@ LeavesWorld _ before after = after ≡ before
 -- How a boot ends: with which status, and what it makes of the source, the sink and the world.
 pub record BootEnds (ended : Status) (source source_after : SourceSeen) (out out_after : SinkSeen) (world world_after : Option Begun) : Type 0 where
   pub known : ended ≢ status.Usage
-  pub read : HasLoaded ended → IfSome source_after.left (λ rest. rest ≡ [])
+  pub read : WasRead ended → IfSome source_after.left (λ rest. rest ≡ [])
   pub loaded : HasLoaded ended → IfSome source.left (λ bytes. IsSomeAnd world_after (IsLoaded bytes))
   pub dumped : ended ≡ status.Ok → IsSomeAnd world_after (λ w. Took out.taken out_after.taken (dump w.memory))
   pub flushed : ended ≡ status.Ok → AllFlushed out_after.taken out_after.flushed

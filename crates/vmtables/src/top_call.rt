@@ -1,7 +1,7 @@
 ghost use Rattle.std.specs.Prelude.{◌≡◌, ◌≢◌, ◌<◌, ◌≤◌, ◌↔◌, ◌⊎◌, List, [], map, string_bytes, Err, Some, None, Option, IfSome, IsSome, IfErr, OnOk, OnErr, IsSomeAnd};
 ghost use Rattle.vt_outside.specs.Stream.{Rose};
 ghost use Rattle.machine_desc.specs.declared.machine.Machine.{Machine};
-ghost use Rattle.vmtables.specs.Boot.{HasLoaded, IsLoaded, LeavesWorld, BootEnds, status_of};
+ghost use Rattle.vmtables.specs.Boot.{HasLoaded, WasRead, IsLoaded, LeavesWorld, BootEnds, status_of};
 ghost use Rattle.vmtables.specs.Command.{command_of};
 ghost use Rattle.vmtables.specs.Dump.{dump};
 ghost use Rattle.vmtables.specs.Outcome.{input_limit, given_count, line_of};
@@ -34,9 +34,9 @@ pub fn top<S: Source, K: Sink, E: Sink>(
     say: &mut E,
     world: &mut World,
 ) -> Status
-    // With Ok, and with a write fault, the source has nothing left, and what it had is a description whose machine
-    // is loaded in the world.
-    ensures read { HasLoaded result → IfSome (S.left source.new) (λ rest. rest ≡ []) }
+    // With Ok, with a write fault and with a refused description the source has nothing left. With the first two, what it
+    // had is a description whose machine is loaded in the world.
+    ensures read { WasRead result → IfSome (S.left source.new) (λ rest. rest ≡ []) }
     ensures loaded { HasLoaded result → IfSome (S.left source.old) (λ bytes. IsSomeAnd world.new (IsLoaded bytes)) }
 
     // With Ok, out took the dump of the world's memory, and all that out took is flushed.
