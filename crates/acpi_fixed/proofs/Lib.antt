@@ -1,11 +1,3 @@
-pub mod Grown
-pub mod Aligned
-pub mod Held
-pub mod Header
-pub mod TableHeld
-pub mod TableMade
-pub mod HpetMade
-pub mod RsdpBytes
-pub mod RsdpFile
+pub mod Tables
 pub mod Entries
-pub mod XsdtFile
+pub mod OfParts

@@ -1,12 +1,9 @@
 pub mod Tables
-pub mod Held
 pub use Rattle.vt_outside.specs.Name
-pub use Rattle.vt_bytes.specs.Numbers
-pub use Rattle.guest_memory.specs.Memory
+pub use Rattle.vt_bytes.specs.View
+pub use Rattle.vt_layout.specs.Shown
 pub use Rattle.machine_desc.specs.Rules
 pub use Rattle.table_model.specs.Acpi
-pub use Rattle.table_model.specs.Inventory
 pub use Rattle.blob_holes.specs.Blob
-pub use Rattle.blob_holes.specs.Filled
-pub use Rattle.blob_holes.specs.Layout
 pub use Rattle.blob_holes.specs.Grown
+pub use Rattle.blob_holes.specs.Held

@@ -1,79 +1,83 @@
-ghost use Rattle.std.specs.Prelude.{◌≡◌, ◌+◌, ◌-◌, ◌<◌, ◌^◌, [], ◌∷◌, ◌++◌, length, replicate, slice_set, IfOk, OnOk};
-ghost use Rattle.vt_bytes.specs.Numbers.{le_bytes};
-ghost use Rattle.blob_holes.specs.Blob.{IsBlob, FitsSum};
-ghost use Rattle.acpi_fixed.specs.Tables.{next_place, header_bytes, table_sum, tables_name, table_pointer};
+ghost use Rattle.std.specs.Prelude.{◌≡◌, ◌+◌, ◌<◌, ◌≤◌, ◌^◌, ◌++◌, length, IfOk, OnOk};
+ghost use Rattle.std.specs.List.{AllByRecursion};
+ghost use Rattle.vt_layout.specs.Rows.{IsRow, size};
+ghost use Rattle.vt_layout.specs.Shown.{LayoutHeld};
+ghost use Rattle.table_model.specs.Header.{table_rows};
+ghost use Rattle.table_model.specs.Acpi.{rows_of, linked_table, IsAt};
+ghost use Rattle.blob_holes.specs.Blob.{next_place, aligned};
+ghost use Rattle.blob_holes.specs.Grown.{Extends, IsLinkable};
+ghost use Rattle.blob_holes.specs.Held.{WhereHeld};
+ghost use Rattle.blob_holes.specs.Rows.{SumsFit, with_rows};
+ghost use Rattle.acpi_fixed.specs.Tables.{with_table, tables_name, table_pointer};
 
-use blob_holes::Blob;
-use table_model::Head;
+use blob_holes::{Blob, append_layout};
+use table_model::{HEADER_SIZE, Head, Table, header_rows, hpet_body};
+use vt_layout::{Row, size_of};
 use vt_outside::{Name, OutOfMemory};
 
 /// The file that holds the tables. The pointers to them have its place added.
 pub const TABLES_FILE: &str = "etc/acpi/tables";
 
-// What a table begins at a multiple of.
-const ALIGN: u32 = 16;
+/// The alignment of a table in its file, in bytes.
+pub(crate) const ALIGN: u32 = 16;
 
-// How many bytes a header has.
-pub(crate) const HEADER: u32 = 36;
-
-/// Appends zeros up to the place of the next table, and gives the place.
-pub(crate) fn align_table(blob: &mut Blob) -> Result<u32, OutOfMemory>
+/// Appends `table` to `blob` at the next multiple of 16, and returns its offset in bytes. `blob` has less than 2 GiB before.
+/// Returns `OutOfMemory` when memory runs out; what `blob` then holds is unspecified.
+pub fn put_table(blob: &mut Blob, table: &Table) -> Result<u32, OutOfMemory>
     requires { length blob.old.bytes < 2 ^ 31 }
-    ensures place { IfOk result (λ place. place ≡ next_place blob.old) }
-    ensures bytes { OnOk result (blob.new ≡ record blob.old {
-      bytes = blob.old.bytes ++ replicate (next_place blob.old - length blob.old.bytes) 0;
-    }) }
-    ensures whole { IsBlob blob.old }
+
+    // What the file then is, exactly.
+    ensures place { IfOk result (λ place. place ≡ next_place 16 blob.old) }
+    ensures file { OnOk result (blob.new ≡ with_table blob.old table.now) }
+    ensures size { OnOk result (length blob.new.bytes ≡ next_place 16 blob.old + size (rows_of table.now)) }
+
+    // It has only grown, and its holes can be filled as before.
+    ensures grown { OnOk result (Extends blob.old blob.new) }
+    ensures linkable { OnOk result (IsLinkable blob.old → IsLinkable blob.new) }
+
+    // Wherever a view holds it with its holes filled, the table stands at its place.
+    ensures held { OnOk result (WhereHeld blob.new (λ view address place_of.
+        LayoutHeld view place_of (address + next_place 16 blob.old) (rows_of table.now))) }
+    ensures shown { OnOk result (WhereHeld blob.new (λ view address place_of.
+        IsAt view (address + next_place 16 blob.old) (linked_table place_of table.now))) }
 {
-    let place = blob.len().next_multiple_of(ALIGN);
-    blob.align(ALIGN)?;
-    Ok(place)
+    match table {
+        Table::Hpet(table) => append_table(blob, b"HPET", &table.head, &hpet_body(table)),
+    }
 }
 
-/// Appends the header of a table of so many bytes. Its checksum is zero still.
-pub(crate) fn append_header(
+/// Appends the table with `signature` and the header `head` to `blob` at the next multiple of 16, and returns its offset in
+/// bytes. `body` are the rows behind the header: at most 2^24 bytes, and no checksum, which only the header has. `blob` has
+/// less than 2 GiB before. Returns `OutOfMemory` when memory runs out; what `blob` then holds is unspecified.
+pub(crate) fn append_table(
     blob: &mut Blob,
     signature: &[u8; 4],
-    size: u32,
     head: &Head,
-) -> Result<(), OutOfMemory>
-    requires { length blob.old.bytes + 36 < 2 ^ 32 }
-    ensures { OnOk result (blob.new ≡ record blob.old { bytes = blob.old.bytes ++ header_bytes signature.now size head.now }) }
+    body: &[Row],
+) -> Result<u32, OutOfMemory>
+    requires body { AllByRecursion IsRow body.now }
+    requires no_sum { SumsFit (36 + size body.now) (36 + size body.now) 36 body.now }
+    requires short { length blob.old.bytes < 2 ^ 31 }
+    requires few { size body.now ≤ 2 ^ 24 }
+    ensures place { IfOk result (λ place. place ≡ next_place 16 blob.old) }
+    ensures file { OnOk result (blob.new ≡ with_rows (aligned 16 blob.old) (table_rows signature.now head.now body.now)) }
+    ensures size { OnOk result (length blob.new.bytes ≡ next_place 16 blob.old + size (table_rows signature.now head.now body.now)) }
+    ensures grown { OnOk result (Extends blob.old blob.new) }
+    ensures linkable { OnOk result (IsLinkable blob.old → IsLinkable blob.new) }
+    ensures held { OnOk result (WhereHeld blob.new (λ view address place_of.
+        LayoutHeld view place_of (address + next_place 16 blob.old) (table_rows signature.now head.now body.now))) }
+    ensures rows { AllByRecursion IsRow (table_rows signature.now head.now body.now) }
 {
-    blob.append(signature)?;
-    blob.append(&size.to_le_bytes())?;
-    blob.append(&[head.revision, 0])?;
-    blob.append(&head.oem_id)?;
-    blob.append(&head.oem_table_id)?;
-    blob.append(&head.oem_revision.to_le_bytes())?;
-    blob.append(&head.creator_id)?;
-    blob.append(&head.creator_revision.to_le_bytes())?;
-    Ok(())
+    let total = HEADER_SIZE + size_of(body);
+    append_layout(blob, ALIGN, &header_rows(signature, total, head), body)
 }
 
-/// Appends a pointer of 8 bytes to an offset of the file of the tables.
-pub(crate) fn append_pointer(blob: &mut Blob, offset: u32) -> Result<(), OutOfMemory>
-    requires { length blob.old.bytes + 8 < 2 ^ 32 }
-    ensures { OnOk result (blob.new ≡ record blob.old {
-      bytes = blob.old.bytes ++ le_bytes 8 offset;
-      pointers = blob.old.pointers ++ table_pointer (length blob.old.bytes) ∷ [];
-    }) }
+/// Returns the row, 8 bytes wide, of the address of the table at `offset` in the file `TABLES_FILE`, in bytes.
+pub(crate) fn table_pointer(offset: u32) -> Row
+    ensures row { result ≡ table_pointer offset }
+    ensures fits { IsRow result }
 {
-    let at = blob.len();
-    blob.append(&[0; 8])?;
-    blob.hole_pointer(at, 8, tables_name(), offset)
-}
-
-/// Makes the checksum of the table from a place to the file's end.
-pub(crate) fn seal_table(blob: &mut Blob, place: u32) -> Result<(), OutOfMemory>
-    requires { FitsSum blob.old (table_sum place (length blob.old.bytes - place)) }
-    ensures { OnOk result (blob.new ≡ record blob.old {
-      bytes = slice_set blob.old.bytes (place + 9) 0;
-      sums = blob.old.sums ++ table_sum place (length blob.old.bytes - place) ∷ [];
-    }) }
-{
-    let size = blob.len() - place;
-    blob.hole_sum(place + 9, place, size)
+    Row::Pointer(8, tables_name(), offset)
 }
 
 fn tables_name() -> Name

@@ -1,8 +1,13 @@
-pub mod Each
 pub mod Put
 pub mod Pointers
 pub mod Sums
 pub mod Kept
 pub mod Fill
+pub mod RowHoles
+pub mod Appended
+pub mod SumsFree
+pub mod InParts
+pub mod Stood
+pub mod HeldRows
+pub mod Grew
 pub mod Pieces
-pub mod Fields

@@ -20,7 +20,8 @@ part_first bytes xs ys at n count is size within =
     ap (λ place. part bytes place count) here ∙ sym (part-part bytes at n 0 count from_start) ∙ ap (take count) is ∙ take_at xs ys count size
 
 -- and the second behind it
-pub part_second : (bytes xs ys : List ℕ) (at n offset count : ℕ) → part bytes at n ≡ xs ++ ys → length xs ≡ offset → length ys ≡ count → offset + count ≤ n → part bytes (at + offset) count ≡ ys
+pub part_second : (bytes xs ys : List ℕ) (at n offset count : ℕ) → part bytes at n ≡ xs ++ ys → length xs ≡ offset → length ys ≡ count → offset + count ≤ n
+    → part bytes (at + offset) count ≡ ys
 part_second bytes xs ys at n offset count is front size within =
     sym (part-part bytes at n offset count within) ∙ ap (λ all. take count (drop offset all)) is ∙ ap (take count) (drop_at xs ys offset front)
     ∙ ap (take count) (sym (append-nil ys)) ∙ take_at ys [] count size

@@ -1,5 +1,6 @@
 -- Bytes that are put in place of others, and parts of a list.
-use Rattle.std.proofs.Common.{◌≡◌, ℕ, ◌+◌, ◌-◌, ◌<◌, ◌≤◌, ◌⊎◌, List, ◌++◌, length, slice_index, take, drop, min, arith, ap, sym, ◌∙◌, length-append, length-take, length-drop, get_or-take, get_or-drop, append_assoc}
+use Rattle.std.proofs.Common.{◌≡◌, ℕ, ◌+◌, ◌-◌, ◌<◌, ◌≤◌, ◌⊎◌, List, ◌++◌, length, slice_index, take, drop, min, arith, ap, sym, ◌∙◌, length-append}
+use Rattle.std.proofs.Common.{length-take, length-drop, get_or-take, get_or-drop, append_assoc}
 use Rattle.std.proofs.lemmas.Grind.{same_number_lists}
 use Rattle.std.proofs.lemmas.List.{places, take_at, drop_at}
 use Rattle.vt_bytes.specs.Parts.{part, put_at}
@@ -9,7 +10,8 @@ pub length-put_at : (bytes : List ℕ) (at : ℕ) (piece : List ℕ) → at + le
 length-put_at bytes at piece within = simp (length-append, length-take, length-drop) (omega arith)
 
 -- the bytes stand at their place
-pub part-put_at : (bytes : List ℕ) (at : ℕ) (piece : List ℕ) (n : ℕ) → at + length piece ≤ length bytes → n ≡ length piece → part (put_at bytes at piece) at n ≡ piece
+pub part-put_at : (bytes : List ℕ) (at : ℕ) (piece : List ℕ) (n : ℕ) → at + length piece ≤ length bytes → n ≡ length piece
+    → part (put_at bytes at piece) at n ≡ piece
 part-put_at bytes at piece n within size =
     let front : length (take at bytes) ≡ at = simp length-take (omega arith) in
     ap (λ all. take n (drop at all)) (append_assoc (take at bytes) piece (drop (at + length piece) bytes))
@@ -17,11 +19,13 @@ part-put_at bytes at piece n within size =
     ∙ take_at piece (drop (at + length piece) bytes) n (sym size)
 
 -- each other byte stays
-pub index-put_at : (bytes : List ℕ) (at : ℕ) (piece : List ℕ) (place : ℕ) → at + length piece ≤ length bytes → (place < at) ⊎ (at + length piece ≤ place) → slice_index (put_at bytes at piece) place ≡ slice_index bytes place
+pub index-put_at : (bytes : List ℕ) (at : ℕ) (piece : List ℕ) (place : ℕ) → at + length piece ≤ length bytes → (place < at) ⊎ (at + length piece ≤ place)
+    → slice_index (put_at bytes at piece) place ≡ slice_index bytes place
 index-put_at bytes at piece place within outside = grind (arith, places)
 
 -- lists of one length that agree in a part have the same part
-pub part_same : (xs ys : List ℕ) (at n : ℕ) → length xs ≡ length ys → ((place : ℕ) → at ≤ place → place < at + n → slice_index xs place ≡ slice_index ys place) → part xs at n ≡ part ys at n
+pub part_same : (xs ys : List ℕ) (at n : ℕ) → length xs ≡ length ys → ((place : ℕ) → at ≤ place → place < at + n
+    → slice_index xs place ≡ slice_index ys place) → part xs at n ≡ part ys at n
 part_same xs ys at n size same =
     let as_long : length (part xs at n) ≡ length (part ys at n) = simp (length-take, length-drop) (ap (λ k. min n (k - at)) size) in
     same_number_lists (part xs at n) (part ys at n) as_long (λ k l.

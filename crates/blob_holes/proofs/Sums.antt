@@ -1,5 +1,6 @@
 -- Sum bytes, and the ranges that they make sum to zero.
-use Rattle.std.proofs.Common.{◌≡◌, ℕ, zero, suc, ◌+◌, ◌-◌, ◌%◌, ◌<◌, ◌≤◌, ◌⊎◌, ◌≢◌, inl, inr, List, [], ◌∷◌, ◌++◌, length, slice_index, slice_set, take, drop, sum, arith, refl, ap, sym, ◌∙◌, length-set, length-take, length-drop, get_or-take, get_or-drop, get_or-set_other}
+use Rattle.std.proofs.Common.{◌≡◌, ℕ, zero, suc, ◌+◌, ◌-◌, ◌%◌, ◌<◌, ◌≤◌, ◌⊎◌, ◌≢◌, inl, inr, List, [], ◌∷◌, ◌++◌, length, slice_index, slice_set, take}
+use Rattle.std.proofs.Common.{drop, sum, arith, refl, ap, sym, ◌∙◌, length-set, length-take, length-drop, get_or-take, get_or-drop, get_or-set_other}
 use Rattle.std.specs.List.{AllByRecursion}
 use Rattle.std.proofs.lemmas.List.{drop-set-add}
 use Rattle.std.proofs.lemmas.List.Sums.{sum_by-set}
@@ -8,7 +9,7 @@ use Rattle.vt_bytes.specs.Parts.{part}
 use Rattle.blob_holes.specs.declared.hole.SumHole.{SumHole}
 use Rattle.blob_holes.specs.Blob.{AreSums}
 use Rattle.blob_holes.specs.Filled.{with_sums, AreInOrder}
-use Rattle.blob_holes.proofs.Each.{each_weaker, each_push}
+use Rattle.vt_bytes.proofs.Each.{each_weaker, each_push}
 use Rattle.blob_holes.proofs.Put.{part_same}
 
 -- a byte is not that of a sum
@@ -21,7 +22,8 @@ AreSums-longer bytes more [] l h = tt
 AreSums-longer bytes more (hole ∷ holes) l h = (omega arith, h.1, h.2, h.3, AreSums-longer bytes more holes l h.4)
 
 -- one more sum, whose byte is no other's
-pub AreSums-push : (bytes : List ℕ) (holes : List SumHole) (hole : SumHole) → AreSums bytes holes → hole.start + hole.length ≤ length bytes → hole.start ≤ hole.at → hole.at < hole.start + hole.length → AllByRecursion (IsOther hole.at) holes → AreSums bytes (holes ++ hole ∷ [])
+pub AreSums-push : (bytes : List ℕ) (holes : List SumHole) (hole : SumHole) → AreSums bytes holes → hole.start + hole.length ≤ length bytes
+    → hole.start ≤ hole.at → hole.at < hole.start + hole.length → AllByRecursion (IsOther hole.at) holes → AreSums bytes (holes ++ hole ∷ [])
 AreSums-push bytes [] hole h within from below others = (within, from, below, tt, tt)
 AreSums-push bytes (first ∷ holes) hole h within from below others =
     let turned : IsOther first.at hole = elim others.0 [ inl a ↦ inr a | inr a ↦ inl a ] in
@@ -35,7 +37,8 @@ take-set_inside (suc n) (first ∷ bytes) zero byte l = refl
 take-set_inside (suc n) (first ∷ bytes) (suc k) byte l = ap (λ rest. first ∷ rest) (take-set_inside n bytes k byte (omega arith))
 
 -- and in a part
-part-set : (bytes : List ℕ) (start at n byte : ℕ) → start ≤ at → at < start + n → part (slice_set bytes at byte) start n ≡ slice_set (part bytes start n) (at - start) byte
+part-set : (bytes : List ℕ) (start at n byte : ℕ) → start ≤ at → at < start + n → part (slice_set bytes at byte) start n ≡ slice_set (part bytes start n)
+    (at - start) byte
 part-set bytes start at n byte from below =
     let place : at ≡ start + (at - start) = omega arith in
     ap (λ k. take n (drop start (slice_set bytes k byte))) place
@@ -51,7 +54,8 @@ abbrev pub one_summed : List ℕ → SumHole → List ℕ
 one_summed bytes hole = slice_set bytes hole.at ((slice_index bytes hole.at + (256 - byte_sum (part bytes hole.start hole.length))) % 256)
 
 -- the range of that sum then sums to zero
-sum-one_summed : (bytes : List ℕ) (hole : SumHole) → hole.start + hole.length ≤ length bytes → hole.start ≤ hole.at → hole.at < hole.start + hole.length → byte_sum (part (one_summed bytes hole) hole.start hole.length) ≡ 0
+sum-one_summed : (bytes : List ℕ) (hole : SumHole) → hole.start + hole.length ≤ length bytes → hole.start ≤ hole.at → hole.at < hole.start + hole.length
+    → byte_sum (part (one_summed bytes hole) hole.start hole.length) ≡ 0
 sum-one_summed bytes hole within from below =
     let range = part bytes hole.start hole.length in
     let value = (slice_index bytes hole.at + (256 - byte_sum range)) % 256 in
@@ -76,17 +80,21 @@ length-with_sums bytes [] = refl
 length-with_sums bytes (hole ∷ holes) = length-with_sums (one_summed bytes hole) holes ∙ length-set bytes hole.at _
 
 -- each byte that is no sum's stays
-pub index-with_sums : (bytes : List ℕ) (holes : List SumHole) (place : ℕ) → AllByRecursion (IsOther place) holes → slice_index (with_sums bytes holes) place ≡ slice_index bytes place
+pub index-with_sums : (bytes : List ℕ) (holes : List SumHole) (place : ℕ) → AllByRecursion (IsOther place) holes
+    → slice_index (with_sums bytes holes) place ≡ slice_index bytes place
 index-with_sums bytes [] place others = refl
 index-with_sums bytes (hole ∷ holes) place others =
     let other : place ≢ hole.at = omega (arith, others.0) in
     index-with_sums (one_summed bytes hole) holes place others.1 ∙ get_or-set_other bytes hole.at place _ 0 other
 
 -- the range of each sum sums to zero
-pub summed : (bytes : List ℕ) (holes : List SumHole) → AreSums bytes holes → AreInOrder holes → AllByRecursion (λ (hole : SumHole). byte_sum (part (with_sums bytes holes) hole.start hole.length) ≡ 0) holes
+pub summed : (bytes : List ℕ) (holes : List SumHole) → AreSums bytes holes → AreInOrder holes
+    → AllByRecursion (λ (hole : SumHole). byte_sum (part (with_sums bytes holes) hole.start hole.length) ≡ 0) holes
 summed bytes [] h order = tt
 summed bytes (hole ∷ holes) h order =
     let kept : part (with_sums (one_summed bytes hole) holes) hole.start hole.length ≡ part (one_summed bytes hole) hole.start hole.length =
-    part_same (with_sums (one_summed bytes hole) holes) (one_summed bytes hole) hole.start hole.length (length-with_sums (one_summed bytes hole) holes) (λ place from below.
-    index-with_sums (one_summed bytes hole) holes place (each_weaker (λ (later : SumHole). (later.at < hole.start) ⊎ (hole.start + hole.length ≤ later.at)) (IsOther place) (λ later a. elim a [ inl b ↦ inr (omega arith) | inr b ↦ inl (omega arith) ]) holes order.0)) in
+    part_same (with_sums (one_summed bytes hole) holes) (one_summed bytes hole) hole.start hole.length (length-with_sums (one_summed bytes hole) holes)
+    (λ place from below.
+    index-with_sums (one_summed bytes hole) holes place (each_weaker (λ (later : SumHole). (later.at < hole.start) ⊎ (hole.start + hole.length ≤ later.at))
+    (IsOther place) (λ later a. elim a [ inl b ↦ inr (omega arith) | inr b ↦ inl (omega arith) ]) holes order.0)) in
     (ap byte_sum kept ∙ sum-one_summed bytes hole h.0 h.1 h.2, summed (one_summed bytes hole) holes (rest_in bytes hole holes h) order.1)

@@ -1,6 +1,8 @@
 -- A file with holes: fields that get the address of another file added, and bytes that make a range sum to zero.
-use Rattle.std.specs.Prelude.{◌≡◌, ℕ, ◌+◌, ◌^◌, ◌<◌, ◌≤◌, ◌⊎◌, List, [], ◌∷◌, length}
+use Rattle.std.specs.Prelude.{ℕ, ◌+◌, ◌-◌, ◌^◌, ◌<◌, ◌≤◌, ◌⊎◌, List, [], ◌∷◌, ◌++◌, length, replicate}
+use Rattle.std.specs.Int.{next_multiple_of}
 use Rattle.std.specs.List.{AllByRecursion}
+use Rattle.vt_layout.specs.Rows.{IsPointerSize}
 use Rattle.blob_holes.specs.declared.hole.PointerHole.{PointerHole}
 use Rattle.blob_holes.specs.declared.hole.SumHole.{SumHole}
 
@@ -9,9 +11,13 @@ pub record BlobState : Type 0 where
   pub pointers : List PointerHole
   pub sums : List SumHole
 
--- a pointer field has 1, 2, 4 or 8 bytes
-abbrev pub IsSize : ℕ → Type 0
-IsSize size = (size ≡ 1) ⊎ ((size ≡ 2) ⊎ ((size ≡ 4) ⊎ (size ≡ 8)))
+-- the first multiple of a power of two that is not before a file's end
+abbrev pub next_place : ℕ → BlobState → ℕ
+next_place align blob = next_multiple_of (length blob.bytes) align
+
+-- a file with zeros up to there
+abbrev pub aligned : ℕ → BlobState → BlobState
+aligned align blob = record blob { bytes = blob.bytes ++ replicate (next_place align blob - length blob.bytes) 0 }
 
 -- a byte lies outside a field
 abbrev pub IsOutsideField : ℕ → PointerHole → Type 0
@@ -24,7 +30,7 @@ AreApart a b = (a.at + a.size ≤ b.at) ⊎ (b.at + b.size ≤ a.at)
 -- A pointer hole that may be added: its field is in the file, apart from the other fields, and without the byte of
 -- any sum. It may lie in the range of a sum.
 pub record FitsPointer (blob : BlobState) (hole : PointerHole) : Type 0 where
-  pub size : IsSize hole.size
+  pub size : IsPointerSize hole.size
   pub within : hole.at + hole.size ≤ length blob.bytes
   pub fields : AllByRecursion (AreApart hole) blob.pointers
   pub sum_bytes : AllByRecursion (λ (sum : SumHole). IsOutsideField sum.at hole) blob.sums
@@ -42,7 +48,7 @@ pub record FitsSum (blob : BlobState) (hole : SumHole) : Type 0 where
 abbrev pub ArePointers : List ℕ → List PointerHole → Type 0
 ArePointers bytes [] = Unit {0}
 ArePointers bytes (hole ∷ holes) =
-    IsSize hole.size × (hole.at + hole.size ≤ length bytes) × AllByRecursion (AreApart hole) holes × ArePointers bytes holes
+    IsPointerSize hole.size × (hole.at + hole.size ≤ length bytes) × AllByRecursion (AreApart hole) holes × ArePointers bytes holes
 
 abbrev pub AreSums : List ℕ → List SumHole → Type 0
 AreSums bytes [] = Unit {0}

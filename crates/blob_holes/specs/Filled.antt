@@ -18,7 +18,8 @@ pub record IsSolid (blob : BlobState) (place : ℕ) : Type 0 where
 pub record IsFilled (blob : BlobState) (place_of : List ℕ → ℕ) (bytes : List ℕ) : Type 0 where
   pub size : length bytes ≡ length blob.bytes
   pub solid : (place : ℕ) → IsSolid blob place → slice_index bytes place ≡ slice_index blob.bytes place
-  pub pointers : AllByRecursion (λ (hole : PointerHole). le (part bytes hole.at hole.size) ≡ le (part blob.bytes hole.at hole.size) + place_of hole.target) blob.pointers
+  pub pointers : AllByRecursion (λ (hole : PointerHole). le (part bytes hole.at hole.size) ≡ le (part blob.bytes hole.at hole.size) + place_of hole.target)
+      blob.pointers
   pub sums : AllByRecursion (λ (hole : SumHole). byte_sum (part bytes hole.start hole.length) ≡ 0) blob.sums
 
 -- each target's place can be added to its field

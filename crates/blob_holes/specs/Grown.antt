@@ -1,6 +1,7 @@
 -- A blob that has grown, and one that can be linked.
 use Rattle.std.specs.Prelude.{◌≡◌, ℕ, ◌^◌, ◌<◌, ◌≤◌, List, ◌++◌, length}
 use Rattle.std.specs.List.{AllByRecursion}
+use Rattle.vt_layout.specs.Rows.{places_end}
 use Rattle.blob_holes.specs.declared.hole.PointerHole.{PointerHole}
 use Rattle.blob_holes.specs.declared.hole.SumHole.{SumHole}
 use Rattle.blob_holes.specs.Blob.{BlobState}
@@ -14,8 +15,8 @@ pub record Extends (old new : BlobState) : Type 0 where
   pub sums : (more : List SumHole) × (new.sums ≡ old.sums ++ more)
       × AllByRecursion (λ (hole : SumHole). length old.bytes ≤ hole.at) more
 
--- A blob that can be linked wherever files stand below 4 GiB: each place fits its field, and no sum's byte lies in the range
+-- A blob that can be linked wherever files stand below 3 GiB: each place fits its field, and no sum's byte lies in the range
 -- of a sum before it.
 pub record IsLinkable (blob : BlobState) : Type 0 where
-  pub fit : (place_of : List ℕ → ℕ) → ((name : List ℕ) → place_of name < 2 ^ 32) → PlacesFit blob place_of
+  pub fit : (place_of : List ℕ → ℕ) → ((name : List ℕ) → place_of name < places_end) → PlacesFit blob place_of
   pub ordered : AreInOrder blob.sums

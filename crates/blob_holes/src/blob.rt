@@ -1,12 +1,14 @@
-ghost use Rattle.std.specs.Prelude.{◌≡◌, ◌+◌, ◌-◌, ◌%◌, ◌<◌, ◌≤◌, ◌^◌, [], ◌∷◌, ◌++◌, length, replicate, IfOk, OnOk, OnErr, IsTrue, slice_set};
-ghost use Rattle.std.specs.Int.{is_power_of_two, next_multiple_of};
+ghost use Rattle.std.specs.Prelude.{◌≡◌, ◌+◌, ◌<◌, ◌≤◌, ◌^◌, [], ◌∷◌, ◌++◌, length, IfOk, OnOk, OnErr, IsTrue, slice_set};
+ghost use Rattle.std.specs.Int.{is_power_of_two};
 ghost use Rattle.vt_bytes.specs.Numbers.{le_bytes};
 ghost use Rattle.vt_bytes.specs.Parts.{put_at};
-ghost use Rattle.blob_holes.specs.Blob.{BlobState, IsBlob, FitsPointer, FitsSum};
+ghost use Rattle.vt_layout.specs.Rows.{IsRow, width_of, bytes_of};
+ghost use Rattle.blob_holes.specs.Blob.{BlobState, IsBlob, FitsPointer, FitsSum, next_place, aligned};
 
 use crate::hole::{PointerHole, SumHole};
 use std::alloc::Global;
 use std::marker::Model;
+use vt_layout::{Row, put_row};
 use vt_outside::{Bytes, List, Name, OutOfMemory};
 
 /// A file with holes that grows at its end.
@@ -40,7 +42,7 @@ pub struct Parts {
 }
 
 impl Blob {
-    /// An empty file. It takes no memory.
+    /// Makes an empty file with no holes, which will take its memory from `alloc`. It takes none yet.
     pub fn new(alloc: Global) -> Blob
         ensures { result ≡ record { bytes = []; pointers = []; sums = [] } }
     {
@@ -52,7 +54,12 @@ impl Blob {
         }
     }
 
-    /// How many bytes the file has.
+    /// Returns the allocator that the file takes memory from.
+    pub fn alloc(&self) -> Global {
+        self.alloc
+    }
+
+    /// Returns the size of the file in bytes.
     pub fn len(&self) -> u32
         ensures value { result ≡ length self.now.bytes }
         ensures blob { IsBlob self.now }
@@ -60,7 +67,8 @@ impl Blob {
         self.bytes.len() as u32
     }
 
-    /// Appends bytes, and gives the place where they stand.
+    /// Appends `bytes`, and returns the offset in the file at which they stand. The file must stay below 2^32 bytes. It fails
+    /// with `OutOfMemory` only where memory runs out, and then the file is unchanged.
     pub fn append(&mut self, bytes: &[u8]) -> Result<u32, OutOfMemory>
         requires { length self.old.bytes + length bytes.now < 2 ^ 32 }
         ensures place { IfOk result (λ place. place ≡ length self.old.bytes) }
@@ -72,14 +80,22 @@ impl Blob {
         Ok(place)
     }
 
-    /// Appends zeros up to the next multiple of a power of two.
+    /// Appends the bytes that a row is written as. It makes no hole.
+    pub(crate) fn append_bytes_of(&mut self, row: &Row) -> Result<(), OutOfMemory>
+        requires row { IsRow row.now }
+        requires short { length self.old.bytes + width_of row.now < 2 ^ 32 }
+        ensures ok { OnOk result (self.new ≡ record self.old { bytes = self.old.bytes ++ bytes_of row.now }) }
+        ensures err { OnErr result (self.new ≡ self.old) }
+    {
+        put_row(&mut self.bytes, row)
+    }
+
+    /// Appends zeros up to a multiple of `to` bytes, a power of two, or none where the file ends at one. The file must stay
+    /// below 2^32 bytes. It fails with `OutOfMemory` only where memory runs out, and then the file is unchanged.
     pub fn align(&mut self, to: u32) -> Result<(), OutOfMemory>
         requires power { IsTrue (is_power_of_two to) }
-        requires short { next_multiple_of (length self.old.bytes) to < 2 ^ 32 }
-        ensures ok { OnOk result (self.new ≡ record self.old {
-          bytes = self.old.bytes
-              ++ replicate (next_multiple_of (length self.old.bytes) to - length self.old.bytes) 0;
-        }) }
+        requires short { next_place to self.old < 2 ^ 32 }
+        ensures ok { OnOk result (self.new ≡ aligned to self.old) }
         ensures err { OnErr result (self.new ≡ self.old) }
     {
         let len = self.bytes.len() as u32;
@@ -89,7 +105,11 @@ impl Blob {
         Ok(())
     }
 
-    /// Makes a field of `size` bytes at a place a hole for the place of `target`, and puts `offset` there.
+    /// Makes a hole of the `size` bytes at the offset `at` of the file, to which the address of the file `target` is added
+    /// later, and writes `offset` there, low byte first. `size` must be 1, 2, 4 or 8, and `offset`, a number of bytes from the
+    /// target's start, must fit in it. The field must lie in the file, share no byte with another pointer's field, and hold no
+    /// sum's byte. It may lie in the range of a sum. It fails with `OutOfMemory` only where memory runs out, and then the file
+    /// and its holes are unchanged.
     pub fn hole_pointer(
         &mut self,
         at: u32,
@@ -111,7 +131,10 @@ impl Blob {
         Ok(())
     }
 
-    /// Makes a byte a hole for the sum of a range, and puts 0 there.
+    /// Makes a hole of the byte at the offset `at` of the file, which later makes the `length` bytes from the offset `start` on
+    /// sum to zero, and writes 0 there. The range must lie in the file and hold the byte. The byte must be no other sum's, and
+    /// lie in no pointer's field. It fails with `OutOfMemory` only where memory runs out, and then the file and its holes are
+    /// unchanged.
     pub fn hole_sum(&mut self, at: u32, start: u32, length: u32) -> Result<(), OutOfMemory>
         requires { FitsSum self.old (record { at = at; start = start; length = length }) }
         ensures ok { OnOk result (self.new ≡ record self.old {
@@ -125,7 +148,7 @@ impl Blob {
         Ok(())
     }
 
-    /// The file and its holes. It takes no memory.
+    /// Returns the bytes of the file and its holes, and ends the blob. It takes no memory.
     pub fn finish(self) -> Parts
         ensures bytes { result.bytes ≡ self.bytes }
         ensures pointers { result.pointers ≡ self.pointers }

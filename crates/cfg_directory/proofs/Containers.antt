@@ -1,5 +1,6 @@
 -- A container is read, and what was read is a container.
-use Rattle.std.proofs.Common.{◌≡◌, ℕ, ◌*◌, ◌≤◌, Bool, false, cond, ltb, List, [], ◌++◌, length, map, take, drop, Result, Ok, Err, arith, sym, ap, ap₂, subst, ◌∙◌, append_assoc}
+use Rattle.std.proofs.Common.{◌≡◌, ℕ, ◌*◌, ◌≤◌, Bool, false, cond, ltb, List, [], ◌++◌, length, map, take, drop, Result, Ok, Err, arith, sym, ap, ap₂, subst}
+use Rattle.std.proofs.Common.{◌∙◌, append_assoc}
 use Rattle.std.proofs.lemmas.Bool.{ltb-false, le-ltb, cond-false}
 use Rattle.std.proofs.lemmas.List.{take_at, drop_at, take-append-drop, length-append, length-take-le, length-map}
 use Rattle.vt_bytes.specs.Numbers.{be}
@@ -10,8 +11,10 @@ use Rattle.cfg_directory.specs.declared.container.ImageFault.TheVariants.{Trunca
 use Rattle.cfg_directory.specs.Items.{file_limit}
 use Rattle.cfg_directory.specs.Container.{IsContainer, ◌>>=◌, flag_of, directory_so, flags_so, contents_so, flagged_so, counted_so, read_so}
 use Rattle.cfg_directory.proofs.Steps.{bind_ok, guard_ok}
-use Rattle.cfg_directory.proofs.Entries.{said, AreSaid, AreNew, AreSaid-from_entries, AreEntries-from_said, length-entries, AreNew-from_distinct, each_new, AreDistinct-from_new, entries_read, entries_said}
-use Rattle.cfg_directory.proofs.Contents.{writable, flags_of, held_by, sizes, sizes-said, flags_read, flags_are, flags_of-map, items_stand, Stand, contents_read, contents_were}
+use Rattle.cfg_directory.proofs.Entries.{said, AreSaid, AreNew, AreSaid-from_entries, AreEntries-from_said, length-entries, AreNew-from_distinct, each_new}
+use Rattle.cfg_directory.proofs.Entries.{AreDistinct-from_new, entries_read, entries_said}
+use Rattle.cfg_directory.proofs.Contents.{writable, flags_of, held_by, sizes, sizes-said, flags_read, flags_are, flags_of-map, items_stand, Stand}
+use Rattle.cfg_directory.proofs.Contents.{contents_read, contents_were}
 
 -- ---- one part after the other
 
@@ -22,7 +25,8 @@ read_count count rest size =
     cond-false (ltb (length (count ++ rest)) 4) _ _ long
     ∙ ap₂ (λ (front after : List ℕ). counted_so (be front) after) (take_at count rest 4 size) (drop_at count rest 4 size)
 
-pub read_entries : (n : ℕ) (entries rest : List ℕ) (listed : List Listed) → n ≤ file_limit → length entries ≡ 64 * n → directory_so n 0 [] (entries ++ rest) ≡ Ok listed → counted_so n (entries ++ rest) ≡ flagged_so n listed rest
+pub read_entries : (n : ℕ) (entries rest : List ℕ) (listed : List Listed) → n ≤ file_limit → length entries ≡ 64 * n
+    → directory_so n 0 [] (entries ++ rest) ≡ Ok listed → counted_so n (entries ++ rest) ≡ flagged_so n listed rest
 unfolding counted_so
 read_entries n entries rest listed few size is =
     let long : ltb (length (entries ++ rest)) (64 * n) ≡ false = le-ltb (length (entries ++ rest)) (64 * n) (omega (arith, length-append entries rest)) in
@@ -31,7 +35,8 @@ read_entries n entries rest listed few size is =
     ∙ ap (λ read. read >>= (λ l. flagged_so n l (drop (64 * n) (entries ++ rest)))) is
     ∙ ap (flagged_so n listed) (drop_at entries rest (64 * n) size)
 
-pub read_flags : (n : ℕ) (listed : List Listed) (flags rest : List ℕ) (bools : List Bool) → length flags ≡ n → flags_so 0 flags ≡ Ok bools → flagged_so n listed (flags ++ rest) ≡ contents_so listed bools rest
+pub read_flags : (n : ℕ) (listed : List Listed) (flags rest : List ℕ) (bools : List Bool) → length flags ≡ n → flags_so 0 flags ≡ Ok bools
+    → flagged_so n listed (flags ++ rest) ≡ contents_so listed bools rest
 unfolding flagged_so
 read_flags n listed flags rest bools size is =
     let long : ltb (length (flags ++ rest)) n ≡ false = le-ltb (length (flags ++ rest)) n (omega (arith, length-append flags rest)) in
@@ -61,10 +66,12 @@ Parts-from bytes items is =
     }
 
 -- the directory of a container is read, whatever follows it
-pub directory_read : (items : List Item) (count entries rest : List ℕ) → length items ≤ file_limit → Parts items count entries → counted_so (be count) (entries ++ rest) ≡ flagged_so (length items) (map said items) rest
+pub directory_read : (items : List Item) (count entries rest : List ℕ) → length items ≤ file_limit → Parts items count entries
+    → counted_so (be count) (entries ++ rest) ≡ flagged_so (length items) (map said items) rest
 directory_read items count entries rest few parts =
     ap (λ n. counted_so n (entries ++ rest)) parts.count_is
-    ∙ read_entries (length items) entries rest (map said items) few parts.entries_size (ap (λ n. directory_so n 0 [] (entries ++ rest)) (sym (length-map items said)) ∙ entries_read (map said items) 0 [] entries rest parts.are_said parts.new)
+    ∙ read_entries (length items) entries rest (map said items) few parts.entries_size
+    (ap (λ n. directory_so n 0 [] (entries ++ rest)) (sym (length-map items said)) ∙ entries_read (map said items) 0 [] entries rest parts.are_said parts.new)
 
 -- the parts, from the front
 pub spelled_in_turn : (count entries flags contents : List ℕ) → count ++ entries ++ flags ++ contents ≡ count ++ (entries ++ (flags ++ contents))
@@ -78,7 +85,8 @@ contained_is_read bytes items is =
     ap read_so (is.spelled ∙ spelled_in_turn is.count is.entries flags held)
     ∙ read_count is.count (is.entries ++ (flags ++ held)) is.count_size
     ∙ directory_read items is.count is.entries (flags ++ held) is.lawful.few parts
-    ∙ read_flags (length items) (map said items) flags held (map writable items) (length-map items (λ (item : Item). flag_of item.writable)) (flags_read items 0)
+    ∙ read_flags (length items) (map said items) flags held (map writable items) (length-map items (λ (item : Item). flag_of item.writable))
+    (flags_read items 0)
     ∙ contents_read items is.lawful.small
 
 -- ---- what was read is a container
@@ -136,14 +144,16 @@ record Behind (n : ℕ) (listed : List Listed) (bytes : List ℕ) (items : List 
   spelled : bytes ≡ flags_of items ++ held_by items
   small : sizes listed ≤ 67108864
 
-behind : (n : ℕ) (listed : List Listed) (bytes : List ℕ) (items : List Item) → length listed ≡ n → flagged_so n listed bytes ≡ Ok items → Behind n listed bytes items
+behind : (n : ℕ) (listed : List Listed) (bytes : List ℕ) (items : List Item) → length listed ≡ n → flagged_so n listed bytes ≡ Ok items
+    → Behind n listed bytes items
 behind n listed bytes items as_many is =
     let flags = flags_in n listed bytes items is in
     let contents = contents_were listed flags.bools (drop n bytes) items flags.rest in
     let spelled = flags_are (take n bytes) 0 flags.bools flags.flags in
     let bools_as_many : length flags.bools ≡ length listed =
     omega (arith, length-map flags.bools flag_of, ap length spelled, length-take-le n bytes flags.long, as_many) in
-    let stand = subst (λ (is : List Item). Stand is listed flags.bools (drop n bytes)) contents.are (items_stand listed flags.bools (drop n bytes) bools_as_many contents.whole) in
+    let stand = subst (λ (is : List Item). Stand is listed flags.bools (drop n bytes)) contents.are
+    (items_stand listed flags.bools (drop n bytes) bools_as_many contents.whole) in
     let front : flags_of items ≡ take n bytes = flags_of-map items ∙ ap (map flag_of) stand.flags ∙ spelled in
     record {
       entries = stand.entries;

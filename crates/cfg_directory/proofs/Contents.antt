@@ -1,5 +1,6 @@
 -- The flags and the bytes of the files.
-use Rattle.std.proofs.Common.{◌≡◌, ℕ, zero, suc, ◌+◌, ◌<◌, ◌≤◌, Bool, true, false, cond, ltb, List, [], ◌∷◌, ◌++◌, length, map, take, drop, sum_by, Result, Ok, Err, arith, refl, sym, ap, ap₂, ◌∙◌}
+use Rattle.std.proofs.Common.{◌≡◌, ℕ, zero, suc, ◌+◌, ◌<◌, ◌≤◌, Bool, true, false, cond, ltb, List, [], ◌∷◌, ◌++◌, length, map, take, drop, sum_by, Result}
+use Rattle.std.proofs.Common.{Ok, Err, arith, refl, sym, ap, ap₂, ◌∙◌}
 use Rattle.std.specs.List.{flat_map}
 use Rattle.std.proofs.lemmas.Bool.{ltb-false, le-ltb, lt-ltb, cond-true, cond-false}
 use Rattle.std.proofs.lemmas.List.{take_at, drop_at, take-append-drop, length-take-le, length-drop, nil_from_length}
@@ -75,7 +76,8 @@ items_read [] = refl
 items_read (item ∷ items) =
     let front : take (length item.bytes) (item.bytes ++ held_by items) ≡ item.bytes = take_at item.bytes (held_by items) (length item.bytes) refl in
     let back : drop (length item.bytes) (item.bytes ++ held_by items) ≡ held_by items = drop_at item.bytes (held_by items) (length item.bytes) refl in
-    ap₂ (λ (i : Item) (is : List Item). i ∷ is) (ap (λ (bytes : List ℕ). record item { bytes = bytes }) front) (ap (items_so (map said items) (map writable items)) back ∙ items_read items)
+    ap₂ (λ (i : Item) (is : List Item). i ∷ is) (ap (λ (bytes : List ℕ). record item { bytes = bytes }) front)
+    (ap (items_so (map said items) (map writable items)) back ∙ items_read items)
 
 -- the items that entries, flags and bytes stand for
 pub record Stand (items : List Item) (listed : List Listed) (bools : List Bool) (contents : List ℕ) : Type 0 where
@@ -83,7 +85,8 @@ pub record Stand (items : List Item) (listed : List Listed) (bools : List Bool) 
   pub flags : map writable items ≡ bools
   pub bytes : held_by items ≡ contents
 
-pub items_stand : (listed : List Listed) (bools : List Bool) (contents : List ℕ) → length bools ≡ length listed → sizes listed ≡ length contents → Stand (items_so listed bools contents) listed bools contents
+pub items_stand : (listed : List Listed) (bools : List Bool) (contents : List ℕ) → length bools ≡ length listed → sizes listed ≡ length contents
+    → Stand (items_so listed bools contents) listed bools contents
 unfolding items_so
 items_stand [] bools contents as_many whole = record {
   entries = refl;
@@ -115,7 +118,8 @@ contents_read items small =
     ∙ ap (λ (is : List Item). Ok is) (items_read items)
 
 -- bytes that lack something are cut short
-pub contents_short : (items : List Item) (contents : List ℕ) → total_size items ≤ bytes_limit → length contents < total_size items → contents_so (map said items) (map writable items) contents ≡ Err Truncated
+pub contents_short : (items : List Item) (contents : List ℕ) → total_size items ≤ bytes_limit → length contents < total_size items
+    → contents_so (map said items) (map writable items) contents ≡ Err Truncated
 unfolding contents_so
 contents_short items contents small short =
     let total = sizes-said items in
@@ -128,7 +132,8 @@ pub record Contents (listed : List Listed) (bools : List Bool) (contents : List 
   pub whole : sizes listed ≡ length contents
   pub are : items_so listed bools contents ≡ items
 
-pub contents_were : (listed : List Listed) (bools : List Bool) (contents : List ℕ) (items : List Item) → contents_so listed bools contents ≡ Ok items → Contents listed bools contents items
+pub contents_were : (listed : List Listed) (bools : List Bool) (contents : List ℕ) (items : List Item) → contents_so listed bools contents ≡ Ok items
+    → Contents listed bools contents items
 unfolding contents_so
 contents_were listed bools contents items is =
     let all : Result (List Item) ImageFault = Ok (items_so listed bools contents) in

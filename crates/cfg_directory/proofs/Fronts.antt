@@ -43,7 +43,8 @@ short_flags n listed bytes short = cond-true (ltb (length bytes) n) _ _ (lt-ltb 
 
 -- ---- a front of what stands behind a part
 
-cut_in_flags : (items : List Item) (front rest : List ℕ) → total_size items ≤ bytes_limit → flags_of items ++ held_by items ≡ front ++ rest → 0 < length rest → flagged_so (length items) (map said items) front ≡ Err Truncated
+cut_in_flags : (items : List Item) (front rest : List ℕ) → total_size items ≤ bytes_limit → flags_of items ++ held_by items ≡ front ++ rest → 0 < length rest
+    → flagged_so (length items) (map said items) front ≡ Err Truncated
 cut_in_flags items front rest small is lacks =
     let n = length items in
     let size : length (flags_of items) ≡ n = length-map items (λ (item : Item). flag_of item.writable) in
@@ -58,7 +59,9 @@ cut_in_flags items front rest small is lacks =
           ∙ contents_short items after small short
     ]
 
-cut_in_entries : (items : List Item) (count entries front rest : List ℕ) → Parts items count entries → length items ≤ file_limit → total_size items ≤ bytes_limit → entries ++ (flags_of items ++ held_by items) ≡ front ++ rest → 0 < length rest → counted_so (be count) front ≡ Err Truncated
+cut_in_entries : (items : List Item) (count entries front rest : List ℕ) → Parts items count entries → length items ≤ file_limit
+    → total_size items ≤ bytes_limit → entries ++ (flags_of items ++ held_by items) ≡ front ++ rest → 0 < length rest
+    → counted_so (be count) front ≡ Err Truncated
 cut_in_entries items count entries front rest parts few small is lacks =
     elim (cases_lt (length front) (64 * length items)) as (λ _. counted_so (be count) front ≡ Err Truncated) [
       | inl short ↦ ap (λ n. counted_so n front) parts.count_is ∙ short_entries (length items) front few short
@@ -70,7 +73,8 @@ cut_in_entries items count entries front rest parts few small is lacks =
           ∙ cut_in_flags items after rest small split.after lacks
     ]
 
-pub front_is_truncated : (items : List Item) (bytes front rest : List ℕ) → IsContainer bytes items → bytes ≡ front ++ rest → 0 < length rest → read_so front ≡ Err Truncated
+pub front_is_truncated : (items : List Item) (bytes front rest : List ℕ) → IsContainer bytes items → bytes ≡ front ++ rest → 0 < length rest
+    → read_so front ≡ Err Truncated
 front_is_truncated items bytes front rest contains is lacks =
     let parts = Parts-from bytes items contains in
     let count = contains.count in

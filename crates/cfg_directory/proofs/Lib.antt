@@ -1,7 +1,6 @@
 pub mod Names
 pub mod OneMoreItem
 pub mod BytesPut
-pub mod Bytes
 pub mod Steps
 pub mod Parts
 pub mod ReadParts

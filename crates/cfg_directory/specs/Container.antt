@@ -1,17 +1,20 @@
 -- A container of files: the directory, a byte for each file that says whether it may be written, and the files' bytes in
 -- the directory's order.
-use Rattle.std.specs.Prelude.{◌≡◌, ℕ, zero, suc, ◌+◌, ◌*◌, ◌≤◌, Bool, true, false, not, ◌&&◌, List, [], ◌∷◌, ◌++◌, length, take, drop, map, sum_by, Result, Ok, Err, nat_lt, nat_le, ◌==◌, if◌then◌else◌}
+use Rattle.std.specs.Prelude.{◌≡◌, ℕ, zero, suc, ◌+◌, ◌*◌, ◌≤◌, Bool, true, false, not, ◌&&◌, List, [], ◌∷◌, ◌++◌, length, take, drop, map, sum_by, Result}
+use Rattle.std.specs.Prelude.{Ok, Err, nat_lt, nat_le, ◌==◌, if◌then◌else◌}
 use Rattle.std.specs.List.{flat_map, list_any}
 use Rattle.std.specs.Str.{bytes_eq}
-use Rattle.vt_outside.specs.Name.{name_of, before_nul}
 use Rattle.vt_outside.specs.declared.name.NameFault.{NameFault}
 use Rattle.vt_bytes.specs.Numbers.{be}
-use Rattle.vt_bytes.specs.Parts.{part}
+use Rattle.vt_bytes.specs.View.{view_of}
+use Rattle.vt_layout.specs.Shown.{LayoutShown}
+use Rattle.vt_layout.specs.Reading.{read_number, read_name}
 use Rattle.cfg_directory.specs.declared.item.Item.{Item}
 use Rattle.cfg_directory.specs.declared.listed.Listed.{Listed}
 use Rattle.cfg_directory.specs.declared.container.ImageFault.{ImageFault}
-use Rattle.cfg_directory.specs.declared.container.ImageFault.TheVariants.{Truncated, TooMany, BadName, TwiceNamed, TwiceSelected, BadSelect, BadFlag, TrailingBytes, TooLarge, OutOfMemory}
-use Rattle.cfg_directory.specs.Items.{IsItems, file_limit, bytes_limit, directory_of}
+use Rattle.cfg_directory.specs.declared.container.ImageFault.TheVariants.{Truncated, TooMany, BadName, TwiceNamed, TwiceSelected, BadSelect, BadFlag}
+use Rattle.cfg_directory.specs.declared.container.ImageFault.TheVariants.{TrailingBytes, TooLarge, OutOfMemory}
+use Rattle.cfg_directory.specs.Items.{IsItems, file_limit, bytes_limit, entry_rows, directory_of}
 
 -- the byte that says whether a file may be written
 abbrev pub flag_of : Bool → ℕ
@@ -27,9 +30,7 @@ container_of items =
 -- the name's field, may be anything.
 pub record IsEntry (entry : List ℕ) (item : Item) : Type 0 where
   pub size : length entry ≡ 64
-  pub count : be (part entry 0 4) ≡ length item.bytes
-  pub select : be (part entry 4 2) ≡ item.select
-  pub name : name_of (before_nul (part entry 8 56)) ≡ Ok item.name
+  pub rows : LayoutShown (view_of entry) 0 (entry_rows (length item.bytes) item.select item.name)
 
 -- the entries of a directory, one by one
 abbrev pub AreEntries : List ℕ → List Item → Type 0
@@ -62,7 +63,9 @@ listed_so index before size select (Ok name) =
     else Ok (record { name = name; select = select; size = size })))
 
 unfoldable pub listed_of : ℕ → List Listed → List ℕ → Result Listed ImageFault
-listed_of index before entry = listed_so index before (be (part entry 0 4)) (be (part entry 4 2)) (name_of (before_nul (part entry 8 56)))
+listed_of index before entry =
+    let rows = entry_rows 0 0 [] in
+    listed_so index before (read_number 0 rows entry) (read_number 1 rows entry) (read_name 3 rows entry)
 
 -- what so many entries say, from an index on
 unfoldable pub directory_so : ℕ → ℕ → List Listed → List ℕ → Result (List Listed) ImageFault
@@ -77,12 +80,16 @@ flags_so index (zero ∷ flags) = flags_so (index + 1) flags >>= (λ rest. Ok (f
 flags_so index (suc zero ∷ flags) = flags_so (index + 1) flags >>= (λ rest. Ok (true ∷ rest))
 flags_so index (suc (suc flag) ∷ flags) = Err (BadFlag index)
 
+-- the item of an entry
+abbrev pub item_so : Listed → Bool → List ℕ → Item
+item_so listed writable contents = record { name = listed.name; select = listed.select; writable = writable; bytes = contents }
+
 -- the items, each with as many bytes as its entry says
 unfoldable pub items_so : List Listed → List Bool → List ℕ → List Item
 items_so [] flags contents = []
 items_so (listed ∷ others) [] contents = []
 items_so (listed ∷ others) (flag ∷ flags) contents =
-    record { name = listed.name; select = listed.select; writable = flag; bytes = take listed.size contents } ∷ items_so others flags (drop listed.size contents)
+    item_so listed flag (take listed.size contents) ∷ items_so others flags (drop listed.size contents)
 
 -- The files' bytes are due: they are too many by what the entries say, they end too early, or something follows them.
 unfoldable pub contents_so : List Listed → List Bool → List ℕ → Result (List Item) ImageFault

@@ -2,9 +2,11 @@
 use Rattle.std.specs.Prelude.{◌≡◌, ℕ, ◌+◌, ◌≤◌, false, List, [], ◌∷◌, ◌++◌, length, map, sum_by, Option, find, ◌==◌, if◌then◌else◌}
 use Rattle.std.specs.List.{flat_map, AllByRecursion}
 use Rattle.std.specs.Str.{bytes_eq}
-use Rattle.vt_outside.specs.Name.{in_field}
 use Rattle.vt_bytes.specs.Numbers.{be_bytes}
 use Rattle.vt_bytes.specs.Parts.{put_at}
+use Rattle.vt_layout.specs.declared.row.Row.{Row}
+use Rattle.vt_layout.specs.declared.row.Row.TheVariants.{BigEndian, Named, Reserved}
+use Rattle.vt_layout.specs.Rows.{spelled}
 use Rattle.cfg_directory.specs.declared.item.Item.{Item}
 
 -- how many files there may be, and how many bytes they may have in all
@@ -57,9 +59,12 @@ abbrev pub with_bytes_at : List Item → ℕ → ℕ → List ℕ → List Item
 with_bytes_at items select offset piece =
     map (λ (item : Item). if item.select == select then record item { bytes = put_at item.bytes offset piece } else item) items
 
--- An entry of the directory: size and selector high byte first, a reserved field, and the name in 56 bytes.
+-- The rows of an entry of the directory: size and selector high byte first, a reserved field, and the name in 56 bytes.
+abbrev pub entry_rows : ℕ → ℕ → List ℕ → List Row
+entry_rows size select name = BigEndian 4 size ∷ BigEndian 2 select ∷ Reserved 2 ∷ Named name ∷ []
+
 abbrev pub entry_bytes : Item → List ℕ
-entry_bytes item = be_bytes 4 (length item.bytes) ++ be_bytes 2 item.select ++ 0 ∷ 0 ∷ in_field item.name
+entry_bytes item = spelled (entry_rows (length item.bytes) item.select item.name)
 
 -- The directory, item 0x0019: the number of files high byte first, and an entry for each.
 abbrev pub directory_of : List Item → List ℕ

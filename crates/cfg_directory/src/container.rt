@@ -11,18 +11,18 @@ use crate::reading::read_parts;
 use std::alloc::Global;
 use vt_outside::{Bytes, OutOfMemory};
 
-/// Why bytes are no container. An index is that of the entry, from 0.
+/// Why bytes are no container. An index is that of the file's entry, from 0.
 #[derive(Clone, Copy, Debug, PartialEq, Eq)]
 pub enum ImageFault {
-    /// They end too early.
+    /// They end within the number of files, the entries, the flags or the files' contents, or before one of them.
     Truncated,
     /// There are more than 1,024 files.
     TooMany,
-    /// A name is no file name.
+    /// The field of a name holds no file name.
     BadName(u32),
-    /// A name was given before.
+    /// An entry before this one has the same name.
     TwiceNamed(u32),
-    /// A selector was given before.
+    /// An entry before this one has the same selector.
     TwiceSelected(u32),
     /// A selector is below 0x20 or above 0x3FFF.
     BadSelect(u32),
@@ -32,7 +32,7 @@ pub enum ImageFault {
     TrailingBytes,
     /// The files have more than 67,108,864 bytes.
     TooLarge,
-    /// Memory ran out.
+    /// Memory ran out. The bytes may be a container or not.
     OutOfMemory,
 }
 
@@ -44,7 +44,9 @@ impl From<OutOfMemory> for ImageFault {
     }
 }
 
-/// The items that the bytes are a container of.
+/// Reads the items that `bytes` are a container of, into memory from `alloc`. It fails where `bytes` are no container, with the
+/// first fault in the order of the bytes, and with `OutOfMemory` where memory runs out. Memory is needed only once the number
+/// of files is there, is at most 1,024, and so many entries are there.
 pub fn read_image(alloc: Global, bytes: &[u8]) -> Result<Items, ImageFault>
     // What is read is spelled so.
     ensures found { IfOk result (λ items. IsContainer bytes.now items) }
@@ -58,7 +60,8 @@ pub fn read_image(alloc: Global, bytes: &[u8]) -> Result<Items, ImageFault>
     Ok(Items::of(read_parts(alloc, bytes)?))
 }
 
-/// The container of items.
+/// Writes the container of `items`, in memory from `alloc`, with zeros in reserved fields and behind names. `read_image` reads
+/// the same items from it, unless memory runs out. It fails with `OutOfMemory` only where memory runs out.
 pub fn write_image(alloc: Global, items: &Items) -> Result<Bytes, OutOfMemory>
     ensures spelled { IfOk result (λ bytes. bytes ≡ container_of items.now) }
     ensures read_again { IfOk result (λ bytes. IsContainer bytes items.now) }

@@ -30,7 +30,7 @@ impl Model for Items {
 }
 
 impl Items {
-    /// No files. It takes no memory.
+    /// Makes a device of no files, which will take its memory from `alloc`. It takes none yet.
     pub fn new(alloc: Global) -> Items
         ensures { result ≡ [] }
     {
@@ -39,7 +39,7 @@ impl Items {
         }
     }
 
-    /// The items in a list.
+    /// Makes a device of the files in a list.
     pub(crate) fn of(items: List<Item>) -> Items
         requires { IsItems items }
         ensures { result ≡ items }
@@ -47,7 +47,10 @@ impl Items {
         Items { items }
     }
 
-    /// Adds a file last, with the selector 0x20 plus its position, which it gives.
+    /// Adds a file last, with the selector 0x20 plus its index, and returns that selector. No file may have the name `name`
+    /// yet, and each one must have the selector 0x20 plus its index. There must be fewer than 1,024 files yet, and with
+    /// `bytes`, the contents, they may have at most 67,108,864 bytes. `writable` says whether the guest may write the file. It
+    /// fails with `OutOfMemory` only where memory runs out, and then the files are unchanged.
     pub fn add(&mut self, name: Name, writable: bool, bytes: Bytes) -> Result<u16, OutOfMemory>
         requires name { HasNoName self.old name }
         requires numbered { AreNumberedFrom 0x20 self.old }
@@ -62,7 +65,10 @@ impl Items {
         Ok(select)
     }
 
-    /// Adds a file last, with this selector.
+    /// Adds a file last, with the selector `select`, from 0x20 to 0x3FFF. No file may have the name `name` or the selector yet.
+    /// There must be fewer than 1,024 files yet, and with `bytes`, the contents, they may have at most 67,108,864 bytes.
+    /// `writable` says whether the guest may write the file. It fails with `OutOfMemory` only where memory runs out, and then
+    /// the files are unchanged.
     pub fn add_at(
         &mut self,
         name: Name,
@@ -85,14 +91,14 @@ impl Items {
         })
     }
 
-    /// The file of a name.
+    /// Returns the file with the name `name`, or `None`.
     pub fn find(&self, name: &Name) -> Option<&Item>
         ensures { option_copied result ≡ named self.now name.now }
     {
         self.items.as_slice().iter().find(|item| item.name == *name)
     }
 
-    /// The file of a selector.
+    /// Returns the file with the selector `select`, or `None`.
     pub fn by_select(&self, select: u16) -> Option<&Item>
         ensures { option_copied result ≡ selected self.now select }
     {
@@ -102,18 +108,20 @@ impl Items {
             .find(|item| item.select == select)
     }
 
-    /// Puts bytes into the file of a selector, at an offset. It takes no memory.
+    /// Writes `bytes` into the file with the selector `select`, from `offset` on, in bytes from the file's start. There must be
+    /// such a file, and they must fit in it, so its size stays. Each other byte stays. It takes no memory, and doesn't test
+    /// whether the guest may write the file.
     pub fn write_at(&mut self, select: u16, offset: u32, bytes: &[u8])
         requires { IsSomeAnd (selected self.old select) (λ item. offset + length bytes.now ≤ length item.bytes) }
         ensures { self.new ≡ with_bytes_at self.old select offset bytes.now }
     {
-        if let Some(place) = place_of(self.items.as_slice(), select) {
+        if let Some(place) = index_of(self.items.as_slice(), select) {
             let item = self.items.get_mut(place);
             item.bytes.put(offset as usize, bytes);
         }
     }
 
-    /// The files, in their order.
+    /// Lends the files, in the order in which they were added.
     pub fn all(&self) -> &[Item]
         ensures items { result.now ≡ self.now }
         ensures kept { IsItems self.now }
@@ -122,8 +130,8 @@ impl Items {
     }
 }
 
-// The place of the file of a selector.
-fn place_of(items: &[Item], select: u16) -> Option<usize>
+// The index of the file of a selector.
+fn index_of(items: &[Item], select: u16) -> Option<usize>
     ensures { result ≡ position (λ item. item.select == select) items.now }
 {
     items.iter().position(|item| item.select == select)

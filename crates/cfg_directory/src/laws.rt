@@ -8,18 +8,18 @@ ghost use Rattle.cfg_directory.specs.declared.container.ImageFault.TheVariants.{
 ghost use Rattle.cfg_directory.specs.Items.{IsItems};
 ghost use Rattle.cfg_directory.specs.Container.{IsContainer, container_of, read_so};
 
-/// Bytes are a container of one list of items at most.
+/// States that bytes are a container of one list of items at most.
 pub fn one_list_is_contained()
     ensures { (bytes : List ℕ) (a b : List Item) → IsContainer bytes a → IsContainer bytes b → a ≡ b }
 {}
 
-/// What is written is a container of the items, where each name is one.
+/// States that what is written is a container of the items, where each name is a file name.
 pub fn written_items_are_contained()
     ensures { (items : List Item) → IsItems items → AllByRecursion (λ item. IsName item.name) items
         → IsContainer (container_of items) items }
 {}
 
-/// Every front of a container that lacks something at its end is cut short.
+/// States that reading a container that lacks something at its end gives `Truncated`, wherever it was cut.
 pub fn every_front_is_truncated()
     ensures { (items : List Item) (bytes front rest : List ℕ) → IsContainer bytes items → bytes ≡ front ++ rest → 0 < length rest
         → read_so front ≡ Err Truncated }

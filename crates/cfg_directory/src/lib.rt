@@ -18,6 +18,3 @@ pub use container::{ImageFault, read_image, write_image};
 pub use directory::directory_bytes;
 pub use item::Item;
 pub use items::Items;
-
-#[cfg(test)]
-mod tests;

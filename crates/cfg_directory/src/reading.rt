@@ -1,19 +1,21 @@
 //! The parts of a container, each read from the front of what is left.
 
-ghost use Rattle.std.specs.Prelude.{◌≡◌, ◌≢◌, ◌==◌, ◌*◌, ◌≤◌, Ok, Err, IfOk, length, take, drop, map, nat_lt, sum_by};
+ghost use Rattle.std.specs.Prelude.{◌≡◌, ◌≢◌, ◌==◌, ◌*◌, ◌≤◌, [], ◌∷◌, ◌++◌, Ok, Err, IfOk, OnOk, length, take, drop, map, nat_lt, sum_by};
 ghost use Rattle.std.specs.List.{list_any, position};
 ghost use Rattle.std.specs.Str.{bytes_eq};
 ghost use Rattle.vt_bytes.specs.Numbers.{be};
 ghost use Rattle.cfg_directory.specs.declared.container.ImageFault.TheVariants.{OutOfMemory as NoMemory};
 ghost use Rattle.cfg_directory.specs.Items.{file_limit, bytes_limit};
-ghost use Rattle.cfg_directory.specs.Container.{Gives, HasEntries, listed_so, listed_of, items_so, contents_so};
+ghost use Rattle.cfg_directory.specs.Container.{Gives, HasEntries, listed_so, listed_of, item_so, items_so, contents_so};
 ghost use Rattle.cfg_directory.specs.Parts.{is_set, count_at, directory_at, flags_at, parts_of};
 
 use crate::container::ImageFault;
+use crate::directory::entry_rows;
 use crate::item::Item;
 use crate::listed::Listed;
 use std::alloc::Global;
 use vt_bytes::get_be;
+use vt_layout::{blank_name, read_name, read_u16, read_u32};
 use vt_outside::{Bytes, List, Name, OutOfMemory};
 
 // How many files there may be, and how many bytes they may have in all.
@@ -24,12 +26,7 @@ const BYTES_LIMIT: u64 = 67_108_864;
 // The bytes of an entry.
 const ENTRY_SIZE: usize = 64;
 
-// Where an entry's selector and its name stand.
-const SELECT_AT: usize = 4;
-
-const NAME_AT: usize = 8;
-
-/// The items that the bytes are a container of.
+/// Reads the items that `bytes` are a container of.
 #[tactic(auto, unfolding(crate::specs::Parts::parts_of))]
 pub(crate) fn read_parts(alloc: Global, bytes: &[u8]) -> Result<List<Item>, ImageFault>
     ensures exact { Gives (λ items. items) result (parts_of bytes.now) }
@@ -93,13 +90,12 @@ fn read_entry(index: u32, before: &[Listed], entry: &[u8]) -> Result<Listed, Ima
     ensures exact { Gives (λ listed. listed) result (listed_of index before.now entry.now) }
     ensures sure { result ≢ Err NoMemory }
 {
-    let size = get_be(entry, 0, 4) as u32;
-    let select = get_be(entry, SELECT_AT, 2) as u16;
-    let mut field = [0; 56];
-    field.copy_from_slice(&entry[NAME_AT..ENTRY_SIZE]);
-    let Ok(name) = Name::read(&field) else {
+    let rows = entry_rows(0, 0, &blank_name());
+    let Ok(name) = read_name(entry, &rows, 3) else {
         return Err(ImageFault::BadName(index));
     };
+    let size = read_u32(entry, &rows, 0);
+    let select = read_u16(entry, &rows, 1);
     checked(index, before, Listed { name, select, size })
 }
 
@@ -206,16 +202,28 @@ fn take_items(
     let mut rest = bytes;
     for (index, entry) in listed.iter().enumerate() {
         let (contents, after) = rest.split_at(entry.size as usize);
-        let flag = flags[index];
-        let mut bytes = Bytes::new(alloc);
-        bytes.extend(contents)?;
-        items.push(Item {
-            name: entry.name,
-            select: entry.select,
-            writable: flag == 1,
-            bytes,
-        })?;
+        push_item(alloc, &mut items, entry, flags[index], contents)?;
         rest = after;
     }
     Ok(items)
+}
+
+// Adds the item of an entry, which holds `contents`.
+fn push_item(
+    alloc: Global,
+    items: &mut List<Item>,
+    entry: &Listed,
+    flag: u8,
+    contents: &[u8],
+) -> Result<(), OutOfMemory>
+    ensures { OnOk result (items.new ≡ items.old ++ item_so entry.now (is_set flag) contents.now ∷ []) }
+{
+    let mut bytes = Bytes::new(alloc);
+    bytes.extend(contents)?;
+    items.push(Item {
+        name: entry.name,
+        select: entry.select,
+        writable: flag == 1,
+        bytes,
+    })
 }

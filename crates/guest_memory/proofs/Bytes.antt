@@ -1,5 +1,6 @@
 -- Lists of the bytes of a memory.
-use Rattle.std.proofs.Common.{◌≡◌, ℕ, zero, suc, ◌+◌, ◌-◌, ◌<◌, ◌≤◌, List, [], ◌∷◌, ◌++◌, length, slice_index, take, drop, arith, refl, ap, sym, ◌∙◌, add-zero, length-take, length-drop, get_or-take, get_or-drop}
+use Rattle.std.proofs.Common.{◌≡◌, ℕ, zero, suc, ◌+◌, ◌-◌, ◌<◌, ◌≤◌, List, [], ◌∷◌, ◌++◌, length, slice_index, take, drop, arith, refl, ap, sym, ◌∙◌}
+use Rattle.std.proofs.Common.{add-zero, length-take, length-drop, get_or-take, get_or-drop}
 use Rattle.guest_memory.specs.Memory.{Memory, at, bytes_at}
 
 -- there are as many as were asked for
@@ -9,7 +10,8 @@ length-bytes_at m a zero = refl
 length-bytes_at m a (suc n) = ap suc (length-bytes_at m (a + 1) n)
 
 -- a memory that holds each byte of a list holds the list
-pub bytes_at-each : (m : Memory) (a : ℕ) (bytes : List ℕ) → ((i : ℕ) → i < length bytes → at m (a + i) ≡ slice_index bytes i) → bytes_at m a (length bytes) ≡ bytes
+pub bytes_at-each : (m : Memory) (a : ℕ) (bytes : List ℕ) → ((i : ℕ) → i < length bytes → at m (a + i) ≡ slice_index bytes i)
+    → bytes_at m a (length bytes) ≡ bytes
 unfolding bytes_at
 bytes_at-each m a [] h = refl
 bytes_at-each m a (byte ∷ bytes) h =
@@ -19,7 +21,8 @@ bytes_at-each m a (byte ∷ bytes) h =
     ap (λ b. b ∷ bytes_at m (a + 1) (length bytes)) first ∙ ap (λ bs. byte ∷ bs) (bytes_at-each m (a + 1) bytes rest)
 
 -- a part of a window is the bytes of the range that it holds
-pub bytes_at-window : (m : Memory) (a n place : ℕ) (window : List ℕ) → place + n ≤ length window → ((i : ℕ) → i < n → at m (a + i) ≡ slice_index window (place + i)) → take n (drop place window) ≡ bytes_at m a n
+pub bytes_at-window : (m : Memory) (a n place : ℕ) (window : List ℕ) → place + n ≤ length window
+    → ((i : ℕ) → i < n → at m (a + i) ≡ slice_index window (place + i)) → take n (drop place window) ≡ bytes_at m a n
 bytes_at-window m a n place window within same =
     let size : length (take n (drop place window)) ≡ n = simp (length-take, length-drop) (omega arith) in
     let each : (i : ℕ) → i < length (take n (drop place window)) → at m (a + i) ≡ slice_index (take n (drop place window)) i =
@@ -70,7 +73,8 @@ bytes_at-parts m a (suc k) n =
 pub part-bytes_at : (m : Memory) (a n offset size : ℕ) → offset + size ≤ n → take size (drop offset (bytes_at m a n)) ≡ bytes_at m (a + offset) size
 part-bytes_at m a n offset size within =
     let in_two : n ≡ offset + (n - offset) = omega arith in
-    ap (λ all. take size (drop offset (bytes_at m a all))) in_two ∙ ap (take size) (drop-bytes_at m a offset (n - offset)) ∙ take-bytes_at m (a + offset) size (n - offset) (omega arith)
+    ap (λ all. take size (drop offset (bytes_at m a all))) in_two ∙ ap (take size) (drop-bytes_at m a offset (n - offset))
+    ∙ take-bytes_at m (a + offset) size (n - offset) (omega arith)
 
 -- one byte of a range
 pub index-bytes_at : (m : Memory) (a n k : ℕ) → k < n → slice_index (bytes_at m a n) k ≡ at m (a + k)

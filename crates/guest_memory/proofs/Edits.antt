@@ -21,7 +21,8 @@ wrote_one xs place byte l = record {
 }
 
 -- what a copy to a part of a `Vec` leaves
-pub wrote_slice : (xs : List ℕ) (place k n : ℕ) (seen part bytes : List ℕ) → seen ≡ xs → part ≡ bytes → k ≡ length bytes → n ≡ length xs → place + length bytes ≤ length xs → Wrote xs (take n (put_mid place k seen part ++ drop (length (put_mid place k seen part)) xs)) place bytes
+pub wrote_slice : (xs : List ℕ) (place k n : ℕ) (seen part bytes : List ℕ) → seen ≡ xs → part ≡ bytes → k ≡ length bytes → n ≡ length xs
+    → place + length bytes ≤ length xs → Wrote xs (take n (put_mid place k seen part ++ drop (length (put_mid place k seen part)) xs)) place bytes
 wrote_slice xs place k n seen part bytes s p e m l = record {
   len = grind (arith, places);
   there = λ i w. grind (arith, places);

@@ -4,7 +4,8 @@ use Rattle.std.proofs.lemmas.Bool.Decides.{nat_tests}
 use Rattle.guest_memory.specs.Memory.{IsTop, IsRamRange, high_start}
 
 -- a range of RAM that is not empty lies in one of the three parts of RAM
-pub one_part : (top a n : ℕ) → IsTop top → IsRamRange top a n → 0 < n → (a + n ≤ 0xA0000) ⊎ (((0xE0000 ≤ a) × (a + n ≤ 0x100000)) ⊎ ((high_start top ≤ a) × (a + n ≤ top)))
+pub one_part : (top a n : ℕ) → IsTop top → IsRamRange top a n → 0 < n
+    → (a + n ≤ 0xA0000) ⊎ (((0xE0000 ≤ a) × (a + n ≤ 0x100000)) ⊎ ((high_start top ≤ a) × (a + n ≤ top)))
 one_part top a n t r p =
     grind (arith, r 0, r (0xA0000 - a), r (0x100000 - a), r (top - a))
 

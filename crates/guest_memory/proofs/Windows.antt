@@ -23,7 +23,8 @@ part_low seen m a n e within low =
     subst (λ other. take n (drop a seen.low) ≡ bytes_at other a n) e (bytes_at-window seen a n a seen.low within (λ i l. at_low seen (a + i) (omega arith)))
 
 -- a part of the upper window
-pub part_high : (seen m : Memory) (a n place : ℕ) → seen ≡ m → place + n ≤ length seen.high → IsTop seen.top → place + high_start seen.top ≡ a → take n (drop place seen.high) ≡ bytes_at m a n
+pub part_high : (seen m : Memory) (a n place : ℕ) → seen ≡ m → place + n ≤ length seen.high → IsTop seen.top → place + high_start seen.top ≡ a
+    → take n (drop place seen.high) ≡ bytes_at m a n
 part_high seen m a n place e within top p =
     subst (λ other. take n (drop place seen.high) ≡ bytes_at other a n) e
     (bytes_at-window seen a n place seen.high within (λ i l.
@@ -31,19 +32,23 @@ part_high seen m a n place e within top p =
     at_high seen (a + i) (past_low seen.top (a + i) top (omega arith)) ∙ ap (slice_index seen.high) k))
 
 -- a write to the lower window, from the memory as it was
-puts_low_seen : (old new : Memory) (a : ℕ) (bytes : List ℕ) → new.top ≡ old.top → new.fill ≡ old.fill → new.high ≡ old.high → Wrote old.low new.low a bytes → a + length bytes ≤ 0x100000 → Puts old new a bytes
+puts_low_seen : (old new : Memory) (a : ℕ) (bytes : List ℕ) → new.top ≡ old.top → new.fill ≡ old.fill → new.high ≡ old.high
+    → Wrote old.low new.low a bytes → a + length bytes ≤ 0x100000 → Puts old new a bytes
 puts_low_seen old new a bytes top fill high w l = record {
   top = top;
   fill = fill;
   there = bytes_at-each new a bytes (λ i h. at_low new (a + i) (omega arith) ∙ w.there i h);
   elsewhere = λ b r o. elim (cases_lt b 0x100000) as (λ _. at new b ≡ at old b) [
-    | inl below ↦ at_low new b below ∙ elim o as (λ _. slice_index new.low b ≡ slice_index old.low b) [ inl h ↦ w.below b h | inr h ↦ w.past b h ] ∙ sym (at_low old b below)
-    | inr past ↦ at_high new b past ∙ ap (λ bs. slice_index bs (b - high_start new.top)) high ∙ ap (λ t. slice_index old.high (b - high_start t)) top ∙ sym (at_high old b past)
+    | inl below ↦ at_low new b below ∙ elim o as (λ _. slice_index new.low b ≡ slice_index old.low b) [ inl h ↦ w.below b h | inr h ↦ w.past b h ]
+        ∙ sym (at_low old b below)
+    | inr past ↦ at_high new b past ∙ ap (λ bs. slice_index bs (b - high_start new.top)) high ∙ ap (λ t. slice_index old.high (b - high_start t)) top
+        ∙ sym (at_high old b past)
   ];
 }
 
 -- a write to the lower window, from the memory as the code sees it
-pub puts_low : (old seen new : Memory) (a : ℕ) (bytes : List ℕ) → seen ≡ old → new.top ≡ seen.top → new.fill ≡ seen.fill → new.high ≡ seen.high → Wrote seen.low new.low a bytes → a + length bytes ≤ 0x100000 → Puts old new a bytes
+pub puts_low : (old seen new : Memory) (a : ℕ) (bytes : List ℕ) → seen ≡ old → new.top ≡ seen.top → new.fill ≡ seen.fill → new.high ≡ seen.high
+    → Wrote seen.low new.low a bytes → a + length bytes ≤ 0x100000 → Puts old new a bytes
 puts_low old seen new a bytes e top fill high w l = subst (λ m. Puts m new a bytes) e (puts_low_seen seen new a bytes top fill high w l)
 
 -- RAM past the lower window is in the upper one
@@ -51,7 +56,8 @@ in_high : (top a : ℕ) → IsRam top a → 0x100000 ≤ a → high_start top �
 in_high top a r h = grind arith
 
 -- a write to the upper window, from the memory as it was
-puts_high_seen : (old new : Memory) (a place : ℕ) (bytes : List ℕ) → new.top ≡ old.top → new.fill ≡ old.fill → new.low ≡ old.low → Wrote old.high new.high place bytes → IsTop old.top → place + high_start old.top ≡ a → Puts old new a bytes
+puts_high_seen : (old new : Memory) (a place : ℕ) (bytes : List ℕ) → new.top ≡ old.top → new.fill ≡ old.fill → new.low ≡ old.low
+    → Wrote old.high new.high place bytes → IsTop old.top → place + high_start old.top ≡ a → Puts old new a bytes
 puts_high_seen old new a place bytes top fill low w t p =
     let index : (b : ℕ) → b - high_start new.top ≡ b - high_start old.top = λ b. ap (λ x. b - high_start x) top in
     record {
@@ -65,22 +71,26 @@ puts_high_seen old new a place bytes top fill low w t p =
         | inr past ↦
             let from : high_start old.top ≤ b = in_high old.top b r past in
             at_high new b past ∙ ap (slice_index new.high) (index b)
-            ∙ elim o as (λ _. slice_index new.high (b - high_start old.top) ≡ slice_index old.high (b - high_start old.top)) [ inl h ↦ w.below _ (omega arith) | inr h ↦ w.past _ (omega arith) ]
+            ∙ elim o as (λ _. slice_index new.high (b - high_start old.top)
+            ≡ slice_index old.high (b - high_start old.top)) [ inl h ↦ w.below _ (omega arith) | inr h ↦ w.past _ (omega arith) ]
             ∙ sym (at_high old b past)
       ];
     }
 
 -- a write to the upper window, from the memory as the code sees it
-pub puts_high : (old seen new : Memory) (a place : ℕ) (bytes : List ℕ) → seen ≡ old → new.top ≡ seen.top → new.fill ≡ seen.fill → new.low ≡ seen.low → Wrote seen.high new.high place bytes → IsTop seen.top → place + high_start seen.top ≡ a → Puts old new a bytes
+pub puts_high : (old seen new : Memory) (a place : ℕ) (bytes : List ℕ) → seen ≡ old → new.top ≡ seen.top → new.fill ≡ seen.fill → new.low ≡ seen.low
+    → Wrote seen.high new.high place bytes → IsTop seen.top → place + high_start seen.top ≡ a → Puts old new a bytes
 puts_high old seen new a place bytes e top fill low w t p = subst (λ m. Puts m new a bytes) e (puts_high_seen seen new a place bytes top fill low w t p)
 
 -- a write to the lower window that is outside the hole keeps the hole
-pub keeps_low : (old new : Memory) (a : ℕ) (bytes : List ℕ) → new.top ≡ old.top → new.fill ≡ old.fill → new.high ≡ old.high → Wrote old.low new.low a bytes → IsMemory old → (a + length bytes ≤ 0xA0000) ⊎ (0xE0000 ≤ a) → IsMemory new
+pub keeps_low : (old new : Memory) (a : ℕ) (bytes : List ℕ) → new.top ≡ old.top → new.fill ≡ old.fill → new.high ≡ old.high
+    → Wrote old.low new.low a bytes → IsMemory old → (a + length bytes ≤ 0xA0000) ⊎ (0xE0000 ≤ a) → IsMemory new
 keeps_low old new a bytes top fill high w m o = record {
   top = subst IsTop (sym top) m.top;
   low = w.len ∙ m.low;
   high = ap length high ∙ m.high;
-  hole = λ b p q. elim o as (λ _. slice_index new.low b ≡ slice_index old.low b) [ inl h ↦ w.past b (omega arith) | inr h ↦ w.below b (omega arith) ] ∙ m.hole b p q ∙ sym fill;
+  hole = λ b p q. elim o as (λ _. slice_index new.low b ≡ slice_index old.low b) [ inl h ↦ w.past b (omega arith) | inr h ↦ w.below b (omega arith) ]
+      ∙ m.hole b p q ∙ sym fill;
 }
 
 -- no bytes are put

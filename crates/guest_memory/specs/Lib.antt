@@ -1,2 +1,3 @@
 pub mod Memory
 pub use Rattle.vt_bytes.specs.Numbers
+pub use Rattle.vt_bytes.specs.View

@@ -1,5 +1,7 @@
 -- Guest memory: a top, a fill byte, and a byte at each RAM address.
-use Rattle.std.specs.Prelude.{◌≡◌, ℕ, zero, suc, ◌+◌, ◌-◌, ◌%◌, ◌<◌, ◌≤◌, ◌⊎◌, List, [], ◌∷◌, length, slice_index, nat_lt, if◌then◌else◌}
+use Rattle.std.specs.Prelude.{◌≡◌, ℕ, zero, suc, ◌+◌, ◌-◌, ◌%◌, ◌<◌, ◌≤◌, ◌⊎◌, Bool, ◌&&◌, ◌||◌, List, [], ◌∷◌, length, Some, None}
+use Rattle.std.specs.Prelude.{slice_index, nat_lt, nat_le, if◌then◌else◌}
+use Rattle.vt_bytes.specs.View.{View}
 
 -- The two windows: the bytes at 0 to 0xFFFFF, and those of the 32 MiB that end at the top.
 pub record Memory : Type 0 where
@@ -29,6 +31,15 @@ IsRamRange top address count = (i : ℕ) → i < count → IsRam top (address + 
 -- the byte at a RAM address
 abbrev pub at : Memory → ℕ → ℕ
 at m address = if nat_lt address 0x100000 then slice_index m.low address else slice_index m.high (address - high_start m.top)
+
+-- whether an address is RAM
+abbrev pub is_ram : ℕ → ℕ → Bool
+is_ram top address =
+    nat_lt address 0xA0000 || ((nat_le 0xE0000 address && nat_lt address 0x100000) || (nat_le (high_start top) address && nat_lt address top))
+
+-- what is seen of a memory: the byte at each address that is RAM
+unfoldable pub seen : Memory → View
+seen m address = if is_ram m.top address then Some (at m address) else None
 
 -- so many bytes from an address on
 unfoldable pub bytes_at : Memory → ℕ → ℕ → List ℕ

@@ -35,7 +35,9 @@ impl Model for GuestMemory {
 }
 
 impl GuestMemory {
-    /// Memory below `top`, an address, in which every RAM byte is `fill`. It takes the memory of both windows.
+    /// Makes the memory of a guest whose RAM ends at the address `top`, and sets each byte of RAM to `fill`. `top` must be a
+    /// multiple of 1 MiB, from 64 MiB to 3 GiB. Both windows, 33 MiB in all, come from `alloc`. It fails with `OutOfMemory`
+    /// only where `alloc` has no room for both windows.
     pub fn begin(alloc: Global, top: u32, fill: u8) -> Result<GuestMemory, OutOfMemory>
         requires { IsTop top }
         ensures top { IfOk result (λ memory. memory.top ≡ top) }
@@ -50,7 +52,7 @@ impl GuestMemory {
         })
     }
 
-    /// The address past the last byte of RAM.
+    /// Returns the address past the last byte of RAM. It is a multiple of 1 MiB, from 64 MiB to 3 GiB.
     pub fn top(&self) -> u32
         ensures value { result ≡ self.now.top }
         ensures lawful { IsTop self.now.top }
@@ -58,14 +60,14 @@ impl GuestMemory {
         self.top
     }
 
-    /// The byte that RAM held at the beginning.
+    /// Returns the byte that each address of RAM held at the beginning.
     pub fn fill(&self) -> u8
         ensures { result ≡ self.now.fill }
     {
         self.fill
     }
 
-    /// Whether an address is RAM.
+    /// Tells whether the guest address `address` is RAM: it lies in one of the windows, and not in 0xA0000 to 0xDFFFF.
     pub fn is_ram(&self, address: u64) -> bool
         ensures { IsTrue result ↔ IsRam self.now.top address }
     {
@@ -75,7 +77,7 @@ impl GuestMemory {
             || (high <= address && address < u64::from(self.top))
     }
 
-    /// The byte at an address.
+    /// Returns the byte at the guest address `address`, which must be RAM.
     pub fn read(&self, address: u64) -> u8
         requires { IsRam self.now.top address }
         ensures { result ≡ at self.now address }
@@ -87,7 +89,7 @@ impl GuestMemory {
         }
     }
 
-    /// Puts a byte at an address.
+    /// Writes `byte` at the guest address `address`, which must be RAM. Each other byte stays.
     pub fn write(&mut self, address: u64, byte: u8)
         requires { IsRam self.old.top address }
         ensures { Puts self.old self.new address (byte ∷ []) }
@@ -100,7 +102,8 @@ impl GuestMemory {
         }
     }
 
-    /// Puts bytes at an address.
+    /// Writes `bytes` at the guest address `address`. Each of those addresses must be RAM, and each other byte stays. Where
+    /// `bytes` is empty, `address` may be any number and nothing changes.
     pub fn copy_in(&mut self, address: u64, bytes: &[u8])
         requires { IsRamRange self.old.top address (length bytes.now) }
         ensures { Puts self.old self.new address bytes.now }
@@ -117,7 +120,8 @@ impl GuestMemory {
         }
     }
 
-    /// The sum, modulo 256, of `len` bytes from an address on.
+    /// Returns the sum, modulo 256, of the `len` bytes from the guest address `address` on. Each of those addresses must be
+    /// RAM.
     pub fn sum_range(&self, address: u64, len: u32) -> u8
         requires { IsRamRange self.now.top address len }
         ensures { result ≡ byte_sum (bytes_at self.now address len) }
@@ -125,7 +129,8 @@ impl GuestMemory {
         byte_sum(self.bytes_at(address, len as usize))
     }
 
-    /// `len` bytes from an address on, lent as they stand.
+    /// Lends the `len` bytes from the guest address `address` on. Each of those addresses must be RAM. Where `len` is 0,
+    /// `address` may be any number.
     pub fn bytes_at(&self, address: u64, len: usize) -> &[u8]
         requires { IsRamRange self.now.top address len }
         ensures { result.now ≡ bytes_at self.now address len }

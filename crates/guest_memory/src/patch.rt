@@ -5,13 +5,15 @@ ghost use Rattle.guest_memory.specs.Memory.{IsRamRange, bytes_at, Puts};
 use crate::memory::GuestMemory;
 use thiserror::Error;
 
-/// A sum doesn't fit its field.
+/// A sum doesn't fit in its field.
 #[derive(Clone, Copy, Debug, PartialEq, Eq, Error)]
 #[error("the number does not fit its field")]
 pub struct TooFar;
 
 impl GuestMemory {
-    /// Adds to the little-endian number of `size` bytes at an address.
+    /// Adds `amount` to the little-endian number in the `size` bytes at the guest address `address`. `size` must be 1, 2, 4 or
+    /// 8, and each of those addresses must be RAM. Each other byte stays. It fails with `TooFar` where the sum doesn't fit in
+    /// `size` bytes, and then the memory is unchanged.
     pub fn patch_add(&mut self, address: u64, size: u8, amount: u64) -> Result<(), TooFar>
         requires size { (size ≡ 1) ⊎ ((size ≡ 2) ⊎ ((size ≡ 4) ⊎ (size ≡ 8))) }
         requires ram { IsRamRange self.old.top address size }

@@ -1,5 +1,3 @@
-pub mod Fields
 pub mod ReadAgain
 pub mod Scripts
 pub mod Found
-pub mod Written

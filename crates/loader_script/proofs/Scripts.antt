@@ -17,15 +17,19 @@ entries_of-chunks (suc count) bytes = ap (λ entries. entry_of (take 128 bytes) 
 pub length-script : (script : List Entry) → AllByRecursion Fits script → length (flat_map entry_bytes script) ≡ 128 * length script
 length-script [] fits = refl
 length-script (entry ∷ script) fits =
-    let parts : length (flat_map entry_bytes (entry ∷ script)) ≡ length (entry_bytes entry ++ flat_map entry_bytes script) = ap length (flat_map-cons entry_bytes entry script) in
+    let parts : length (flat_map entry_bytes (entry ∷ script)) ≡ length (entry_bytes entry ++ flat_map entry_bytes script) =
+    ap length (flat_map-cons entry_bytes entry script) in
     omega (arith, length-append (entry_bytes entry) (flat_map entry_bytes script), length-entry_bytes entry fits.0, length-script script fits.1)
 
 -- and read again
-pub script-again : (script : List Entry) → AllByRecursion Fits script → AllByRecursion IsReadAgain script → entries_of (length script) (flat_map entry_bytes script) ≡ script
+pub script-again : (script : List Entry) → AllByRecursion Fits script → AllByRecursion IsReadAgain script
+    → entries_of (length script) (flat_map entry_bytes script) ≡ script
 script-again [] fits again = refl
 script-again (entry ∷ script) fits again =
     let rest = flat_map entry_bytes script in
     let long : length (entry_bytes entry) ≡ 128 = length-entry_bytes entry fits.0 in
-    let first : entry_of (take 128 (entry_bytes entry ++ rest)) ≡ entry = ap entry_of (take_at (entry_bytes entry) rest 128 long) ∙ entry-again entry fits.0 again.0 in
-    let others : entries_of (length script) (drop 128 (entry_bytes entry ++ rest)) ≡ script = ap (entries_of (length script)) (drop_at (entry_bytes entry) rest 128 long) ∙ script-again script fits.1 again.1 in
+    let first : entry_of (take 128 (entry_bytes entry ++ rest)) ≡ entry = ap entry_of (take_at (entry_bytes entry) rest 128 long)
+    ∙ entry-again entry fits.0 again.0 in
+    let others : entries_of (length script) (drop 128 (entry_bytes entry ++ rest)) ≡ script =
+    ap (entries_of (length script)) (drop_at (entry_bytes entry) rest 128 long) ∙ script-again script fits.1 again.1 in
     ap (entries_of (suc (length script))) (flat_map-cons entry_bytes entry script) ∙ ap₂ (λ (e : Entry) (es : List Entry). e ∷ es) first others

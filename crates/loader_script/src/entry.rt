@@ -47,8 +47,8 @@ pub enum Entry {
         /// How many bytes the number has: 1, 2, 4 or 8.
         size: u8,
     },
-    /// A command of this number, one of whose names is no name.
+    /// A command with this number, in which the field of a name holds no file name.
     Misnamed(u32),
-    /// A command of another number, which changes nothing. QEMU pads its scripts with zeros.
+    /// A command with this number, which changes nothing. QEMU pads its scripts with zeros.
     Skipped(u32),
 }

@@ -9,6 +9,7 @@ mod entry;
 pub mod laws;
 mod reading;
 mod refusing;
+mod rows;
 mod writing;
 
 pub use entry::Entry;

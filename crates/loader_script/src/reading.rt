@@ -1,11 +1,12 @@
-ghost use Rattle.std.specs.Prelude.{◌≡◌, ◌+◌, ◌≤◌, ◌/◌, ◌↔◌, false, length, Err, IfOk};
-ghost use Rattle.loader_script.specs.Spelling.{entry_of, entries_of, is_script_length, name_at, number_at, allocate_of, add_pointer_of, add_checksum_of};
+ghost use Rattle.std.specs.Prelude.{◌≡◌, ◌/◌, ◌↔◌, false, length, Err, IfOk};
+ghost use Rattle.loader_script.specs.Spelling.{entry_of, entries_of, is_script_length, allocate_of, add_pointer_of, add_checksum_of};
 ghost use Rattle.loader_script.specs.declared.reading.ScriptFault.TheVariants.{OutOfMemory as NoMemory};
 
 use crate::entry::Entry;
+use crate::rows::{add_checksum_rows, add_pointer_rows, allocate_rows, command_rows};
 use std::alloc::Global;
-use vt_bytes::get_le;
-use vt_outside::{List, Name, NameFault, OutOfMemory};
+use vt_layout::{blank_name, read_name, read_u8, read_u32};
+use vt_outside::{List, OutOfMemory};
 
 // How many bytes an entry has.
 const ENTRY: usize = 128;
@@ -16,7 +17,7 @@ const LONGEST: usize = 1_048_576;
 /// Why bytes are no script.
 #[derive(Clone, Copy, Debug, PartialEq, Eq)]
 pub enum ScriptFault {
-    /// They are no whole number of entries, or more than 1,048,576 bytes.
+    /// Their length is no multiple of 128, or is above 1,048,576 bytes.
     ScriptLength,
     /// Memory ran out.
     OutOfMemory,
@@ -30,11 +31,13 @@ impl From<OutOfMemory> for ScriptFault {
     }
 }
 
-/// The entry that 128 bytes are. It takes no memory.
+/// Decodes `bytes` as one entry. It takes no memory and never fails. Commands 1, 2 and 3 give `Allocate`, `AddPointer` and
+/// `AddChecksum`, or `Misnamed` where the field of a name holds no file name. Every other command gives `Skipped`,
+/// WRITE_POINTER (4) among them. Only names are checked here: `refusal` checks the rest.
 pub fn decode_entry(bytes: &[u8; 128]) -> Entry
     ensures { result ≡ entry_of bytes.now }
 {
-    match word_at(bytes, 0) {
+    match read_u32(bytes, &command_rows(0), 0) {
         1 => allocate(bytes),
         2 => add_pointer(bytes),
         3 => add_checksum(bytes),
@@ -42,7 +45,9 @@ pub fn decode_entry(bytes: &[u8; 128]) -> Entry
     }
 }
 
-/// The entries of a script.
+/// Decodes `bytes` as a script, one entry for each 128 bytes, into a list from `alloc`. It fails with `ScriptLength` exactly
+/// where the length of `bytes` is no multiple of 128 or is above 1,048,576 bytes, and else with `OutOfMemory` only where memory
+/// runs out.
 pub fn decode_script(alloc: Global, bytes: &[u8]) -> Result<List<Entry>, ScriptFault>
     ensures ok { IfOk result (λ script. script ≡ entries_of (length bytes.now / 128) bytes.now) }
     ensures fault { (result ≡ Err ScriptFault.ScriptLength) ↔ (is_script_length (length bytes.now) ≡ false) }
@@ -59,69 +64,49 @@ pub fn decode_script(alloc: Global, bytes: &[u8]) -> Result<List<Entry>, ScriptF
 }
 
 fn allocate(bytes: &[u8; 128]) -> Entry
-    ensures { result ≡ allocate_of bytes.now (name_at bytes.now 4) }
+    ensures { result ≡ allocate_of bytes.now }
 {
-    let Ok(file) = name_at(bytes, 4) else {
+    let rows = allocate_rows(&blank_name(), 0, 0);
+    let Ok(file) = read_name(bytes, &rows, 1) else {
         return Entry::Misnamed(1);
     };
     Entry::Allocate {
         file,
-        align: word_at(bytes, 60),
-        zone: byte_at(bytes, 64),
+        align: read_u32(bytes, &rows, 2),
+        zone: read_u8(bytes, &rows, 3),
     }
 }
 
 fn add_pointer(bytes: &[u8; 128]) -> Entry
-    ensures { result ≡ add_pointer_of bytes.now (name_at bytes.now 4) (name_at bytes.now 60) }
+    ensures { result ≡ add_pointer_of bytes.now }
 {
-    let Ok(dest) = name_at(bytes, 4) else {
+    let blank = blank_name();
+    let rows = add_pointer_rows(&blank, &blank, 0, 0);
+    let Ok(dest) = read_name(bytes, &rows, 1) else {
         return Entry::Misnamed(2);
     };
-    let Ok(src) = name_at(bytes, 60) else {
+    let Ok(src) = read_name(bytes, &rows, 2) else {
         return Entry::Misnamed(2);
     };
     Entry::AddPointer {
         dest,
         src,
-        offset: word_at(bytes, 116),
-        size: byte_at(bytes, 120),
+        offset: read_u32(bytes, &rows, 3),
+        size: read_u8(bytes, &rows, 4),
     }
 }
 
 fn add_checksum(bytes: &[u8; 128]) -> Entry
-    ensures { result ≡ add_checksum_of bytes.now (name_at bytes.now 4) }
+    ensures { result ≡ add_checksum_of bytes.now }
 {
-    let Ok(file) = name_at(bytes, 4) else {
+    let rows = add_checksum_rows(&blank_name(), 0, 0, 0);
+    let Ok(file) = read_name(bytes, &rows, 1) else {
         return Entry::Misnamed(3);
     };
     Entry::AddChecksum {
         file,
-        offset: word_at(bytes, 60),
-        start: word_at(bytes, 64),
-        length: word_at(bytes, 68),
+        offset: read_u32(bytes, &rows, 2),
+        start: read_u32(bytes, &rows, 3),
+        length: read_u32(bytes, &rows, 4),
     }
-}
-
-// The name in a field.
-fn name_at(bytes: &[u8; 128], at: usize) -> Result<Name, NameFault>
-    requires { at + 56 ≤ 128 }
-    ensures { result ≡ name_at bytes.now at }
-{
-    Name::read(bytes[at..at + 56].as_array().unwrap())
-}
-
-// The number in a field of four bytes.
-fn word_at(bytes: &[u8; 128], at: usize) -> u32
-    requires { at + 4 ≤ 128 }
-    ensures { result ≡ number_at bytes.now at 4 }
-{
-    get_le(bytes, at, 4) as u32
-}
-
-// The number in a field of one byte.
-fn byte_at(bytes: &[u8; 128], at: usize) -> u8
-    requires { at + 1 ≤ 128 }
-    ensures { result ≡ number_at bytes.now at 1 }
-{
-    get_le(bytes, at, 1) as u8
 }

@@ -1,14 +1,16 @@
 ghost use Rattle.std.specs.Prelude.{◌≡◌, ◌^◌, true, length, None, MatchOption, nat_lt};
-ghost use Rattle.loader_script.specs.Refusal.{causes_of, first_cause, file_named, is_size, IsFound, AreDistinct, EndLow};
+ghost use Rattle.loader_script.specs.Refusal.{causes_of, first_cause, info_of, IsFound, AreDistinct, EndLow};
+ghost use Rattle.vt_layout.specs.PointerSize.{is_pointer_size};
 ghost use Rattle.loader_script.specs.declared.entry.Entry.TheVariants.{Allocate, AddPointer, AddChecksum, WritePointer};
 
 use crate::entry::Entry;
+use vt_layout::is_pointer_size;
 use vt_outside::Name;
 
 /// Why a command is refused.
 #[derive(Clone, Copy, Debug, PartialEq, Eq)]
 pub enum Cause {
-    /// One of its names is no name.
+    /// The field of one of its names holds no file name.
     BadName,
     /// A file that it names isn't in the directory.
     NoFile,
@@ -26,9 +28,9 @@ pub enum Cause {
     BadSize,
     /// The file that it writes isn't writable.
     ReadOnly,
-    /// A field, a checksum's byte or a range isn't in its file.
+    /// A field, a checksum's byte or a range isn't in its file, or `src_offset` isn't below the size of `src`.
     OutOfRange,
-    /// The number doesn't fit its size.
+    /// The number doesn't fit in `size` bytes.
     TooFar,
 }
 
@@ -43,8 +45,10 @@ pub struct FileInfo {
     pub writable: bool,
 }
 
-/// The first cause for which a command is refused, where the files are placed as the slice of places says, file by
-/// file. It takes no memory. That a pointer's sum is too far is seen in memory alone, and isn't tested here.
+/// Returns the first cause to refuse `entry`, or `None`. `files` lists the files of the directory, no two with one name.
+/// `placed[i]` is the address of `files[i]`, if it was allocated, and the file must then end below 2^32; both lists must have
+/// one length. It takes no memory. Whether the sum of an `AddPointer` fits in its field depends on what the memory holds, and
+/// isn't tested here. For a `WritePointer` it is, with `TooFar` as the cause.
 pub fn refusal(entry: &Entry, files: &[FileInfo], placed: &[Option<u64>]) -> Option<Cause>
     requires places { length placed.now ≡ length files.now }
     requires distinct { AreDistinct files.now }
@@ -127,7 +131,7 @@ fn add_pointer_refusal(
     if dest_place.is_none() || src_place.is_none() {
         return Some(Cause::NotPlaced);
     }
-    if !is_size(size) {
+    if !is_pointer_size(size) {
         return Some(Cause::BadSize);
     }
     if u64::from(offset) + u64::from(size) > u64::from(dest.size) {
@@ -181,7 +185,7 @@ fn write_pointer_refusal(
     let Some(place) = src_place else {
         return Some(Cause::NotPlaced);
     };
-    if !is_size(size) {
+    if !is_pointer_size(size) {
         return Some(Cause::BadSize);
     }
     if !dest.writable {
@@ -203,23 +207,16 @@ fn file_of<'a>(
     name: &Name,
 ) -> Option<(&'a FileInfo, Option<u64>)>
     requires { length placed.now ≡ length files.now }
-    ensures { MatchOption result (file_named files.now name.now ≡ None)
+    ensures { MatchOption result (info_of files.now name.now ≡ None)
         (λ found. IsFound files.now placed.now name.now found.0.now found.1) }
 {
     let index = files.iter().position(|file| file.name == *name)?;
     Some((&files[index], placed[index]))
 }
 
-// Whether a number may have so many bytes.
-fn is_size(size: u8) -> bool
-    ensures { result ≡ is_size size }
-{
-    matches!(size, 1 | 2 | 4 | 8)
-}
-
 // Whether a number fits so many bytes.
 fn fits(number: u64, size: u8) -> bool
-    requires { is_size size ≡ true }
+    requires { is_pointer_size size ≡ true }
     ensures { result ≡ nat_lt number (256 ^ size) }
 {
     match size {

@@ -1,5 +1,6 @@
 -- The rules that an accepted machine keeps.
-use Rattle.std.specs.Prelude.{◌≡◌, ℕ, ◌-◌, ◌%◌, ◌^◌, Bool, true, not, ◌&&◌, ◌||◌, List, [], ◌∷◌, ◌++◌, length, Option, Some, None, is_some, nat_le, ◌==◌, slice_index, if◌then◌else◌}
+use Rattle.std.specs.Prelude.{◌≡◌, ℕ, ◌-◌, ◌%◌, ◌^◌, Bool, true, not, ◌&&◌, ◌||◌, List, [], ◌∷◌, ◌++◌, length, Option, Some, None, IfSome, ◌<◌}
+use Rattle.std.specs.Prelude.{is_some, nat_le, ◌==◌, slice_index, if◌then◌else◌}
 use Rattle.std.specs.List.{list_all}
 use Rattle.std.specs.Option.{option_map_or}
 use Rattle.vt_outside.specs.Name.{is_printable}
@@ -75,3 +76,15 @@ broken_rule m = first_broken (breaches m)
 -- a machine that breaks no rule
 abbrev pub IsAccepted : Machine → Type 0
 IsAccepted m = broken_rule m ≡ None
+
+-- the least index at which a machine breaks the rule of a number, if it does
+abbrev pub breach_in : ℕ → List (ℕ × Option ℕ) → Option ℕ
+breach_in number [] = None
+breach_in number (rule ∷ rules) = if rule.0 == number then rule.1 else breach_in number rules
+
+abbrev pub breach_of : ℕ → Machine → Option ℕ
+breach_of number m = breach_in number (breaches m)
+
+-- the numbers of a machine fit their types, as those of each machine of the program do
+abbrev pub HasFitting : Machine → Type 0
+HasFitting m = IfSome m.system.uuid (λ uuid. uuid < 2 ^ 128)

@@ -3,7 +3,7 @@ use vt_outside::Text;
 /// A machine as its maker describes it.
 #[derive(Debug, Drop)]
 pub struct Machine {
-    /// The address past the last byte of memory, in MiB.
+    /// The address past the last byte of memory, in MiB: 64 to 3072 in an accepted machine.
     pub top_mib: u32,
     /// The machine as a product.
     pub system: System,
@@ -44,7 +44,7 @@ pub struct Acpi {
 /// A high precision event timer (IA-PC HPET 1.0a, 3.2.4).
 #[derive(Clone, Copy, Debug, PartialEq, Eq)]
 pub struct Hpet {
-    /// Where its registers stand, a multiple of 1024.
+    /// The guest address of its registers: a multiple of 1024 in an accepted machine.
     pub address: u32,
     /// The identifier of its event timer block.
     pub block_id: u32,
@@ -54,12 +54,11 @@ pub struct Hpet {
     pub min_tick: u16,
 }
 
-/// A rule that a machine breaks.
+/// The first rule that a machine breaks, as `Machine::check` finds it.
 #[derive(Clone, Copy, Debug, PartialEq, Eq)]
 pub struct Broken {
-    /// The rule's number.
+    /// The rule's number: 1, 3, 4, 13, 16 or 18.
     pub rule: u16,
-    /// The least index at which it is broken: of a list's element where the rule speaks of a list, else as the
-    /// rule says.
+    /// The least index at which it is broken. `Machine::check` says what the index means for each rule.
     pub index: u32,
 }

@@ -8,7 +8,14 @@ use crate::machine::{Acpi, Broken, Hpet, Machine, System};
 use vt_outside::Text;
 
 impl Machine {
-    /// The first rule that the machine breaks. It takes no memory.
+    /// Checks the rules in the order of their numbers, and returns `Ok` where the machine keeps each one. It takes no memory.
+    /// Else the error gives the first rule that is broken and the least index at which it is broken:
+    /// - Rule 1, index 0: `top_mib` is 64 to 3072.
+    /// - Rule 3, index 0: each text has at most 64 bytes, each 0x20 to 0x7E.
+    /// - Rule 4, index 0: the UUID, where given, is neither all zeros nor all ones (RFC 9562).
+    /// - Rule 13, index 1: a machine with an HPET has ACPI tables.
+    /// - Rule 16: `oem_id` (index 0) has at most 6 bytes, `oem_table_id` (index 1) at most 8, and neither ends in a space.
+    /// - Rule 18, index 0: the address of the HPET is a multiple of 1024.
     pub fn check(&self) -> Result<(), Broken>
         ensures { MatchResult result (λ _. broken_rule self.now ≡ None) (λ broken. broken_rule self.now ≡ Some broken) }
     {

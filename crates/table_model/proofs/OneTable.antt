@@ -1,32 +1,36 @@
--- Bytes begin with at most one table of structures.
-use Rattle.std.proofs.Common.{◌≡◌, ℕ, List, [], ◌∷◌, ◌++◌, ap, sym, ◌∙◌, append_assoc}
-use Rattle.table_model.specs.declared.smbios.SystemInfo.{SystemInfo}
-use Rattle.table_model.specs.declared.smbios.Body.TheVariants.{System, End}
-use Rattle.table_model.specs.declared.smbios.Structure.{Structure}
-use Rattle.table_model.specs.Smbios.{AreStructures}
-use Rattle.table_model.proofs.OneStructure.{one_structure}
+-- ACPI tables that one view shows at one address, with rows of one shape behind their headers, are the same.
+use Rattle.std.proofs.Common.{◌≡◌, ℕ, List, [], ◌∷◌, ◌++◌, drop, refl, ap, sym, ◌∙◌}
+use Rattle.vt_bytes.specs.View.{View}
+use Rattle.vt_layout.specs.declared.row.Row.{Row}
+use Rattle.vt_layout.specs.declared.row.Row.TheVariants.{Number, Bytes, Sum}
+use Rattle.vt_layout.specs.Rows.{shape, text}
+use Rattle.vt_layout.proofs.Same.{same_rows}
+use Rattle.table_model.specs.declared.header.Head.{Head}
+use Rattle.table_model.specs.Header.{header_rows, header_of_rows, IsTable}
 
--- the end of a table is no System Information
-end_is_last : (s t : Structure) (info : SystemInfo) → s.body ≡ End → t.body ≡ System info → s ≡ t → ⊥
-end_is_last s t info is_end is_system same =
-    let bodies : s.body ≡ t.body = ap (λ (u : Structure). u.body) same in
-    cc
+-- the shape of a header of a table of so many bytes, before that of other rows
+header_shape : ℕ → List Row → List Row
+header_shape total rest =
+    Bytes 4 [] ∷ Number 4 0 ∷ Number 1 0 ∷ Sum total ∷ Bytes 6 [] ∷ Bytes 8 [] ∷ Number 4 0 ∷ Bytes 4 [] ∷ Number 4 0 ∷ rest
 
--- the parts of bytes, with what follows them
-with_rest : (x first rest p : List ℕ) → x ≡ first ++ rest → x ++ p ≡ first ++ (rest ++ p)
-with_rest x first rest p split = ap (λ b. b ++ p) split ∙ append_assoc first rest p
+shape-header : (s : List ℕ) (n : ℕ) (h : Head) (b : List Row) → shape (header_rows s n h ++ b) ≡ header_shape n (shape b)
+unfolding header_shape
+shape-header s n h b = refl
 
--- bytes begin with one table of structures, since its first End-of-Table is its last structure
-pub one_table : (s t : List Structure) (x y p q : List ℕ) → AreStructures x s → AreStructures y t → x ++ p ≡ y ++ q → s ≡ t
-one_table [] t x y p q is also same = absurd is
-one_table (s ∷ []) [] x y p q is also same = absurd also
-one_table (s ∷ next ∷ ss) [] x y p q is also same = absurd also
-one_table (s ∷ []) (t ∷ []) x y p q is also same = ap (λ one. one ∷ []) (one_structure s t x y p q is.0 also.0 same).0
-one_table (s ∷ []) (t ∷ after ∷ ts) x y p q is (first, rest, split, one, info, is_system, others) same =
-    absurd (end_is_last s t info is.1 is_system (one_structure s t x first p (rest ++ q) is.0 one (same ∙ with_rest y first rest q split)).0)
-one_table (s ∷ next ∷ ss) (t ∷ []) x y p q (first, rest, split, one, info, is_system, others) also same =
-    absurd (end_is_last t s info also.1 is_system (sym (one_structure s t first y (rest ++ p) q one also.0 (sym (with_rest x first rest p split) ∙ same)).0))
-one_table (s ∷ next ∷ ss) (t ∷ after ∷ ts) x y p q (first, rest, split, one, info, is_system, others) (front, left, parted, other, told, tells_system, more) same =
-    let heads = one_structure s t first front (rest ++ p) (left ++ q) one other (sym (with_rest x first rest p split) ∙ same ∙ with_rest y front left q parted) in
-    let tails : ◌≡◌ {A = List Structure} (next ∷ ss) (after ∷ ts) = one_table (next ∷ ss) (after ∷ ts) rest left p q others more heads.1 in
-    cc
+-- what two tables have in common
+pub record AreSame (s t : List ℕ) (n k : ℕ) (h g : Head) (b c : List Row) : Type 0 where
+  pub signatures : s ≡ t
+  pub totals : n ≡ k
+  pub headers : h ≡ g
+  pub bodies : b ≡ c
+
+pub one_table : (view : View) (address : ℕ) (s t : List ℕ) (n k : ℕ) (h g : Head) (b c : List Row)
+    → IsTable view address s h n b → IsTable view address t g k c → (n ≡ k → shape b ≡ shape c) → AreSame s t n k h g b c
+one_table view address s t n k h g b c is also shapes =
+    let totals : n ≡ k = cc (is.shown.1.0, also.shown.1.0) in
+    let whole : shape (header_rows s n h ++ b) ≡ shape (header_rows t k g ++ c) =
+    shape-header s n h b ∙ ap (λ total. header_shape total (shape b)) totals ∙ ap (header_shape k) (shapes totals)
+    ∙ sym (shape-header t k g c) in
+    let rows : header_rows s n h ++ b ≡ header_rows t k g ++ c =
+    same_rows view address address (header_rows s n h ++ b) (header_rows t k g ++ c) is.shown also.shown whole in
+    record { signatures = ap (text 0) rows; totals = totals; headers = ap header_of_rows rows; bodies = ap (drop 9) rows }

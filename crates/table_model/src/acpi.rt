@@ -1,4 +1,12 @@
-use vt_outside::List;
+ghost use Rattle.std.specs.Prelude.{◌≡◌, ◌++◌, IfOk, OnOk};
+ghost use Rattle.table_model.specs.Header.{FitsHead};
+ghost use Rattle.table_model.specs.Acpi.{acpi_of, tables_of};
+
+use crate::header::{Head, head_of};
+use crate::hpet::{HpetTable, hpet_of};
+use machine_desc::{Acpi, Machine};
+use std::alloc::Global;
+use vt_outside::{List, OutOfMemory};
 
 /// The ACPI tables of a memory, from its RSDP on.
 #[derive(Debug, Drop)]
@@ -13,53 +21,6 @@ pub struct AcpiTables {
     pub others: List<OtherTable>,
 }
 
-/// The header of a table without its signature, length and checksum (5.2.6).
-#[derive(Clone, Copy, Debug, PartialEq, Eq)]
-pub struct Head {
-    /// The table's revision.
-    pub revision: u8,
-    /// The maker's id.
-    pub oem_id: [u8; 6],
-    /// The maker's id of the table.
-    pub oem_table_id: [u8; 8],
-    /// The maker's revision.
-    pub oem_revision: u32,
-    /// The id of the program that made the table.
-    pub creator_id: [u8; 4],
-    /// That program's revision.
-    pub creator_revision: u32,
-}
-
-/// A register's address (Generic Address Structure, 5.2.3.2).
-#[derive(Clone, Copy, Debug, PartialEq, Eq)]
-pub struct GenericAddress {
-    /// The address space: 0 is memory, 1 is I/O.
-    pub space: u8,
-    /// The register's width in bits.
-    pub width: u8,
-    /// The offset of its first bit.
-    pub offset: u8,
-    /// How it is accessed: 0 leaves it open.
-    pub access: u8,
-    /// Where it is.
-    pub address: u64,
-}
-
-/// The table of a high precision event timer (IA-PC HPET 1.0a, 3.2.4).
-#[derive(Clone, Copy, Debug, PartialEq, Eq)]
-pub struct HpetTable {
-    /// The table's header.
-    pub head: Head,
-    /// The identifier of the event timer block.
-    pub block_id: u32,
-    /// Where its registers are.
-    pub address: GenericAddress,
-    /// Its number among the HPETs.
-    pub number: u8,
-    /// The least number of clock ticks between interrupts in periodic mode.
-    pub min_tick: u16,
-}
-
 /// A table of another signature.
 #[derive(Clone, Copy, Debug, PartialEq, Eq)]
 pub struct OtherTable {
@@ -67,4 +28,43 @@ pub struct OtherTable {
     pub signature: [u8; 4],
     /// How many bytes it has.
     pub length: u32,
+}
+
+/// A table of a known signature, which an XSDT names.
+#[derive(Clone, Copy, Debug, PartialEq, Eq)]
+pub enum Table {
+    /// The HPET table.
+    Hpet(HpetTable),
+}
+
+/// Returns the tables that the XSDT of `machine` names, in the order of its entries. `acpi` is the maker of the tables; its
+/// `oem_id` has at most 6 bytes and its `oem_table_id` at most 8. The list takes its memory from `alloc`. Returns `OutOfMemory`
+/// when memory runs out.
+pub fn tables_of(alloc: Global, machine: &Machine, acpi: &Acpi) -> Result<List<Table>, OutOfMemory>
+    requires { FitsHead acpi.now }
+    ensures { IfOk result (λ tables. tables ≡ tables_of machine.now acpi.now) }
+{
+    let mut tables = List::new(alloc);
+    if let Some(hpet) = machine.hpet {
+        tables.push(Table::Hpet(hpet_of(acpi, hpet)))?;
+    }
+    Ok(tables)
+}
+
+/// Returns the ACPI tables of `machine` as a reader finds them in memory. `machine` has ACPI tables, and `acpi` is their maker;
+/// its `oem_id` has at most 6 bytes and its `oem_table_id` at most 8. There are no tables of other signatures; their empty list
+/// keeps `alloc` and takes no memory.
+pub fn acpi_of(alloc: Global, machine: &Machine, acpi: &Acpi) -> AcpiTables
+    requires { FitsHead acpi.now }
+    ensures { result ≡ acpi_of machine.now acpi.now }
+{
+    AcpiTables {
+        oem_id: head_of(acpi, 1).oem_id,
+        xsdt: head_of(acpi, 1),
+        hpet: match machine.hpet {
+            Some(hpet) => Some(hpet_of(acpi, hpet)),
+            None => None,
+        },
+        others: List::new(alloc),
+    }
 }

@@ -1,11 +1,79 @@
 //! Laws over the definitions, each the contract of a function that does nothing.
 
-ghost use Rattle.std.specs.Prelude.{◌≡◌};
-ghost use Rattle.guest_memory.specs.Memory.{Memory};
+ghost use Rattle.std.specs.Prelude.{◌≡◌, ℕ, ◌+◌, List, map};
+ghost use Rattle.std.specs.List.{AllByRecursion};
+ghost use Rattle.vt_bytes.specs.View.{View};
+ghost use Rattle.vt_layout.specs.declared.row.Row.{Row};
+ghost use Rattle.vt_layout.specs.declared.row.Row.TheVariants.{Pointer};
+ghost use Rattle.vt_layout.specs.Rows.{IsRow, IsPlain, spelled, string_numbers};
+ghost use Rattle.vt_layout.specs.Shown.{LayoutHeld};
+ghost use Rattle.machine_desc.specs.declared.machine.Machine.{Machine};
+ghost use Rattle.machine_desc.specs.declared.machine.Acpi.{Acpi};
+ghost use Rattle.machine_desc.specs.Rules.{IsAccepted, HasFitting};
+ghost use Rattle.table_model.specs.declared.header.Head.{Head};
+ghost use Rattle.table_model.specs.declared.acpi.AcpiTables.{AcpiTables};
+ghost use Rattle.table_model.specs.declared.acpi.Table.{Table};
+ghost use Rattle.table_model.specs.declared.system_information.SystemInfo.{SystemInfo};
 ghost use Rattle.table_model.specs.declared.inventory.Inventory.{Inventory};
-ghost use Rattle.table_model.specs.Inventory.{Shows};
+ghost use Rattle.table_model.specs.Header.{head_of, padded};
+ghost use Rattle.table_model.specs.Acpi.{IsAt, rows_of, linked_table, Walks, no_tables, tables_of, acpi_of};
+ghost use Rattle.table_model.specs.Walked.{AreAt, AddAll};
+ghost use Rattle.table_model.specs.Xsdt.{IsXsdt, xsdt_rows, given};
+ghost use Rattle.table_model.specs.Strings.{HasNoNul, AreStrings, AreNamed, numbers_from, strings_of};
+ghost use Rattle.table_model.specs.SystemInformation.{info_rows, info_texts};
+ghost use Rattle.table_model.specs.Smbios.{IsArea};
+ghost use Rattle.table_model.specs.Inventory.{Shows, inventory_of};
 
-/// At most one inventory is shown by a memory.
+/// States that at most one inventory is shown by a view of memory below a top.
 pub fn one_inventory_is_shown()
-    ensures { (m : Memory) (a b : Inventory) → Shows m a → Shows m b → a ≡ b }
+    ensures { (top : ℕ) (view : View) (a b : Inventory) → Shows top view a → Shows top view b → a ≡ b }
+{}
+
+/// States that two accepted machines, whose numbers fit their types, with the same inventory are the same machine.
+pub fn no_two_machines_are_alike()
+    ensures { (a b : Machine) → HasFitting a → HasFitting b → IsAccepted a → IsAccepted b → inventory_of a ≡ inventory_of b → a ≡ b }
+{}
+
+/// States that, where each table stands at its address, a walk over the addresses adds the tables.
+pub fn tables_at_their_addresses_are_walked()
+    ensures { (view : View) (addresses : List ℕ) (tables : List Table) (before after : AcpiTables)
+        → AreAt view addresses tables → AddAll tables before after → Walks view addresses before after }
+{}
+
+/// States that the tables that a machine's XSDT names, wherever their pointers lead, are its tables.
+pub fn tables_of_a_machine_are_added()
+    ensures { (place_of : List ℕ → ℕ) (machine : Machine) (acpi : Acpi)
+        → AddAll (map (linked_table place_of) (tables_of machine acpi)) (no_tables (padded 6 acpi.oem_id) (head_of acpi 1)) (acpi_of machine acpi) }
+{}
+
+/// States that a table that a view holds as it was written stands there, its pointers with their targets' places added.
+pub fn held_table_is_there()
+    ensures { (view : View) (place_of : List ℕ → ℕ) (address : ℕ) (table : Table)
+        → AllByRecursion IsRow (rows_of table) → LayoutHeld view place_of address (rows_of table)
+        → IsAt view address (linked_table place_of table) }
+{}
+
+/// States that an XSDT that a view holds as it was written stands there, with the addresses of the tables at these offsets in a
+/// file.
+pub fn held_xsdt_is_there()
+    ensures { (view : View) (place_of : List ℕ → ℕ) (address : ℕ) (head : Head) (name offsets : List ℕ)
+        → AllByRecursion IsRow (xsdt_rows head (map (Pointer 8 name) offsets))
+        → LayoutHeld view place_of address (xsdt_rows head (map (Pointer 8 name) offsets))
+        → IsXsdt view address head (given (map (λ offset. offset + place_of name) offsets)) }
+{}
+
+/// States that the area of a structure and the strings behind it, as they are written, are read as its texts, of which each
+/// that isn't empty is a string.
+pub fn written_area_is_read()
+    ensures named { (texts : List (List ℕ)) → AreNamed (strings_of texts) (numbers_from 1 texts) texts }
+    ensures strings { (texts : List (List ℕ)) → AllByRecursion HasNoNul texts → AreStrings (strings_of texts) }
+    ensures area { (rows : List Row) (texts : List (List ℕ)) → AllByRecursion IsRow rows → AllByRecursion IsPlain rows
+        → string_numbers rows ≡ numbers_from 1 texts → IsArea (spelled rows) (strings_of texts) rows texts }
+{}
+
+/// States that System Information, as it is written, is read as it was.
+pub fn written_information_is_read()
+    ensures { (info : SystemInfo) → AllByRecursion IsRow (info_rows (numbers_from 1 (info_texts info)) info)
+        → IsArea (spelled (info_rows (numbers_from 1 (info_texts info)) info)) (strings_of (info_texts info))
+        (info_rows (numbers_from 1 (info_texts info)) info) (info_texts info) }
 {}

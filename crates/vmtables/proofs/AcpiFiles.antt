@@ -1,20 +1,30 @@
 -- The files of a machine's ACPI tables, from the contracts of the calls that append them.
-use Rattle.std.proofs.Common.{◌≡◌, ℕ, ◌+◌, ◌*◌, ◌<◌, not, ◌==◌, false, List, [], ◌∷◌, length, map, filter, Option, Some, None, Result, Ok, Err, OnOk, IsSomeAnd, option_map, inl, refl, ap, sym, subst, ◌∙◌, arith, append-nil, cond}
-use Rattle.std.specs.List.{AllByRecursion}
-use Rattle.std.proofs.lemmas.Bool.Decides.{nat_tests}
-use Rattle.machine_desc.specs.declared.machine.Acpi.{Acpi}
-use Rattle.machine_desc.specs.declared.machine.Hpet.{Hpet}
+use Rattle.std.proofs.Common.{◌≡◌, ℕ, zero, suc, ◌+◌, ◌*◌, ◌<◌, ◌≤◌, not, ◌==◌, false, List, [], ◌∷◌, ◌++◌, length, get_or, take, map, refl, ap, sym}
+use Rattle.std.proofs.Common.{subst, ◌∙◌}
+use Rattle.std.proofs.Common.{arith, append-nil, append_assoc, length-append, cond, Result, Ok, Err, OnOk}
 use Rattle.vt_outside.specs.declared.fault.OutOfMemory.{OutOfMemory}
-use Rattle.table_model.specs.Acpi.{IsHpet, IsXsdt}
-use Rattle.table_model.specs.Inventory.{padded, head_of, hpet_of}
+use Rattle.std.proofs.lemmas.List.{take_more}
+use Rattle.std.proofs.lemmas.Bool.Decides.{nat_tests}
+use Rattle.vt_bytes.specs.View.{View}
+use Rattle.vt_bytes.proofs.Each.{each_append, each_weaker}
+use Rattle.vt_layout.specs.Rows.{size}
+use Rattle.vt_layout.specs.Shown.{LayoutHeld}
+use Rattle.machine_desc.specs.declared.machine.Acpi.{Acpi}
+use Rattle.table_model.specs.declared.header.Head.{Head}
+use Rattle.table_model.specs.declared.acpi.Table.{Table}
+use Rattle.table_model.specs.Header.{head_of, padded}
+use Rattle.table_model.specs.Xsdt.{IsXsdt, given}
+use Rattle.table_model.specs.Rsdp.{rsdp_rows}
+use Rattle.table_model.specs.Acpi.{IsAt, rows_of, linked_table}
+use Rattle.table_model.specs.Walked.{AreAt}
 use Rattle.blob_holes.specs.declared.hole.PointerHole.{PointerHole}
 use Rattle.blob_holes.specs.declared.hole.SumHole.{SumHole}
-use Rattle.blob_holes.specs.Blob.{BlobState, IsBlob}
+use Rattle.blob_holes.specs.Blob.{BlobState, IsBlob, next_place}
 use Rattle.blob_holes.specs.Grown.{Extends, IsLinkable}
-use Rattle.acpi_fixed.specs.Tables.{tables_name, next_place, with_hpet, with_xsdt, with_rsdp}
-use Rattle.acpi_fixed.specs.Held.{HoldsFilled, HoldsRsdp, WhereHeld}
-use Rattle.vmtables.specs.Image.{AcpiImage, whole, tables_before_xsdt, listed_places, xsdt_place, acpi_files}
-use Rattle.vmtables.specs.AcpiHeld.{IsTablesFile, IsAcpiImage}
+use Rattle.blob_holes.specs.Held.{WhereHeld}
+use Rattle.acpi_fixed.specs.Tables.{tables_name, table_pointer, with_table, with_rsdp}
+use Rattle.vmtables.specs.Image.{AcpiImage, whole, with_tables, places_in, xsdt_place, acpi_files}
+use Rattle.vmtables.specs.AcpiHeld.{most_bytes, AreAppended, IsTablesFile, IsAcpiImage}
 
 -- a file extends itself
 pub extends_self : (blob : BlobState) → Extends blob blob
@@ -24,126 +34,217 @@ extends_self blob = record {
   sums = ([], sym (append-nil blob.sums), tt);
 }
 
+-- a file that has grown twice has grown
+pub extends_twice : (first second third : BlobState) → Extends first second → Extends second third → Extends first third
+extends_twice first second third once again =
+    let longer : length first.bytes ≤ length second.bytes = omega (arith, ap length once.bytes.1, length-append first.bytes once.bytes.0) in
+    record {
+      bytes = (
+        once.bytes.0 ++ again.bytes.0,
+        again.bytes.1 ∙ ap (λ b. b ++ again.bytes.0) once.bytes.1 ∙ append_assoc first.bytes once.bytes.0 again.bytes.0,
+      );
+      pointers = (
+        once.pointers.0 ++ again.pointers.0,
+        again.pointers.1 ∙ ap (λ p. p ++ again.pointers.0) once.pointers.1 ∙ append_assoc first.pointers once.pointers.0 again.pointers.0,
+        each_append (λ (hole : PointerHole). length first.bytes ≤ hole.at) once.pointers.0 again.pointers.0 once.pointers.2
+            (each_weaker (λ (hole : PointerHole). length second.bytes ≤ hole.at) (λ (hole : PointerHole). length first.bytes ≤ hole.at)
+            (λ hole behind. omega arith) again.pointers.0 again.pointers.2),
+      );
+      sums = (
+        once.sums.0 ++ again.sums.0,
+        again.sums.1 ∙ ap (λ s. s ++ again.sums.0) once.sums.1 ∙ append_assoc first.sums once.sums.0 again.sums.0,
+        each_append (λ (hole : SumHole). length first.bytes ≤ hole.at) once.sums.0 again.sums.0 once.sums.2
+            (each_weaker (λ (hole : SumHole). length second.bytes ≤ hole.at) (λ (hole : SumHole). length first.bytes ≤ hole.at)
+            (λ hole behind. omega arith) again.sums.0 again.sums.2),
+      );
+    }
+
 -- an empty file can be linked
 empty_linkable : IsLinkable (whole [])
 empty_linkable = record { fit = λ place_of low. tt; ordered = tt }
 
--- what append_xsdt shows, of the tables at these offsets
-abbrev pub ShowsXsdt : BlobState → Acpi → ℕ → List ℕ → Type 0
-ShowsXsdt file acpi place tables =
-    WhereHeld file (λ m address place_of. IsXsdt m (address + place) (head_of acpi 1) (filter (λ entry. not (entry == 0)) (map (λ table. table + place_of tables_name) tables)))
+-- one table more
+with_tables-more : (file : BlobState) (tables : List Table) (table : Table)
+    → with_tables file (tables ++ table ∷ []) ≡ with_table (with_tables file tables) table
+with_tables-more file [] table = refl
+with_tables-more file (first ∷ tables) table = with_tables-more (with_table file first) tables table
 
--- the XSDT alone names no table
-alone : (acpi : Acpi) (file : BlobState) → length file.bytes ≡ 0 + (36 + 8 * 0) → IsLinkable file → ShowsXsdt file acpi 0 [] → IsTablesFile acpi None file
-alone acpi file size linkable shown = record {
-  linkable = linkable;
-  some = omega arith;
-  few = omega arith;
-  held = λ m address place_of held there above. record {
-    addresses = [];
-    listed = let place : address + 0 ≡ 0 + address = omega arith in subst (λ a. IsXsdt m a (head_of acpi 1) []) place (shown file m address place_of (extends_self file) held);
-    tables = (refl, refl);
-  };
-}
+places_in-more : (file : BlobState) (tables : List Table) (table : Table)
+    → places_in file (tables ++ table ∷ []) ≡ places_in file tables ++ next_place 16 (with_tables file tables) ∷ []
+places_in-more file [] table = refl
+places_in-more file (first ∷ tables) table = ap (λ places. next_place 16 file ∷ places) (places_in-more (with_table file first) tables table)
 
--- a table at the front of its file is named
-front_named : (place : ℕ) → 0 < place → filter (λ entry. not (entry == 0)) (map (λ table. table + place) (0 ∷ [])) ≡ place ∷ []
-front_named place above =
-    let here : 0 + place ≡ place = omega arith in
-    let there : (place == 0) ≡ false = grind (arith, nat_tests) in
-    ap (λ p. filter (λ entry. not (entry == 0)) (p ∷ [])) here ∙ ap (λ zero_place. cond (not zero_place) (place ∷ []) []) there
+most_bytes-more : (tables : List Table) (table : Table) → most_bytes (tables ++ table ∷ []) ≡ most_bytes tables + (24 + size (rows_of table))
+most_bytes-more [] table = omega arith
+most_bytes-more (first ∷ tables) table = let rest = most_bytes-more tables table in omega arith
 
--- the XSDT behind an HPET table names it
-behind_hpet : (acpi : Acpi) (hpet : Hpet) (first file : BlobState) → first ≡ with_hpet (whole []) acpi hpet → length first.bytes ≡ 56 → length file.bytes ≡ next_place first + (36 + 8 * 1) → Extends first file → IsLinkable file
-    → WhereHeld first (λ m address place_of. IsHpet m (address + 0) (hpet_of acpi hpet)) → ShowsXsdt file acpi (next_place first) (0 ∷ []) → IsTablesFile acpi (Some hpet) file
-behind_hpet acpi hpet first file is first_size size grown linkable hpet_shown shown =
-    let next : next_place first ≡ 64 = ap (λ n. Rattle.std.specs.Int.next_multiple_of n 16) first_size in record {
-      linkable = linkable;
-      some = omega arith;
-      few = omega arith;
-      held = λ m address place_of held there above.
-          let named : filter (λ entry. not (entry == 0)) (map (λ table. table + place_of tables_name) (0 ∷ [])) ≡ address ∷ [] =
-          ap (λ p. filter (λ entry. not (entry == 0)) (map (λ table. table + p) (0 ∷ []))) there ∙ front_named address above in
-          let place : address + next_place first ≡ xsdt_place acpi (Some hpet) + address = subst (λ b. address + next_place first ≡ next_place b + address) is (omega arith) in
-          let here : address + 0 ≡ address = omega arith in
-          record {
-            addresses = address ∷ [];
-            listed = subst (λ a. IsXsdt m a (head_of acpi 1) (address ∷ [])) place (subst (IsXsdt m (address + next_place first) (head_of acpi 1)) named (shown file m address place_of (extends_self file) held));
-            tables = inl (hpet_of acpi hpet, refl, subst (λ a. IsHpet m a (hpet_of acpi hpet)) here (hpet_shown file m address place_of grown held), (refl, refl));
-          };
+stand_more : (view : View) (addresses : List ℕ) (tables : List Table) (address : ℕ) (table : Table) → AreAt view addresses tables
+    → IsAt view address table → AreAt view (addresses ++ address ∷ []) (tables ++ table ∷ [])
+stand_more view [] [] address table stand is = (is, tt)
+stand_more view [] (first ∷ tables) address table stand is = absurd stand
+stand_more view (first ∷ addresses) [] address table stand is = absurd stand
+stand_more view (first ∷ addresses) (one ∷ tables) address table stand is = (stand.0, stand_more view addresses tables address table stand.1 is)
+
+map_more : {A B : Type 0} (f : A → B) (xs : List A) (x : A) → map f (xs ++ x ∷ []) ≡ map f xs ++ f x ∷ []
+map_more f [] x = refl
+map_more f (y ∷ xs) x = ap (λ ys. f y ∷ ys) (map_more f xs x)
+
+-- what the call that appends a table says
+pub record TableAppended (old new : BlobState) (table : Table) (place : ℕ) : Type 0 where
+  pub place_is : place ≡ next_place 16 old
+  pub file_is : new ≡ with_table old table
+  pub size_is : length new.bytes ≡ next_place 16 old + size (rows_of table)
+  pub grown : Extends old new
+  pub linkable : IsLinkable old → IsLinkable new
+  pub shown : WhereHeld new (λ view address place_of. IsAt view (address + next_place 16 old) (linked_table place_of table))
+
+-- one more was appended
+pub one_more_appended : (tables : List Table) (places : List ℕ) (old new : BlobState) (table : Table) (place : ℕ) → AreAppended tables places old
+    → TableAppended old new table place → AreAppended (tables ++ table ∷ []) (places ++ place ∷ []) new
+one_more_appended tables places old new table place before one =
+    let next : next_place 16 old ≡ next_place 16 (with_tables (whole []) tables) = ap (next_place 16) before.file_is in
+    let near : next_place 16 old ≤ length old.bytes + 16 = omega arith in
+    record {
+      file_is = one.file_is ∙ ap (λ b. with_table b table) before.file_is ∙ sym (with_tables-more (whole []) tables table);
+      places_are = ap (λ those. those ++ place ∷ []) before.places_are ∙ ap (λ p. places_in (whole []) tables ++ p ∷ []) (one.place_is ∙ next)
+          ∙ sym (places_in-more (whole []) tables table);
+      linkable = one.linkable before.linkable;
+      few = omega (arith, before.few, one.size_is, near, most_bytes-more tables table, length-append places (place ∷ []));
+      stand = λ later view address place_of grown held.
+          let there = before.stand later view address place_of (extends_twice old new later one.grown grown) held in
+          let here = subst (λ p. IsAt view (address + p) (linked_table place_of table)) (sym one.place_is) (one.shown later view address place_of grown held) in
+          subst (λ addresses. AreAt view addresses (map (linked_table place_of) (tables ++ table ∷ []))) (sym (map_more (λ p. address + p) places place))
+          (subst (AreAt view (map (λ p. address + p) places ++ (address + place) ∷ [])) (sym (map_more (linked_table place_of) tables table))
+          (stand_more view (map (λ p. address + p) places) (map (linked_table place_of) tables) (address + place) (linked_table place_of table) there here));
     }
 
--- the XSDT was appended to an empty file
-pub tables_alone : (r : Result ℕ OutOfMemory) (acpi : Option Acpi) (old file : BlobState) → old ≡ whole [] → OnOk r (length file.bytes ≡ next_place old + (36 + 8 * 0)) → OnOk r (IsLinkable old → IsLinkable file)
-    → OnOk r (IsSomeAnd acpi (λ a. ShowsXsdt file a (next_place old) [])) → OnOk r (IsSomeAnd acpi (λ a. IsTablesFile a None file))
-tables_alone (Err fault) acpi old file empty size linkable shown = tt
-tables_alone (Ok place) None old file empty size linkable shown = absurd shown
-tables_alone (Ok place) (Some acpi) old file empty size linkable shown =
-    let first : next_place old ≡ 0 = ap next_place empty in
-    alone acpi file (size ∙ ap (λ n. n + (36 + 8 * 0)) first) (linkable (subst IsLinkable (sym empty) empty_linkable)) (subst (λ n. ShowsXsdt file acpi n []) first shown)
+-- no address of a table is zero
+all_given : (address : ℕ) (places : List ℕ) → 0 < address → given (map (λ place. place + address) places) ≡ map (λ place. address + place) places
+all_given address [] above = refl
+all_given address (place ∷ places) above =
+    let some : (place + address == 0) ≡ false = grind (arith, nat_tests) in
+    let turned : place + address ≡ address + place = omega arith in
+    ap (λ zero_place. cond (not zero_place) ((place + address) ∷ given (map (λ p. p + address) places)) (given (map (λ p. p + address) places))) some
+    ∙ ap (λ p. p ∷ given (map (λ q. q + address) places)) turned ∙ ap (λ ps. (address + place) ∷ ps) (all_given address places above)
 
--- and that is the whole file
-pub file_alone : (r : Result ℕ OutOfMemory) (acpi : Option Acpi) (hpet : Option Hpet) (old file : BlobState) → old ≡ whole [] → hpet ≡ None → OnOk r (IsSomeAnd acpi (λ a. file ≡ with_xsdt old a []))
-    → OnOk r (IsSomeAnd acpi (λ a. file ≡ with_xsdt (tables_before_xsdt a hpet) a (listed_places hpet)))
-file_alone (Err fault) acpi hpet old file empty none is = tt
-file_alone (Ok place) None hpet old file empty none is = absurd is
-file_alone (Ok place) (Some acpi) (Some hpet) old file empty none is = cc
-file_alone (Ok place) (Some acpi) None old file empty none is = is ∙ ap (λ b. with_xsdt b acpi []) empty
+-- what the call that appends the XSDT says
+pub record XsdtAppended (old new : BlobState) (head : Head) (places : List ℕ) : Type 0 where
+  pub size_is : length new.bytes ≡ next_place 16 old + (36 + 8 * length places)
+  pub grown : Extends old new
+  pub linkable : IsLinkable old → IsLinkable new
+  pub shown : WhereHeld new (λ view address place_of.
+      IsXsdt view (address + next_place 16 old) head (given (map (λ place. place + place_of tables_name) places)))
 
--- the XSDT was appended behind an HPET table
-pub tables_behind : (r : Result ℕ OutOfMemory) (acpi : Option Acpi) (hpet : Option Hpet) (old first file : BlobState) (listed : ℕ) → old ≡ whole [] → listed ≡ next_place old → length first.bytes ≡ next_place old + 56
-    → IsSomeAnd acpi (λ a. IsSomeAnd hpet (λ h. first ≡ with_hpet old a h)) → (IsLinkable old → IsLinkable first)
-    → IsSomeAnd acpi (λ a. IsSomeAnd hpet (λ h. WhereHeld first (λ m address place_of. IsHpet m (address + next_place old) (hpet_of a h))))
-    → OnOk r (length file.bytes ≡ next_place first + (36 + 8 * 1)) → OnOk r (Extends first file) → OnOk r (IsLinkable first → IsLinkable file)
-    → OnOk r (IsSomeAnd acpi (λ a. ShowsXsdt file a (next_place first) (listed ∷ []))) → OnOk r (IsSomeAnd acpi (λ a. IsTablesFile a hpet file))
-tables_behind (Err fault) acpi hpet old first file listed empty front first_size is first_linkable hpet_shown size grown linkable shown = tt
-tables_behind (Ok place) None hpet old first file listed empty front first_size is first_linkable hpet_shown size grown linkable shown = absurd shown
-tables_behind (Ok place) (Some acpi) None old first file listed empty front first_size is first_linkable hpet_shown size grown linkable shown = absurd is
-tables_behind (Ok place) (Some acpi) (Some hpet) old first file listed empty front first_size is first_linkable hpet_shown size grown linkable shown =
-    let zero_place : next_place old ≡ 0 = ap next_place empty in
-    behind_hpet acpi hpet first file (is ∙ ap (λ b. with_hpet b acpi hpet) empty) (first_size ∙ ap (λ n. n + 56) zero_place) size grown (linkable (first_linkable (subst IsLinkable (sym empty) empty_linkable)))
-    (subst (λ n. WhereHeld first (λ m address place_of. IsHpet m (address + n) (hpet_of acpi hpet))) zero_place hpet_shown)
-    (subst (λ n. ShowsXsdt file acpi (next_place first) (n ∷ [])) (front ∙ zero_place) shown)
+-- the XSDT behind its tables names them
+pub tables_named : (tables : List Table) (places : List ℕ) (old new : BlobState) (head : Head) → AreAppended tables places old
+    → XsdtAppended old new head places → IsTablesFile head tables new
+tables_named tables places old new head before xsdt =
+    let near : next_place 16 old ≤ length old.bytes + 16 = omega arith in
+    record {
+      linkable = xsdt.linkable before.linkable;
+      some = omega (arith, xsdt.size_is);
+      few = omega (arith, before.few, xsdt.size_is, near);
+      behind = omega (arith, xsdt.size_is, ap (next_place 16) before.file_is);
+      held = λ view address place_of held there above.
+          let place : address + next_place 16 old ≡ xsdt_place tables + address =
+          ap (λ b. address + next_place 16 b) before.file_is ∙ omega arith in
+          let named : given (map (λ p. p + place_of tables_name) places) ≡ map (λ p. address + p) places =
+          ap (λ a. given (map (λ p. p + a) places)) there ∙ all_given address places above in
+          record {
+            addresses = map (λ p. address + p) places;
+            listed = subst (λ a. IsXsdt view a head (map (λ p. address + p) places)) place
+                (subst (IsXsdt view (address + next_place 16 old) head) named (xsdt.shown new view address place_of (extends_self new) held));
+            stand = before.stand new view address place_of xsdt.grown held;
+          };
+    }
 
 -- a file of these parts
 abbrev blob_with : List ℕ → List PointerHole → List SumHole → BlobState
 blob_with bytes pointers sums = record { bytes = bytes; pointers = pointers; sums = sums }
 
 -- a file is its parts
-pub file_from : (blob : BlobState) (bytes : List ℕ) (pointers : List PointerHole) (sums : List SumHole) → bytes ≡ blob.bytes → pointers ≡ blob.pointers → sums ≡ blob.sums → ◌≡◌ {A = BlobState} (record { bytes = bytes; pointers = pointers; sums = sums }) blob
+pub file_from : (blob : BlobState) (bytes : List ℕ) (pointers : List PointerHole) (sums : List SumHole) → bytes ≡ blob.bytes
+    → pointers ≡ blob.pointers → sums ≡ blob.sums → ◌≡◌ {A = BlobState} (record { bytes = bytes; pointers = pointers; sums = sums }) blob
 file_from blob bytes pointers sums its_bytes its_pointers its_sums =
-    ap (λ (b : List ℕ). blob_with b pointers sums) its_bytes ∙ ap (λ (p : List PointerHole). blob_with blob.bytes p sums) its_pointers ∙ ap (λ (s : List SumHole). blob_with blob.bytes blob.pointers s) its_sums
+    ap (λ (b : List ℕ). blob_with b pointers sums) its_bytes ∙ ap (λ (p : List PointerHole). blob_with blob.bytes p sums) its_pointers
+    ∙ ap (λ (s : List SumHole). blob_with blob.bytes blob.pointers s) its_sums
 
--- the two files
-abbrev image_with : BlobState → BlobState → AcpiImage
+-- what the call that appends the RSDP says
+pub record RsdpAppended (old new : BlobState) (oem_id : List ℕ) (xsdt : ℕ) : Type 0 where
+  pub empty : old ≡ whole []
+  pub file_is : new ≡ with_rsdp old oem_id xsdt
+  pub size_is : length new.bytes ≡ next_place 16 old + 36
+  pub linkable : IsLinkable old → IsLinkable new
+  pub held : WhereHeld new (λ view address place_of.
+      LayoutHeld view place_of (address + next_place 16 old) (rsdp_rows oem_id (table_pointer xsdt)))
+
+-- both files are those of the tables, and all is known of them
+pub image_known : (acpi : Acpi) (tables : List Table) (empty rsdp file : BlobState) (xsdt : ℕ) → xsdt ≡ xsdt_place tables
+    → RsdpAppended empty rsdp (padded 6 acpi.oem_id) xsdt → IsBlob rsdp → IsBlob file → file ≡ (acpi_files acpi tables).tables
+    → IsTablesFile (head_of acpi 1) tables file → IsAcpiImage acpi tables (record { rsdp = rsdp; tables = file })
+image_known acpi tables empty rsdp file xsdt place appended rsdp_blob tables_blob file_is known =
+    let first : next_place 16 empty ≡ 0 = ap (next_place 16) appended.empty in
+    record {
+      tables_file = known;
+      tables_blob = tables_blob;
+      rsdp_blob = rsdp_blob;
+      rsdp_linkable = appended.linkable (subst IsLinkable (sym appended.empty) empty_linkable);
+      rsdp_size = appended.size_is ∙ ap (λ n. n + 36) first;
+      rsdp_held = λ view address place_of holds.
+          let here : address + next_place 16 empty ≡ address = omega arith in
+          subst (λ x. LayoutHeld view place_of address (rsdp_rows (padded 6 acpi.oem_id) (table_pointer x))) place
+          (subst (λ a. LayoutHeld view place_of a (rsdp_rows (padded 6 acpi.oem_id) (table_pointer xsdt))) here
+          (appended.held rsdp view address place_of (extends_self rsdp) holds));
+    }
+
+abbrev pub image_with : BlobState → BlobState → AcpiImage
 image_with rsdp tables = record { rsdp = rsdp; tables = tables }
 
--- both files are the machine's
-pub files_are : (acpi : Option Acpi) (hpet : Option Hpet) (empty rsdp tables : BlobState) (files : AcpiImage) (xsdt : ℕ) → empty ≡ whole [] → files.rsdp ≡ rsdp → files.tables ≡ tables → IsSomeAnd acpi (λ a. xsdt ≡ xsdt_place a hpet)
-    → IsSomeAnd acpi (λ a. rsdp ≡ with_rsdp empty a xsdt) → IsSomeAnd acpi (λ a. tables ≡ (acpi_files hpet a).tables) → Some files ≡ option_map (acpi_files hpet) acpi
-files_are None hpet empty rsdp tables files xsdt is_empty rsdp_is tables_is place rsdp_file tables_file = absurd place
-files_are (Some acpi) hpet empty rsdp tables files xsdt is_empty rsdp_is tables_is place rsdp_file tables_file =
-    let its_rsdp : files.rsdp ≡ (acpi_files hpet acpi).rsdp = rsdp_is ∙ rsdp_file ∙ ap (λ b. with_rsdp b acpi xsdt) is_empty ∙ ap (with_rsdp (whole []) acpi) place in
-    let its_tables : files.tables ≡ (acpi_files hpet acpi).tables = tables_is ∙ tables_file in
-    ap (λ (rsdp_file : BlobState). Some (image_with rsdp_file files.tables)) its_rsdp ∙ ap (λ (tables_file : BlobState). Some (image_with (acpi_files hpet acpi).rsdp tables_file)) its_tables
+pub files_are : (acpi : Acpi) (tables : List Table) (empty rsdp file : BlobState) (xsdt : ℕ) → xsdt ≡ xsdt_place tables
+    → RsdpAppended empty rsdp (padded 6 acpi.oem_id) xsdt → file ≡ (acpi_files acpi tables).tables
+    → image_with rsdp file ≡ acpi_files acpi tables
+files_are acpi tables empty rsdp file xsdt place appended file_is =
+    let its_rsdp : rsdp ≡ (acpi_files acpi tables).rsdp =
+    appended.file_is ∙ ap (λ b. with_rsdp b (padded 6 acpi.oem_id) xsdt) appended.empty ∙ ap (with_rsdp (whole []) (padded 6 acpi.oem_id)) place in
+    ap (λ b. image_with b file) its_rsdp ∙ ap (image_with (acpi_files acpi tables).rsdp) file_is
 
--- and all is known of them
-pub files_held : (acpi : Option Acpi) (hpet : Option Hpet) (empty rsdp tables : BlobState) (files : AcpiImage) (xsdt : ℕ) → empty ≡ whole [] → files.rsdp ≡ rsdp → files.tables ≡ tables → IsSomeAnd acpi (λ a. xsdt ≡ xsdt_place a hpet)
-    → IsBlob rsdp → IsBlob tables → length rsdp.bytes ≡ next_place empty + 36 → (IsLinkable empty → IsLinkable rsdp)
-    → IsSomeAnd acpi (λ a. WhereHeld rsdp (λ m address place_of. HoldsRsdp m (address + next_place empty) (padded 6 a.oem_id) (xsdt + place_of tables_name)))
-    → IsSomeAnd acpi (λ a. IsTablesFile a hpet tables) → IsSomeAnd acpi (λ a. IsAcpiImage a hpet files)
-files_held None hpet empty rsdp tables files xsdt is_empty rsdp_is tables_is place rsdp_blob tables_blob size linkable shown held = absurd place
-files_held (Some acpi) hpet empty rsdp tables files xsdt is_empty rsdp_is tables_is place rsdp_blob tables_blob size linkable shown held =
-    let zero_place : next_place empty ≡ 0 = ap next_place is_empty in
-    let its_size : length rsdp.bytes ≡ 36 = size ∙ ap (λ n. n + 36) zero_place in
-    record {
-      tables = subst (IsTablesFile acpi hpet) (sym tables_is) held;
-      tables_blob = subst IsBlob (sym tables_is) tables_blob;
-      rsdp_blob = subst IsBlob (sym rsdp_is) rsdp_blob;
-      rsdp_linkable = subst IsLinkable (sym rsdp_is) (linkable (subst IsLinkable (sym is_empty) empty_linkable));
-      rsdp_size = ap (λ (b : BlobState). length b.bytes) rsdp_is ∙ its_size;
-      rsdp_held = λ m address place_of holds.
-          let here : address + next_place empty ≡ address = omega arith in
-          let shows = shown rsdp m address place_of (extends_self rsdp) (subst (λ b. HoldsFilled m address b place_of) rsdp_is holds) in
-          subst (λ x. HoldsRsdp m address (padded 6 acpi.oem_id) (x + place_of tables_name)) place (subst (λ a. HoldsRsdp m a (padded 6 acpi.oem_id) (xsdt + place_of tables_name)) here shows);
-    }
+-- the first tables have no more bytes than all
+pub most_bytes-take : (tables : List Table) (k : ℕ) → most_bytes (take k tables) ≤ most_bytes tables
+most_bytes-take [] zero = omega arith
+most_bytes-take [] (suc k) = omega arith
+most_bytes-take (table ∷ tables) zero = omega arith
+most_bytes-take (table ∷ tables) (suc k) = let rest = most_bytes-take tables k in omega arith
+
+-- what the call that appends the XSDT says, where it answers Ok
+pub xsdt_appended : (r : Result ℕ OutOfMemory) (tables : List Table) (places seen : List ℕ) (old new : BlobState) (head : Head) → seen ≡ places
+    → AreAppended tables places old → OnOk r (length new.bytes ≡ next_place 16 old + (36 + 8 * length seen)) → OnOk r (Extends old new)
+    → OnOk r (IsLinkable old → IsLinkable new)
+    → OnOk r (WhereHeld new (λ view address place_of. IsXsdt view (address + next_place 16 old) head
+    (given (map (λ place. place + place_of tables_name) seen))))
+    → OnOk r (IsTablesFile head tables new)
+xsdt_appended (Err fault) tables places seen old new head same before size_is grown linkable shown = tt
+xsdt_appended (Ok place) tables places seen old new head same before size_is grown linkable shown =
+    tables_named tables seen old new head (subst (λ those. AreAppended tables those old) (sym same) before)
+    (record { size_is = size_is; grown = grown; linkable = linkable; shown = shown })
+
+-- what the call that appends the RSDP says, clause by clause, of the maker's id
+pub rsdp_appended : (old new : BlobState) (seen oem_id : List ℕ) (xsdt : ℕ) → seen ≡ oem_id → old ≡ whole [] → new ≡ with_rsdp old seen xsdt
+    → length new.bytes ≡ next_place 16 old + 36 → (IsLinkable old → IsLinkable new)
+    → WhereHeld new (λ view address place_of. LayoutHeld view place_of (address + next_place 16 old) (rsdp_rows seen (table_pointer xsdt)))
+    → RsdpAppended old new oem_id xsdt
+rsdp_appended old new seen oem_id xsdt same empty file_is size_is linkable held =
+    subst (λ id. RsdpAppended old new id xsdt) same
+    (record { empty = empty; file_is = file_is; size_is = size_is; linkable = linkable; held = held })
+
+-- one more of a list of tables was appended
+pub next_appended : (tables : List Table) (k : ℕ) (other : Table) (places after : List ℕ) (old new : BlobState) (place : ℕ) → k < length tables
+    → AreAppended (take k tables) places old → after ≡ places ++ place ∷ [] → place ≡ next_place 16 old
+    → new ≡ with_table old (get_or tables k other) → length new.bytes ≡ next_place 16 old + size (rows_of (get_or tables k other)) → Extends old new
+    → (IsLinkable old → IsLinkable new)
+    → WhereHeld new (λ view address place_of. IsAt view (address + next_place 16 old) (linked_table place_of (get_or tables k other)))
+    → AreAppended (take (k + 1) tables) after new
+next_appended tables k other places after old new place within before after_is place_is file_is size_is grown linkable shown =
+    subst (λ some. AreAppended some after new) (sym (take_more tables k other within))
+    (subst (λ those. AreAppended (take k tables ++ get_or tables k other ∷ []) those new) (sym after_is)
+    (one_more_appended (take k tables) places old new (get_or tables k other) place before
+    (record { place_is = place_is; file_is = file_is; size_is = size_is; grown = grown; linkable = linkable; shown = shown })))

@@ -1,5 +1,6 @@
 -- How a boot ends once the machine is loaded and the dump was written, or wasn't.
-use Rattle.std.proofs.Common.{◌≡◌, ◌<◌, ◌↔◌, ℕ, List, [], ◌++◌, Option, Some, None, Result, Ok, Err, IfSome, IsSomeAnd, IfErr, OnOk, OnErr, refl, sym, ap, ◌∙◌, subst, arith}
+use Rattle.std.proofs.Common.{◌≡◌, ◌<◌, ◌↔◌, ℕ, List, [], ◌++◌, Option, Some, None, Result, Ok, Err, IfSome, IsSomeAnd, IfErr, OnOk, OnErr, refl, sym}
+use Rattle.std.proofs.Common.{ap, ◌∙◌, subst, arith}
 use Rattle.std.proofs.lemmas.List.{append-nil}
 use Rattle.vt_outside.specs.Stream.{Rose, in_front}
 use Rattle.vmtables.specs.Boot.{IsLoaded, SourceSeen, SinkSeen, BootEnds, status_of}
@@ -17,7 +18,8 @@ abbrev pub was_read : List ℕ → Result (List ℕ) InputFault
 was_read bytes = Ok bytes
 
 -- all that a source had was read, where it has nothing left
-all_read : (had left : Option (List ℕ)) (bytes : List ℕ) (P : List ℕ → Type 0) → had ≡ in_front bytes left → IfSome left (λ rest. rest ≡ []) → P bytes → IfSome had P
+all_read : (had left : Option (List ℕ)) (bytes : List ℕ) (P : List ℕ → Type 0) → had ≡ in_front bytes left → IfSome left (λ rest. rest ≡ [])
+    → P bytes → IfSome had P
 all_read None left bytes P given end holds = tt
 all_read (Some all) None bytes P given end holds = cc
 all_read (Some all) (Some rest) bytes P given end holds =
@@ -35,7 +37,8 @@ pub none_given : (had : Option (List ℕ)) → IfSome had (λ _. (status.Usage �
 none_given None = tt
 none_given (Some all) = (λ is. cc, λ long. absurd (omega arith))
 
-pub ends_loaded : (r : Result (Unit {0}) Status) (bytes : List ℕ) (source source_after : SourceSeen) (out out_after : SinkSeen) (world world_after : Option Begun)
+pub ends_loaded : (r : Result (Unit {0}) Status) (bytes : List ℕ) (source source_after : SourceSeen) (out out_after : SinkSeen)
+    (world world_after : Option Begun)
     → source.left ≡ in_front bytes source_after.left
     → IfSome source_after.left (λ rest. rest ≡ [])
     → source_after.faults ≡ source.faults
@@ -49,37 +52,39 @@ pub ends_loaded : (r : Result (Unit {0}) Status) (bytes : List ℕ) (source sour
     → OnErr r (Rose out.faults out_after.faults)
     → OnOk r (out_after.faults ≡ out.faults)
     → BootEnds (status_of r) source source_after out out_after world world_after
-ends_loaded (Ok done) bytes source source_after out out_after world world_after given end all_sound too_long is_loaded dumped flushed failed front out_unflushed rose out_sound = record {
-  known = λ is. cc;
-  read = λ _. end;
-  loaded = λ _. all_read source.left source_after.left bytes (λ all. IsSomeAnd world_after (IsLoaded all)) given end is_loaded;
-  dumped = λ _. dumped;
-  flushed = λ _. flushed;
-  read_fault = λ is. cc;
-  read_sound = λ _. all_sound;
-  too_long = not_too_long source.left status.Ok bytes _ (λ is. cc) too_long;
-  refused = λ is. cc;
-  write_fault = λ is. cc;
-  write_sound = λ _. out_sound;
-  front = λ is. cc;
-  nothing = λ other _. absurd (other refl);
-  unflushed = λ other. absurd (other refl);
-  kept = tt;
-}
-ends_loaded (Err s) bytes source source_after out out_after world world_after given end all_sound too_long is_loaded dumped flushed failed front out_unflushed rose out_sound = rw failed (record {
-  known = λ is. cc;
-  read = λ _. end;
-  loaded = λ _. all_read source.left source_after.left bytes (λ all. IsSomeAnd world_after (IsLoaded all)) given end is_loaded;
-  dumped = λ is. cc;
-  flushed = λ is. cc;
-  read_fault = λ is. cc;
-  read_sound = λ _. all_sound;
-  too_long = not_too_long source.left status.WriteFault bytes _ (λ is. cc) too_long;
-  refused = λ is. cc;
-  write_fault = λ _. rose;
-  write_sound = λ other. absurd (other refl);
-  front = λ _. front;
-  nothing = λ _ other. absurd (other refl);
-  unflushed = λ _. out_unflushed;
-  kept = tt;
-})
+ends_loaded (Ok done) bytes source source_after out out_after world world_after given end all_sound too_long is_loaded dumped flushed failed front
+    out_unflushed rose out_sound = record {
+      known = λ is. cc;
+      read = λ _. end;
+      loaded = λ _. all_read source.left source_after.left bytes (λ all. IsSomeAnd world_after (IsLoaded all)) given end is_loaded;
+      dumped = λ _. dumped;
+      flushed = λ _. flushed;
+      read_fault = λ is. cc;
+      read_sound = λ _. all_sound;
+      too_long = not_too_long source.left status.Ok bytes _ (λ is. cc) too_long;
+      refused = λ is. cc;
+      write_fault = λ is. cc;
+      write_sound = λ _. out_sound;
+      front = λ is. cc;
+      nothing = λ other _. absurd (other refl);
+      unflushed = λ other. absurd (other refl);
+      kept = tt;
+    }
+ends_loaded (Err s) bytes source source_after out out_after world world_after given end all_sound too_long is_loaded dumped flushed failed front
+    out_unflushed rose out_sound = rw failed (record {
+      known = λ is. cc;
+      read = λ _. end;
+      loaded = λ _. all_read source.left source_after.left bytes (λ all. IsSomeAnd world_after (IsLoaded all)) given end is_loaded;
+      dumped = λ is. cc;
+      flushed = λ is. cc;
+      read_fault = λ is. cc;
+      read_sound = λ _. all_sound;
+      too_long = not_too_long source.left status.WriteFault bytes _ (λ is. cc) too_long;
+      refused = λ is. cc;
+      write_fault = λ _. rose;
+      write_sound = λ other. absurd (other refl);
+      front = λ _. front;
+      nothing = λ _ other. absurd (other refl);
+      unflushed = λ _. out_unflushed;
+      kept = tt;
+    })

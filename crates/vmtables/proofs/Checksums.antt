@@ -1,12 +1,13 @@
 -- A byte of a placed file that a sum is taken from.
-use Rattle.std.proofs.Common.{◌≡◌, ℕ, suc, ◌+◌, ◌-◌, ◌%◌, ◌<◌, ◌≤◌, List, [], ◌∷◌, ◌++◌, length, take, drop, slice_index, slice_set, Some, IsSome, arith, ap, ap₂, subst, sym, ◌∙◌, append_assoc}
+use Rattle.std.proofs.Common.{◌≡◌, ℕ, suc, ◌+◌, ◌-◌, ◌%◌, ◌<◌, ◌≤◌, List, [], ◌∷◌, ◌++◌, length, take, drop, slice_index, slice_set, Some, IsSome}
+use Rattle.std.proofs.Common.{arith, ap, ap₂, subst, sym, ◌∙◌, append_assoc}
 use Rattle.std.proofs.lemmas.List.{set_split}
 use Rattle.vt_bytes.specs.Numbers.{byte_sum}
 use Rattle.vt_bytes.specs.Parts.{put_at}
 use Rattle.guest_memory.specs.Memory.{Memory, IsRam, IsRamRange, at, bytes_at, Puts}
 use Rattle.vmtables.specs.declared.placing.PlacedFile.{PlacedFile}
 use Rattle.vmtables.specs.ScriptRun.{summed, with_bytes}
-use Rattle.vmtables.specs.FilesInMemory.{file_named, placed_in, files_in, IsLoading, IsStep}
+use Rattle.vmtables.specs.FilesInMemory.{placed_named, placed_in, files_in, IsLoading, IsStep}
 use Rattle.vmtables.proofs.NamedInMemory.{found_in}
 use Rattle.guest_memory.proofs.Bytes.{length-bytes_at, part-bytes_at, index-bytes_at}
 use Rattle.vmtables.proofs.Writes.{ram_part}
@@ -17,69 +18,85 @@ use Rattle.vmtables.proofs.Commands.{IsAddChecksum, IsAddChecksum-from}
 put_one : (bytes : List ℕ) (offset byte : ℕ) → offset < length bytes → slice_set bytes offset byte ≡ put_at bytes offset (byte ∷ [])
 put_one bytes offset byte within =
     let next : suc offset ≡ offset + 1 = omega arith in
-    set_split bytes offset byte within ∙ ap (λ k. take offset bytes ++ byte ∷ drop k bytes) next ∙ sym (append_assoc (take offset bytes) (byte ∷ []) (drop (offset + 1) bytes))
+    set_split bytes offset byte within ∙ ap (λ k. take offset bytes ++ byte ∷ drop k bytes) next
+    ∙ sym (append_assoc (take offset bytes) (byte ∷ []) (drop (offset + 1) bytes))
 
 -- the file of a lawful AddChecksum, as it is placed
 pub record IsSum (m : Memory) (placed : List PlacedFile) (name : List ℕ) (offset start count : ℕ) (p : PlacedFile) : Type 0 where
   pub loading : IsLoading m placed
-  pub found : file_named placed name ≡ Some p
+  pub found : placed_named placed name ≡ Some p
   pub lawful : IsSome (summed (files_in m placed) name offset start count)
 
 -- what the command says of it
-said : (m : Memory) (placed : List PlacedFile) (name : List ℕ) (offset start count : ℕ) (p : PlacedFile) → IsSum m placed name offset start count p → IsAddChecksum (files_in m placed) name offset start count (placed_in m p)
+said : (m : Memory) (placed : List PlacedFile) (name : List ℕ) (offset start count : ℕ) (p : PlacedFile) → IsSum m placed name offset start count p
+    → IsAddChecksum (files_in m placed) name offset start count (placed_in m p)
 said m placed name offset start count p sum =
     IsAddChecksum-from (files_in m placed) name offset start count (placed_in m p) (found_in m placed name p sum.found) sum.lawful
 
 -- the range is in its file
-range_within : (m : Memory) (placed : List PlacedFile) (name : List ℕ) (offset start count : ℕ) (p : PlacedFile) → IsSum m placed name offset start count p → start + count ≤ p.size
+range_within : (m : Memory) (placed : List PlacedFile) (name : List ℕ) (offset start count : ℕ) (p : PlacedFile)
+    → IsSum m placed name offset start count p → start + count ≤ p.size
 range_within m placed name offset start count p sum =
     omega (arith, (said m placed name offset start count p sum).range, length-bytes_at m p.place p.size)
 
 -- and in RAM
-pub sum_ram : (m : Memory) (placed : List PlacedFile) (name : List ℕ) (offset start count from : ℕ) (p : PlacedFile) → from ≡ p.place + start → IsSum m placed name offset start count p → IsRamRange m.top from count
+pub sum_ram : (m : Memory) (placed : List PlacedFile) (name : List ℕ) (offset start count from : ℕ) (p : PlacedFile) → from ≡ p.place + start
+    → IsSum m placed name offset start count p → IsRamRange m.top from count
 sum_ram m placed name offset start count from p from_is sum =
     subst (λ a. IsRamRange m.top a count) (sym from_is)
-    (ram_part m.top p.place p.size start count (found_is_placed m.top placed name p sum.found sum.loading.files).0 (range_within m placed name offset start count p sum))
+    (ram_part m.top p.place p.size start count (found_is_placed m.top placed name p sum.found sum.loading.files).0
+    (range_within m placed name offset start count p sum))
 
 -- the byte is in its file
-byte_within : (m : Memory) (placed : List PlacedFile) (name : List ℕ) (offset start count : ℕ) (p : PlacedFile) → IsSum m placed name offset start count p → offset < p.size
+byte_within : (m : Memory) (placed : List PlacedFile) (name : List ℕ) (offset start count : ℕ) (p : PlacedFile)
+    → IsSum m placed name offset start count p → offset < p.size
 byte_within m placed name offset start count p sum =
     omega (arith, (said m placed name offset start count p sum).byte, length-bytes_at m p.place p.size)
 
 -- and in RAM
-pub byte_ram : (m : Memory) (placed : List PlacedFile) (name : List ℕ) (offset start count field : ℕ) (p : PlacedFile) → field ≡ p.place + offset → IsSum m placed name offset start count p → IsRam m.top field
+pub byte_ram : (m : Memory) (placed : List PlacedFile) (name : List ℕ) (offset start count field : ℕ) (p : PlacedFile) → field ≡ p.place + offset
+    → IsSum m placed name offset start count p → IsRam m.top field
 byte_ram m placed name offset start count field p field_is sum =
-    subst (IsRam m.top) (sym field_is) ((found_is_placed m.top placed name p sum.found sum.loading.files).0 offset (byte_within m placed name offset start count p sum))
+    subst (IsRam m.top) (sym field_is) ((found_is_placed m.top placed name p sum.found sum.loading.files).0 offset
+    (byte_within m placed name offset start count p sum))
 
 -- the byte less the sum, as the command gives it
 abbrev less : ℕ → List ℕ → ℕ
 less byte range = (byte + (256 - byte_sum range)) % 256
 
 -- the byte that the command gives, from memory
-byte_given : (m : Memory) (placed : List PlacedFile) (name : List ℕ) (offset start count field from : ℕ) (p : PlacedFile) → field ≡ p.place + offset → from ≡ p.place + start → IsSum m placed name offset start count p → less (slice_index (bytes_at m p.place p.size) offset) (take count (drop start (bytes_at m p.place p.size))) ≡ less (at m field) (bytes_at m from count)
+byte_given : (m : Memory) (placed : List PlacedFile) (name : List ℕ) (offset start count field from : ℕ) (p : PlacedFile) → field ≡ p.place + offset
+    → from ≡ p.place + start → IsSum m placed name offset start count p
+    → less (slice_index (bytes_at m p.place p.size) offset) (take count (drop start (bytes_at m p.place p.size))) ≡ less (at m field) (bytes_at m from count)
 byte_given m placed name offset start count field from p field_is from_is sum =
     ap₂ less
     (index-bytes_at m p.place p.size offset (byte_within m placed name offset start count p sum) ∙ ap (at m) (sym field_is))
     (part-bytes_at m p.place p.size start count (range_within m placed name offset start count p sum) ∙ ap (λ a. bytes_at m a count) (sym from_is))
 
 -- its write is one in the file
-byte_write : (m new : Memory) (placed : List PlacedFile) (name : List ℕ) (offset start count field byte : ℕ) (p : PlacedFile) → field ≡ p.place + offset → IsSum m placed name offset start count p → Puts m new field (byte ∷ []) → IsWrite m new p offset (byte ∷ [])
+byte_write : (m new : Memory) (placed : List PlacedFile) (name : List ℕ) (offset start count field byte : ℕ) (p : PlacedFile)
+    → field ≡ p.place + offset → IsSum m placed name offset start count p → Puts m new field (byte ∷ []) → IsWrite m new p offset (byte ∷ [])
 byte_write m new placed name offset start count field byte p field_is sum puts = record {
   puts = subst (λ a. Puts m new a (byte ∷ [])) field_is puts;
   within = omega (arith, byte_within m placed name offset start count p sum);
 }
 
 -- and gives the file that the command gives
-pub sum_after : (m new : Memory) (placed : List PlacedFile) (name : List ℕ) (offset start count field from byte : ℕ) (p : PlacedFile) → field ≡ p.place + offset → from ≡ p.place + start → IsSum m placed name offset start count p → byte ≡ (at m field + (256 - byte_sum (bytes_at m from count))) % 256 → Puts m new field (byte ∷ []) → summed (files_in m placed) name offset start count ≡ Some (files_in new placed)
+pub sum_after : (m new : Memory) (placed : List PlacedFile) (name : List ℕ) (offset start count field from byte : ℕ) (p : PlacedFile)
+    → field ≡ p.place + offset → from ≡ p.place + start → IsSum m placed name offset start count p
+    → byte ≡ (at m field + (256 - byte_sum (bytes_at m from count))) % 256 → Puts m new field (byte ∷ [])
+    → summed (files_in m placed) name offset start count ≡ Some (files_in new placed)
 sum_after m new placed name offset start count field from byte p field_is from_is sum byte_is puts =
     let write = byte_write m new placed name offset start count field byte p field_is sum puts in
     let given = byte_given m placed name offset start count field from p field_is from_is sum ∙ sym byte_is in
     (said m placed name offset start count p sum).is
     ∙ ap (λ b. Some (with_bytes (files_in m placed) name (slice_set (bytes_at m p.place p.size) offset b))) given
-    ∙ ap (λ bytes. Some (with_bytes (files_in m placed) name bytes)) (put_one (bytes_at m p.place p.size) offset byte (omega (arith, byte_within m placed name offset start count p sum, length-bytes_at m p.place p.size)))
+    ∙ ap (λ bytes. Some (with_bytes (files_in m placed) name bytes))
+    (put_one (bytes_at m p.place p.size) offset byte (omega (arith, byte_within m placed name offset start count p sum, length-bytes_at m p.place p.size)))
     ∙ ap (λ files. Some files) (sym (file_written m new placed name p offset (byte ∷ []) sum.found sum.loading.files write))
 
 -- and the load goes on
-pub sum_step : (m new : Memory) (placed : List PlacedFile) (name : List ℕ) (offset start count field byte : ℕ) (p : PlacedFile) → field ≡ p.place + offset → IsSum m placed name offset start count p → Puts m new field (byte ∷ []) → IsStep m new placed
+pub sum_step : (m new : Memory) (placed : List PlacedFile) (name : List ℕ) (offset start count field byte : ℕ) (p : PlacedFile)
+    → field ≡ p.place + offset → IsSum m placed name offset start count p → Puts m new field (byte ∷ []) → IsStep m new placed
 sum_step m new placed name offset start count field byte p field_is sum puts =
     step_written m new placed name p offset (byte ∷ []) sum.loading sum.found (byte_write m new placed name offset start count field byte p field_is sum puts)

@@ -7,7 +7,8 @@ use Rattle.blob_holes.proofs.Pointers.{length-with_pointers}
 use Rattle.blob_holes.proofs.Sums.{AreSums-longer}
 use Rattle.acpi_fixed.specs.Tables.{tables_name as acpi_tables_name}
 use Rattle.vmtables.specs.declared.files.FileBytes.{FileBytes}
-use Rattle.vmtables.specs.Image.{AcpiImage, whole, acpi_by_name, acpi_tables_first, smbios_by_name, add_pointer, add_checksum, add_pointers, add_checksums, anchor_name, tables_name, rsdp_name}
+use Rattle.vmtables.specs.Image.{AcpiImage, whole, acpi_by_name, acpi_tables_first, smbios_by_name, add_pointer, add_checksum, add_pointers}
+use Rattle.vmtables.specs.Image.{add_checksums, anchor_name, structures_name, rsdp_name}
 use Rattle.vmtables.specs.ScriptRun.{Placed, Runs}
 use Rattle.vmtables.proofs.Linked.{place_in, linked}
 use Rattle.vmtables.proofs.Linking.{AreTargets, targets_stay, pointers_run, checksums_run}
@@ -21,34 +22,40 @@ pub record Links (placed : List Placed) (blob : BlobState) : Type 0 where
 -- its sums are in range also once its pointers' fields are filled
 sums_in : (blob : BlobState) (place_of : List ℕ → ℕ) → IsBlob blob → AreSums (with_pointers blob.bytes blob.pointers place_of) blob.sums
 sums_in blob place_of kept =
-    let size : length (with_pointers blob.bytes blob.pointers place_of) ≡ length blob.bytes = length-with_pointers place_of blob.bytes blob.pointers kept.pointers in
+    let size : length (with_pointers blob.bytes blob.pointers place_of)
+    ≡ length blob.bytes = length-with_pointers place_of blob.bytes blob.pointers kept.pointers in
     AreSums-longer blob.bytes (with_pointers blob.bytes blob.pointers place_of) blob.sums (omega arith) kept.sums
 
 -- the files of an image without ACPI tables, and of one with them, placed there
 abbrev pub two_placed : ℕ → List ℕ → List ℕ → List Placed
 two_placed structures_place structures anchor =
-    record { name = tables_name; place = structures_place; bytes = structures } ∷ record { name = anchor_name; place = 0xF0000; bytes = anchor } ∷ []
+    record { name = structures_name; place = structures_place; bytes = structures } ∷ record { name = anchor_name; place = 0xF0000; bytes = anchor } ∷ []
 
 abbrev pub four_placed : ℕ → ℕ → List ℕ → List ℕ → List ℕ → List ℕ → List Placed
 four_placed tables_place structures_place tables rsdp structures anchor =
     record { name = acpi_tables_name; place = tables_place; bytes = tables } ∷
     record { name = rsdp_name; place = 0xF0000; bytes = rsdp } ∷
-    record { name = tables_name; place = structures_place; bytes = structures } ∷
+    record { name = structures_name; place = structures_place; bytes = structures } ∷
     record { name = anchor_name; place = 0xF0030; bytes = anchor } ∷ []
 
 -- an image without ACPI tables is linked
-pub two_linked : (top : ℕ) (files : List FileBytes) (structures_place : ℕ) (structures : List ℕ) (anchor : BlobState) → Links (two_placed structures_place structures anchor.bytes) anchor
-    → Runs top files (add_pointers (smbios_by_name (record { anchor = anchor; tables = whole structures })) ++ add_checksums (smbios_by_name (record { anchor = anchor; tables = whole structures })))
+pub two_linked : (top : ℕ) (files : List FileBytes) (structures_place : ℕ) (structures : List ℕ) (anchor : BlobState)
+    → Links (two_placed structures_place structures anchor.bytes) anchor
+    → Runs top files (add_pointers (smbios_by_name (record { anchor = anchor; structures = whole structures }))
+    ++ add_checksums (smbios_by_name (record { anchor = anchor; structures = whole structures })))
     (two_placed structures_place structures anchor.bytes)
     (two_placed structures_place structures (linked (place_in (two_placed structures_place structures anchor.bytes)) anchor))
 two_linked top files structures_place structures anchor links =
     let place_of = place_in (two_placed structures_place structures anchor.bytes) in
     let pointed : List ℕ = with_pointers anchor.bytes anchor.pointers place_of in
-    let checksums : List Entry = add_checksums (smbios_by_name (record { anchor = anchor; tables = whole structures })) in
+    let checksums : List Entry = add_checksums (smbios_by_name (record { anchor = anchor; structures = whole structures })) in
     let order = append_assoc (map (add_pointer anchor_name) anchor.pointers) [] checksums in
-    subst (λ script. Runs top files script (two_placed structures_place structures anchor.bytes) (two_placed structures_place structures (with_sums (with_pointers anchor.bytes anchor.pointers place_of) anchor.sums))) (sym order)
-    (pointers_run top files anchor_name place_of anchor.pointers checksums (two_placed structures_place structures anchor.bytes) _ (record { name = anchor_name; place = 0xF0000; bytes = anchor.bytes }) refl refl links.kept.pointers links.fit links.targets
-    (checksums_run top files anchor_name anchor.sums [] (two_placed structures_place structures pointed) _ (record { name = anchor_name; place = 0xF0000; bytes = pointed }) refl refl (sums_in anchor place_of links.kept) refl))
+    subst (λ script. Runs top files script (two_placed structures_place structures anchor.bytes)
+    (two_placed structures_place structures (with_sums (with_pointers anchor.bytes anchor.pointers place_of) anchor.sums))) (sym order)
+    (pointers_run top files anchor_name place_of anchor.pointers checksums (two_placed structures_place structures anchor.bytes) _
+    (record { name = anchor_name; place = 0xF0000; bytes = anchor.bytes }) refl refl links.kept.pointers links.fit links.targets
+    (checksums_run top files anchor_name anchor.sums [] (two_placed structures_place structures pointed) _
+    (record { name = anchor_name; place = 0xF0000; bytes = pointed }) refl refl (sums_in anchor place_of links.kept) refl))
 
 -- the commands of three files, one after the other
 in_turn : (a b c rest : List Entry) → (a ++ (b ++ (c ++ []))) ++ rest ≡ a ++ (b ++ (c ++ rest))
@@ -60,13 +67,16 @@ pub four_linked : (top : ℕ) (files : List FileBytes) (tables_place structures_
     → Links (four_placed tables_place structures_place acpi.tables.bytes acpi.rsdp.bytes structures anchor.bytes) acpi.tables
     → Links (four_placed tables_place structures_place acpi.tables.bytes acpi.rsdp.bytes structures anchor.bytes) acpi.rsdp
     → Links (four_placed tables_place structures_place acpi.tables.bytes acpi.rsdp.bytes structures anchor.bytes) anchor
-    → Runs top files (add_pointers (acpi_by_name (Some acpi) ++ smbios_by_name (record { anchor = anchor; tables = whole structures })) ++ add_checksums (acpi_tables_first (Some acpi) ++ smbios_by_name (record { anchor = anchor; tables = whole structures })))
+    → Runs top files (add_pointers (acpi_by_name (Some acpi) ++ smbios_by_name (record { anchor = anchor; structures = whole structures }))
+    ++ add_checksums (acpi_tables_first (Some acpi) ++ smbios_by_name (record { anchor = anchor; structures = whole structures })))
     (four_placed tables_place structures_place acpi.tables.bytes acpi.rsdp.bytes structures anchor.bytes)
-    (four_placed tables_place structures_place (linked (place_in (four_placed tables_place structures_place acpi.tables.bytes acpi.rsdp.bytes structures anchor.bytes)) acpi.tables)
+    (four_placed tables_place structures_place (linked (place_in (four_placed tables_place structures_place acpi.tables.bytes acpi.rsdp.bytes
+    structures anchor.bytes)) acpi.tables)
     (linked (place_in (four_placed tables_place structures_place acpi.tables.bytes acpi.rsdp.bytes structures anchor.bytes)) acpi.rsdp) structures
     (linked (place_in (four_placed tables_place structures_place acpi.tables.bytes acpi.rsdp.bytes structures anchor.bytes)) anchor))
 four_linked top files tables_place structures_place acpi structures anchor tables_links rsdp_links anchor_links =
-    let placed : List ℕ → List ℕ → List ℕ → List Placed = λ tables rsdp its_anchor. four_placed tables_place structures_place tables rsdp structures its_anchor in
+    let placed : List ℕ → List ℕ → List ℕ → List Placed = λ tables rsdp its_anchor. four_placed tables_place structures_place tables rsdp structures
+    its_anchor in
     let before : List Placed = four_placed tables_place structures_place acpi.tables.bytes acpi.rsdp.bytes structures anchor.bytes in
     let place_of = place_in (four_placed tables_place structures_place acpi.tables.bytes acpi.rsdp.bytes structures anchor.bytes) in
     let tables : List ℕ = with_pointers acpi.tables.bytes acpi.tables.pointers place_of in
@@ -74,17 +84,24 @@ four_linked top files tables_place structures_place acpi structures anchor table
     let its_anchor : List ℕ = with_pointers anchor.bytes anchor.pointers place_of in
     let summed_tables : List ℕ = with_sums (with_pointers acpi.tables.bytes acpi.tables.pointers place_of) acpi.tables.sums in
     let summed_rsdp : List ℕ = with_sums (with_pointers acpi.rsdp.bytes acpi.rsdp.pointers place_of) acpi.rsdp.sums in
-    let checksums : List Entry = add_checksums (acpi_tables_first (Some acpi) ++ smbios_by_name (record { anchor = anchor; tables = whole structures })) in
-    let order = in_turn (map (add_pointer rsdp_name) acpi.rsdp.pointers) (map (add_pointer acpi_tables_name) acpi.tables.pointers) (map (add_pointer anchor_name) anchor.pointers) checksums in
-    subst (λ script. Runs top files script before (placed summed_tables summed_rsdp (with_sums (with_pointers anchor.bytes anchor.pointers place_of) anchor.sums))) (sym order)
-    (pointers_run top files rsdp_name place_of acpi.rsdp.pointers (map (add_pointer acpi_tables_name) acpi.tables.pointers ++ (map (add_pointer anchor_name) anchor.pointers ++ checksums)) before _
+    let checksums : List Entry = add_checksums (acpi_tables_first (Some acpi) ++ smbios_by_name (record { anchor = anchor; structures = whole structures })) in
+    let order = in_turn (map (add_pointer rsdp_name) acpi.rsdp.pointers) (map (add_pointer acpi_tables_name) acpi.tables.pointers)
+    (map (add_pointer anchor_name) anchor.pointers) checksums in
+    subst (λ script. Runs top files script before (placed summed_tables summed_rsdp
+    (with_sums (with_pointers anchor.bytes anchor.pointers place_of) anchor.sums))) (sym order)
+    (pointers_run top files rsdp_name place_of acpi.rsdp.pointers
+    (map (add_pointer acpi_tables_name) acpi.tables.pointers ++ (map (add_pointer anchor_name) anchor.pointers ++ checksums)) before _
     (record { name = rsdp_name; place = 0xF0000; bytes = acpi.rsdp.bytes }) refl refl rsdp_links.kept.pointers rsdp_links.fit rsdp_links.targets
-    (pointers_run top files acpi_tables_name place_of acpi.tables.pointers (map (add_pointer anchor_name) anchor.pointers ++ checksums) (placed acpi.tables.bytes rsdp anchor.bytes) _
-    (record { name = acpi_tables_name; place = tables_place; bytes = acpi.tables.bytes }) refl refl tables_links.kept.pointers tables_links.fit (targets_stay before rsdp_name rsdp place_of acpi.tables.pointers tables_links.targets)
+    (pointers_run top files acpi_tables_name place_of acpi.tables.pointers (map (add_pointer anchor_name) anchor.pointers ++ checksums)
+    (placed acpi.tables.bytes rsdp anchor.bytes) _
+    (record { name = acpi_tables_name; place = tables_place; bytes = acpi.tables.bytes }) refl refl tables_links.kept.pointers tables_links.fit
+    (targets_stay before rsdp_name rsdp place_of acpi.tables.pointers tables_links.targets)
     (pointers_run top files anchor_name place_of anchor.pointers checksums (placed tables rsdp anchor.bytes) _
     (record { name = anchor_name; place = 0xF0030; bytes = anchor.bytes }) refl refl anchor_links.kept.pointers anchor_links.fit
-    (targets_stay (placed acpi.tables.bytes rsdp anchor.bytes) acpi_tables_name tables place_of anchor.pointers (targets_stay before rsdp_name rsdp place_of anchor.pointers anchor_links.targets))
-    (checksums_run top files acpi_tables_name acpi.tables.sums (map (add_checksum rsdp_name) acpi.rsdp.sums ++ (map (add_checksum anchor_name) anchor.sums ++ [])) (placed tables rsdp its_anchor) _
+    (targets_stay (placed acpi.tables.bytes rsdp anchor.bytes) acpi_tables_name tables place_of anchor.pointers
+    (targets_stay before rsdp_name rsdp place_of anchor.pointers anchor_links.targets))
+    (checksums_run top files acpi_tables_name acpi.tables.sums (map (add_checksum rsdp_name) acpi.rsdp.sums
+    ++ (map (add_checksum anchor_name) anchor.sums ++ [])) (placed tables rsdp its_anchor) _
     (record { name = acpi_tables_name; place = tables_place; bytes = tables }) refl refl (sums_in acpi.tables place_of tables_links.kept)
     (checksums_run top files rsdp_name acpi.rsdp.sums (map (add_checksum anchor_name) anchor.sums ++ []) (placed summed_tables rsdp its_anchor) _
     (record { name = rsdp_name; place = 0xF0000; bytes = rsdp }) refl refl (sums_in acpi.rsdp place_of rsdp_links.kept)

@@ -24,7 +24,8 @@ AreKnown-from_table known [] only = tt
 AreKnown-from_table known (e ∷ es) only = (only.0, AreKnown-from_table known es only.1)
 
 -- a key that one of the known ones equals is among them
-pub Contains-from_any : (known : List (Bor (List ℕ))) (key : List ℕ) → list_any (λ (k : Bor (List ℕ)). bytes_eq k.now key) known ≡ true → Contains (map (λ (k : Bor (List ℕ)). k.now) known) key
+pub Contains-from_any : (known : List (Bor (List ℕ))) (key : List ℕ) → list_any (λ (k : Bor (List ℕ)). bytes_eq k.now key) known ≡ true
+    → Contains (map (λ (k : Bor (List ℕ)). k.now) known) key
 Contains-from_any [] key found = absurd (false≢true found)
 Contains-from_any (k ∷ known) key found = ⊎_elim
     (λ same. (0, omega arith, (bytes_eq-Decides k.now key).0 same))
@@ -35,7 +36,8 @@ Contains-from_any (k ∷ known) key found = ⊎_elim
     (cases_Bool (bytes_eq k.now key))
 
 -- a key that none of the known ones equals isn't among them
-pub not_Contains-from_any : (known : List (Bor (List ℕ))) (key : List ℕ) → list_any (λ (k : Bor (List ℕ)). bytes_eq k.now key) known ≡ false → Contains (map (λ (k : Bor (List ℕ)). k.now) known) key → ⊥
+pub not_Contains-from_any : (known : List (Bor (List ℕ))) (key : List ℕ) → list_any (λ (k : Bor (List ℕ)). bytes_eq k.now key) known ≡ false
+    → Contains (map (λ (k : Bor (List ℕ)). k.now) known) key → ⊥
 not_Contains-from_any [] key none there = omega (arith, there.1)
 not_Contains-from_any (k ∷ known) key none (zero, within, is) = false≢true (sym (or_parts _ _ none).0 ∙ (bytes_eq-Decides k.now key).1 is)
 not_Contains-from_any (k ∷ known) key none (suc i, within, is) = not_Contains-from_any known key (or_parts _ _ none).1 (i, omega (arith, within), is)

@@ -31,7 +31,8 @@ IsLeft-from_loading m placed after loading is =
     })
 
 -- the run of a script, as the code sees its files and its commands
-pub runs_seen : (top : ℕ) (files seen_files : List FileBytes) (script seen_script : List Entry) (before seen_before after : List Placed) → seen_files ≡ files → seen_script ≡ script → seen_before ≡ before → Runs top files script before after → Runs top seen_files seen_script seen_before after
+pub runs_seen : (top : ℕ) (files seen_files : List FileBytes) (script seen_script : List Entry) (before seen_before after : List Placed)
+    → seen_files ≡ files → seen_script ≡ script → seen_before ≡ before → Runs top files script before after → Runs top seen_files seen_script seen_before after
 runs_seen top files seen_files script seen_script before seen_before after files_are script_is before_is runs =
     subst (λ fs. Runs top fs seen_script seen_before after) (sym files_are)
     (subst (λ es. Runs top files es seen_before after) (sym script_is) (subst (λ ps. Runs top files script ps after) (sym before_is) runs))

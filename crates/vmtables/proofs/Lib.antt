@@ -1,16 +1,14 @@
 pub mod KnownKeys
 pub mod Refusals
 pub mod OneMachine
-pub mod LittleEndian
-pub mod StringNumbers
-pub mod Structures
 pub mod Accepted
-pub mod TablesSize
+pub mod StructuresSize
 pub mod ScriptSteps
 pub mod Linking
 pub mod Anchor
 pub mod AcpiFiles
 pub mod Linked
+pub mod Targets
 pub mod ImageLinked
 pub mod ImageRuns
 pub mod AnchorShown
@@ -25,8 +23,6 @@ pub mod Rows
 pub mod Lines
 pub mod Parts
 pub mod AfterLoad
-pub mod NumberedTexts
-pub mod StructuresShown
 pub mod Multiples
 pub mod FreePlaces
 pub mod Named

@@ -29,7 +29,8 @@ length-digits_of_address : (address : ℕ) → length (digits_of_address address
 length-digits_of_address address = length-encode_with lower_digits (to_be_bytes w32 address)
 
 -- the digits of a top and of a fill byte, written over the dots
-put_both : (top fill : List ℕ) → length top ≡ 8 → put_over 18 2 (put_over 4 8 (codes "top ........ fill .." ++ 10 ∷ []) top) fill ≡ codes "top " ++ top ++ codes " fill " ++ fill ++ 10 ∷ []
+put_both : (top fill : List ℕ) → length top ≡ 8 → put_over 18 2 (put_over 4 8 (codes "top ........ fill .." ++ 10 ∷ []) top) fill ≡ codes "top "
+    ++ top ++ codes " fill " ++ fill ++ 10 ∷ []
 put_both top fill eight =
     let rest : List ℕ = codes " fill .." ++ 10 ∷ [] in
     let front : take 14 (top ++ rest) ≡ top ++ codes " fill " = take_past top rest 8 6 14 eight refl in
@@ -39,7 +40,9 @@ put_both top fill eight =
     ∙ ap (λ (text : List ℕ). codes "top " ++ text) (sym (append_assoc (top ++ codes " fill ") fill (10 ∷ [])))
 
 -- the first line, from its two numbers as written
-pub header_written : (top fill : ℕ) (bytes top_digits fill_digits : List ℕ) → bytes ≡ to_be_bytes w32 top → top_digits ≡ encode_lower bytes → fill_digits ≡ encode_lower (fill ∷ []) → put_over 18 2 (put_over 4 8 (codes "top ........ fill .." ++ 10 ∷ []) top_digits) fill_digits ≡ header_line top fill
+pub header_written : (top fill : ℕ) (bytes top_digits fill_digits : List ℕ) → bytes ≡ to_be_bytes w32 top → top_digits ≡ encode_lower bytes
+    → fill_digits ≡ encode_lower (fill ∷ []) → put_over 18 2 (put_over 4 8 (codes "top ........ fill .." ++ 10 ∷ []) top_digits) fill_digits
+    ≡ header_line top fill
 unfolding header_line
 header_written top fill bytes top_digits fill_digits b t f =
     let digits : top_digits ≡ digits_of_address top = t ∙ ap encode_lower b in
@@ -49,7 +52,8 @@ header_written top fill bytes top_digits fill_digits b t f =
     ∙ ap (λ (text : List ℕ). codes "top " ++ digits_of_address top ++ codes " fill " ++ text ++ 10 ∷ []) f
 
 -- the digits of an address and of a row, written over spaces, and then the line feed
-put_row : (address row : List ℕ) → length address ≡ 8 → length row ≡ 32 → slice_set (put_over 9 32 (address ++ replicate 34 32) row) 41 10 ≡ address ++ codes " " ++ row ++ 10 ∷ []
+put_row : (address row : List ℕ) → length address ≡ 8 → length row ≡ 32
+    → slice_set (put_over 9 32 (address ++ replicate 34 32) row) 41 10 ≡ address ++ codes " " ++ row ++ 10 ∷ []
 put_row address row eight wide =
     let front : take 9 (address ++ replicate 34 32) ≡ address ++ codes " " = take_past address (replicate 34 32) 8 1 9 eight refl in
     let end : drop 9 (address ++ replicate 34 32) ≡ replicate 33 32 = drop_past address (replicate 34 32) 8 1 9 eight refl in
@@ -60,7 +64,9 @@ put_row address row eight wide =
     ∙ set_at (address ++ codes " " ++ row) 32 [] 10 41 before
 
 -- a row's line, from its two numbers as written
-pub line_written : (address : ℕ) (row bytes address_digits row_digits : List ℕ) → length row ≡ 16 → bytes ≡ to_be_bytes w32 address → address_digits ≡ encode_lower bytes → row_digits ≡ encode_lower row → slice_set (put_over 9 32 (address_digits ++ replicate 34 32) row_digits) 41 10 ≡ row_text address row
+pub line_written : (address : ℕ) (row bytes address_digits row_digits : List ℕ) → length row ≡ 16 → bytes ≡ to_be_bytes w32 address
+    → address_digits ≡ encode_lower bytes → row_digits ≡ encode_lower row
+    → slice_set (put_over 9 32 (address_digits ++ replicate 34 32) row_digits) 41 10 ≡ row_text address row
 unfolding row_text
 line_written address row bytes address_digits row_digits long b a r =
     let digits : address_digits ≡ digits_of_address address = a ∙ ap encode_lower b in

@@ -1,6 +1,6 @@
 -- A world that was begun with a machine's image and then loaded is one in which the machine is loaded.
 use Rattle.std.proofs.Common.{◌≡◌, ℕ, ◌*◌, true, List, [], Option, Some, None, IfSome, IsSomeAnd, ◌∙◌}
-use Rattle.guest_memory.specs.Memory.{Memory}
+use Rattle.guest_memory.specs.Memory.{Memory, seen}
 use Rattle.loader_script.specs.declared.entry.Entry.{Entry}
 use Rattle.machine_desc.specs.declared.machine.Machine.{Machine}
 use Rattle.table_model.specs.Inventory.{Shows, inventory_of}
@@ -22,7 +22,7 @@ ImageRuns m = (placed : List Placed) × Runs (m.top_mib * 0x100000) (image_files
 -- and zeroed memory that it leaves shows the machine
 abbrev pub ImageShows : Machine → Type 0
 ImageShows m = (placed : List Placed) (memory : Memory) → Runs (m.top_mib * 0x100000) (image_files m) (image_script m) [] placed
-    → memory.top ≡ m.top_mib * 0x100000 → memory.fill ≡ 0 → IsLeft memory placed → Shows memory (inventory_of m)
+    → memory.top ≡ m.top_mib * 0x100000 → memory.fill ≡ 0 → IsLeft memory placed → Shows memory.top (seen memory) (inventory_of m)
 
 pub loaded : (bytes : List ℕ) (m : Machine) (files : List FileBytes) (script : List Entry) (top : ℕ) (before after : Option Begun) → Reads bytes m
     → ImageRuns m → ImageShows m

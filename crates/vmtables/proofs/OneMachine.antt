@@ -10,7 +10,8 @@ use Rattle.machine_desc.specs.declared.machine.Hpet.{Hpet}
 use Rattle.vmtables.specs.Reads.{IsSystemTable, IsAcpiTable, IsHpetTable, IsRootTable, Reads}
 
 -- one text stands at a key
-one_text : (at : Option Data) (default s t : List ℕ) → MatchOption at (s ≡ default) (λ value. value ≡ string s) → MatchOption at (t ≡ default) (λ value. value ≡ string t) → s ≡ t
+one_text : (at : Option Data) (default s t : List ℕ) → MatchOption at (s ≡ default) (λ value. value ≡ string s)
+    → MatchOption at (t ≡ default) (λ value. value ≡ string t) → s ≡ t
 one_text None default s t is also = is ∙ sym also
 one_text (Some value) default s t is also = cc
 
@@ -22,8 +23,10 @@ one_number (Some value) limit default m n (is, below) (also, below_too) = cc
 
 -- one UUID stands at a key
 one_uuid : (at : Option Data) (u v : Option ℕ)
-    → MatchOption at (u ≡ None) (λ value. (text : List ℕ) × (bytes : List ℕ) × (value ≡ string text) × (parsed text ≡ Some bytes) × (u ≡ Some (from_be_bytes w128 bytes)))
-    → MatchOption at (v ≡ None) (λ value. (text : List ℕ) × (bytes : List ℕ) × (value ≡ string text) × (parsed text ≡ Some bytes) × (v ≡ Some (from_be_bytes w128 bytes))) → u ≡ v
+    → MatchOption at (u ≡ None) (λ value. (text : List ℕ) × (bytes : List ℕ) × (value ≡ string text) × (parsed text ≡ Some bytes)
+    × (u ≡ Some (from_be_bytes w128 bytes)))
+    → MatchOption at (v ≡ None) (λ value. (text : List ℕ) × (bytes : List ℕ) × (value ≡ string text) × (parsed text ≡ Some bytes)
+    × (v ≡ Some (from_be_bytes w128 bytes))) → u ≡ v
 one_uuid None u v is also = is ∙ sym also
 one_uuid (Some value) u v (text, bytes, is, read, seen) (other, others, also, read_too, seen_too) =
     let same_text : text ≡ other = cc in
@@ -57,10 +60,12 @@ unfolding system_of
 system_of-parts s = refl
 
 -- systems with the same parts are the same
-same_system : (a b : System) → a.manufacturer ≡ b.manufacturer → a.product ≡ b.product → a.version ≡ b.version → a.serial ≡ b.serial → a.sku ≡ b.sku → a.family ≡ b.family
+same_system : (a b : System) → a.manufacturer ≡ b.manufacturer → a.product ≡ b.product → a.version ≡ b.version → a.serial ≡ b.serial → a.sku ≡ b.sku
+    → a.family ≡ b.family
     → a.uuid ≡ b.uuid → a ≡ b
 same_system a b manufacturer product version serial sku family uuid =
-    let same_parts : system_of a.manufacturer a.product a.version a.serial a.sku a.family a.uuid ≡ system_of b.manufacturer b.product b.version b.serial b.sku b.family b.uuid = cc in
+    let same_parts : system_of a.manufacturer a.product a.version a.serial a.sku a.family a.uuid
+    ≡ system_of b.manufacturer b.product b.version b.serial b.sku b.family b.uuid = cc in
     sym (system_of-parts a) ∙ same_parts ∙ system_of-parts b
 
 -- the machine of these parts

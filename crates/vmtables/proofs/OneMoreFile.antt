@@ -45,11 +45,17 @@ first_apart top q p placed new = record {
 -- with it all are placed
 ArePlaced-push : (top : ℕ) (placed : List PlacedFile) (p : PlacedFile) → ArePlaced top placed → IsNew top placed p → ArePlaced top (placed ++ p ∷ [])
 ArePlaced-push top [] p placed new = (new.ram, new.low, tt, tt)
-ArePlaced-push top (q ∷ files) p placed new =
-    (placed.0, placed.1, all_push (AreApart q) files p placed.2 (first_apart top q p files new), ArePlaced-push top files p placed.3 (later_new top q p files new))
+ArePlaced-push top (q ∷ files) p placed new = (
+  placed.0,
+  placed.1,
+  all_push (AreApart q) files p placed.2 (first_apart top q p files new),
+  ArePlaced-push top files p placed.3
+      (later_new top q p files new),
+)
 
 -- the others stay where its bytes are put
-others_stay : (old new : Memory) (placed : List PlacedFile) (p : PlacedFile) (bytes : List ℕ) → Puts old new p.place bytes → p.size ≡ length bytes → ArePlaced old.top placed → IsNew old.top placed p → files_in new placed ≡ files_in old placed
+others_stay : (old new : Memory) (placed : List PlacedFile) (p : PlacedFile) (bytes : List ℕ) → Puts old new p.place bytes → p.size ≡ length bytes
+    → ArePlaced old.top placed → IsNew old.top placed p → files_in new placed ≡ files_in old placed
 others_stay old new [] p bytes puts size placed fresh = refl
 others_stay old new (q ∷ files) p bytes puts size placed fresh =
     let beside : (q.place + q.size ≤ p.place) ⊎ (p.place + length bytes ≤ q.place) =
@@ -59,14 +65,18 @@ others_stay old new (q ∷ files) p bytes puts size placed fresh =
     (others_stay old new files p bytes puts size placed.3 (later_new old.top q p files fresh))
 
 -- then it stands behind them with its bytes
-pub files_pushed : (old new : Memory) (placed : List PlacedFile) (p : PlacedFile) (bytes : List ℕ) → Puts old new p.place bytes → p.size ≡ length bytes → ArePlaced old.top placed → IsNew old.top placed p → files_in new (placed ++ p ∷ []) ≡ files_in old placed ++ record { name = p.name; place = p.place; bytes = bytes } ∷ []
+pub files_pushed : (old new : Memory) (placed : List PlacedFile) (p : PlacedFile) (bytes : List ℕ) → Puts old new p.place bytes
+    → p.size ≡ length bytes → ArePlaced old.top placed → IsNew old.top placed p
+    → files_in new (placed ++ p ∷ []) ≡ files_in old placed ++ record { name = p.name; place = p.place; bytes = bytes } ∷ []
 files_pushed old new placed p bytes puts size all fresh =
     let held : bytes_at new p.place p.size ≡ bytes = ap (bytes_at new p.place) size ∙ puts.there in
     map_push (placed_in new) placed p
-    ∙ ap₂ (λ (xs : List Placed) (x : Placed). xs ++ x ∷ []) (others_stay old new placed p bytes puts size all fresh) (ap (λ held. record { name = p.name; place = p.place; bytes = held }) held)
+    ∙ ap₂ (λ (xs : List Placed) (x : Placed). xs ++ x ∷ []) (others_stay old new placed p bytes puts size all fresh)
+    (ap (λ held. record { name = p.name; place = p.place; bytes = held }) held)
 
 -- and the load goes on
-pub step_pushed : (old new : Memory) (placed : List PlacedFile) (p : PlacedFile) (bytes : List ℕ) → IsLoading old placed → Puts old new p.place bytes → p.size ≡ length bytes → IsNew old.top placed p → IsStep old new (placed ++ p ∷ [])
+pub step_pushed : (old new : Memory) (placed : List PlacedFile) (p : PlacedFile) (bytes : List ℕ) → IsLoading old placed → Puts old new p.place bytes
+    → p.size ≡ length bytes → IsNew old.top placed p → IsStep old new (placed ++ p ∷ [])
 step_pushed old new placed p bytes loading puts size fresh = record {
   top = puts.top;
   fill = puts.fill;

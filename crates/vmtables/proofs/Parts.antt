@@ -28,12 +28,14 @@ abbrev pub up_to_high : Memory → List ℕ
 up_to_high m = up_to_bios m ++ rows_text m (high_start m.top) 0x200000
 
 -- the sink took all of it
-pub all_taken : (before now after : Option (List ℕ)) (m : Memory) → Took before now (up_to_high m) → Took now after (codes "end" ++ 10 ∷ []) → Took before after (dump m)
+pub all_taken : (before now after : Option (List ℕ)) (m : Memory) → Took before now (up_to_high m) → Took now after (codes "end" ++ 10 ∷ [])
+    → Took before after (dump m)
 unfolding dump last_line
 all_taken before now after m high took = took_then before now after (up_to_high m) last_line high took
 
 -- the sink took a front of all of it
-pub last_failed : (before now after : Option (List ℕ)) (m : Memory) → Took before now (up_to_high m) → TookFront now after (codes "end" ++ 10 ∷ []) → TookFront before after (dump m)
+pub last_failed : (before now after : Option (List ℕ)) (m : Memory) → Took before now (up_to_high m) → TookFront now after (codes "end" ++ 10 ∷ [])
+    → TookFront before after (dump m)
 unfolding dump last_line
 last_failed before now after m high took = front_then before now after (up_to_high m) last_line high took
 
@@ -53,6 +55,7 @@ low_failed before after m took =
     bios_failed before after m (front_more before after (up_to_low m) (rows_text m 0xE0000 0x2000) took)
 
 -- a front of the first line
-pub header_failed : (before after : Option (List ℕ)) (m : Memory) (text : List ℕ) → text ≡ header_line m.top m.fill → TookFront before after text → TookFront before after (dump m)
+pub header_failed : (before after : Option (List ℕ)) (m : Memory) (text : List ℕ) → text ≡ header_line m.top m.fill → TookFront before after text
+    → TookFront before after (dump m)
 header_failed before after m text header took =
     low_failed before after m (front_more before after (header_line m.top m.fill) (rows_text m 0 0xA000) (subst (TookFront before after) header took))

@@ -8,7 +8,7 @@ use Rattle.vt_bytes.specs.Parts.{put_at}
 use Rattle.guest_memory.specs.Memory.{Memory, IsRam, IsRamRange, bytes_at, Puts}
 use Rattle.vmtables.specs.declared.placing.PlacedFile.{PlacedFile}
 use Rattle.vmtables.specs.ScriptRun.{Placed, with_bytes}
-use Rattle.vmtables.specs.FilesInMemory.{EndsLow, file_named, placed_in, files_in, AreApart, ArePlaced, IsBeside, IsLoading, IsStep}
+use Rattle.vmtables.specs.FilesInMemory.{EndsLow, placed_named, placed_in, files_in, AreApart, ArePlaced, IsBeside, IsLoading, IsStep}
 use Rattle.vmtables.proofs.Named.{same_name, other_name, of_found}
 use Rattle.vmtables.proofs.Writes.{stays, written}
 
@@ -18,25 +18,35 @@ pub record IsWrite (old new : Memory) (p : PlacedFile) (offset : ℕ) (bytes : L
   pub within : offset + length bytes ≤ p.size
 
 -- a placed file stands in RAM and ends low
-pub each_is_placed : (top : ℕ) (placed : List PlacedFile) → ArePlaced top placed → AllByRecursion (λ (p : PlacedFile). IsRamRange top p.place p.size × EndsLow p) placed
+pub each_is_placed : (top : ℕ) (placed : List PlacedFile) → ArePlaced top placed
+    → AllByRecursion (λ (p : PlacedFile). IsRamRange top p.place p.size × EndsLow p) placed
 each_is_placed top [] placed = tt
 each_is_placed top (p ∷ files) placed = ((placed.0, placed.1), each_is_placed top files placed.3)
 
 -- and so does the one that has the name
-pub found_is_placed : (top : ℕ) (placed : List PlacedFile) (name : List ℕ) (p : PlacedFile) → file_named placed name ≡ Some p → ArePlaced top placed → IsRamRange top p.place p.size × EndsLow p
+pub found_is_placed : (top : ℕ) (placed : List PlacedFile) (name : List ℕ) (p : PlacedFile) → placed_named placed name ≡ Some p
+    → ArePlaced top placed → IsRamRange top p.place p.size × EndsLow p
 found_is_placed top placed name p found all =
-    of_found (λ (p : PlacedFile). IsRamRange top p.place p.size × EndsLow p) (λ (q : PlacedFile). bytes_eq q.name name) placed p found (each_is_placed top placed all)
+    of_found (λ (p : PlacedFile). IsRamRange top p.place p.size × EndsLow p) (λ (q : PlacedFile). bytes_eq q.name name) placed p found
+    (each_is_placed top placed all)
 
 -- a file that is apart from the written one stays
-other_stays : (old new : Memory) (p q : PlacedFile) (offset : ℕ) (bytes : List ℕ) → IsWrite old new p offset bytes → IsRamRange old.top q.place q.size → (p.place + p.size ≤ q.place) ⊎ (q.place + q.size ≤ p.place) → placed_in new q ≡ placed_in old q
+other_stays : (old new : Memory) (p q : PlacedFile) (offset : ℕ) (bytes : List ℕ) → IsWrite old new p offset bytes
+    → IsRamRange old.top q.place q.size → (p.place + p.size ≤ q.place) ⊎ (q.place + q.size ≤ p.place) → placed_in new q ≡ placed_in old q
 other_stays old new p q offset bytes write ram apart =
     let within = write.within in
     let beside : (q.place + q.size ≤ p.place + offset) ⊎ (p.place + offset + length bytes ≤ q.place) =
-    elim apart as (λ _. (q.place + q.size ≤ p.place + offset) ⊎ (p.place + offset + length bytes ≤ q.place)) [ inl before ↦ inr (omega arith) | inr after ↦ inl (omega arith) ] in
+    elim apart as (λ _. (q.place + q.size ≤ p.place + offset) ⊎ (p.place + offset + length bytes ≤ q.place)) [
+      | inl before ↦ inr (omega arith)
+      | inr
+          after ↦ inl (omega arith)
+    ] in
     ap (λ held. record { name = q.name; place = q.place; bytes = held }) (stays old new (p.place + offset) bytes q.place q.size write.puts ram beside)
 
 -- the files after the written one stay, and have other names
-others_stay : (old new : Memory) (p : PlacedFile) (offset : ℕ) (bytes : List ℕ) (name held : List ℕ) (placed : List PlacedFile) → IsWrite old new p offset bytes → p.name ≡ name → AllByRecursion (AreApart p) placed → ArePlaced old.top placed → files_in new placed ≡ with_bytes (files_in old placed) name held
+others_stay : (old new : Memory) (p : PlacedFile) (offset : ℕ) (bytes : List ℕ) (name held : List ℕ) (placed : List PlacedFile)
+    → IsWrite old new p offset bytes → p.name ≡ name → AllByRecursion (AreApart p) placed → ArePlaced old.top placed
+    → files_in new placed ≡ with_bytes (files_in old placed) name held
 others_stay old new p offset bytes name held [] write named apart placed = refl
 others_stay old new p offset bytes name held (q ∷ files) write named apart placed =
     let other : bytes_eq q.name name ≡ false = other_name q.name name (λ same. apart.0.names (named ∙ sym same)) in
@@ -45,32 +55,41 @@ others_stay old new p offset bytes name held (q ∷ files) write named apart pla
     (others_stay old new p offset bytes name held files write named apart.1 placed.3)
 
 -- the written file, and those after it
-first_written : (old new : Memory) (p : PlacedFile) (offset : ℕ) (bytes : List ℕ) (name : List ℕ) (files : List PlacedFile) → IsWrite old new p offset bytes → bytes_eq p.name name ≡ true → ArePlaced old.top (p ∷ files) → files_in new (p ∷ files) ≡ with_bytes (files_in old (p ∷ files)) name (put_at (bytes_at old p.place p.size) offset bytes)
+first_written : (old new : Memory) (p : PlacedFile) (offset : ℕ) (bytes : List ℕ) (name : List ℕ) (files : List PlacedFile)
+    → IsWrite old new p offset bytes → bytes_eq p.name name ≡ true → ArePlaced old.top (p ∷ files)
+    → files_in new (p ∷ files) ≡ with_bytes (files_in old (p ∷ files)) name (put_at (bytes_at old p.place p.size) offset bytes)
 first_written old new p offset bytes name files write named placed =
     ap₂ (λ (x : Placed) (xs : List Placed). x ∷ xs)
-    (ap (λ held. record { name = p.name; place = p.place; bytes = held }) (written old new p.place p.size offset bytes write.puts placed.0 write.within) ∙ sym (cond-true _ _ _ named))
+    (ap (λ held. record { name = p.name; place = p.place; bytes = held })
+    (written old new p.place p.size offset bytes write.puts placed.0 write.within) ∙ sym (cond-true _ _ _ named))
     (others_stay old new p offset bytes name _ files write (same_name p.name name named) placed.2 placed.3)
 
 -- a write inside the file of a name gives that file other bytes
-pub file_written : (old new : Memory) (placed : List PlacedFile) (name : List ℕ) (p : PlacedFile) (offset : ℕ) (bytes : List ℕ) → file_named placed name ≡ Some p → ArePlaced old.top placed → IsWrite old new p offset bytes → files_in new placed ≡ with_bytes (files_in old placed) name (put_at (bytes_at old p.place p.size) offset bytes)
+pub file_written : (old new : Memory) (placed : List PlacedFile) (name : List ℕ) (p : PlacedFile) (offset : ℕ) (bytes : List ℕ)
+    → placed_named placed name ≡ Some p → ArePlaced old.top placed → IsWrite old new p offset bytes
+    → files_in new placed ≡ with_bytes (files_in old placed) name (put_at (bytes_at old p.place p.size) offset bytes)
 file_written old new [] name p offset bytes found placed write = absurd (none-some p found)
 file_written old new (q ∷ files) name p offset bytes found placed write =
-    elim (cases_Bool (bytes_eq q.name name)) as (λ _. files_in new (q ∷ files) ≡ with_bytes (files_in old (q ∷ files)) name (put_at (bytes_at old p.place p.size) offset bytes)) [
+    elim (cases_Bool (bytes_eq q.name name)) as (λ _. files_in new (q ∷ files)
+    ≡ with_bytes (files_in old (q ∷ files)) name (put_at (bytes_at old p.place p.size) offset bytes)) [
       | inl named ↦
           let is : q ≡ p = same_Some q p (sym (cond-true _ _ _ named) ∙ found) in
-          subst (λ (r : PlacedFile). IsWrite old new r offset bytes → files_in new (q ∷ files) ≡ with_bytes (files_in old (q ∷ files)) name (put_at (bytes_at old r.place r.size) offset bytes)) is
+          subst (λ (r : PlacedFile). IsWrite old new r offset bytes → files_in new (q ∷ files)
+          ≡ with_bytes (files_in old (q ∷ files)) name (put_at (bytes_at old r.place r.size) offset bytes)) is
           (λ write. first_written old new q offset bytes name files write named placed) write
       | inr other ↦
-          let later : file_named files name ≡ Some p = sym (cond-false _ _ _ other) ∙ found in
+          let later : placed_named files name ≡ Some p = sym (cond-false _ _ _ other) ∙ found in
           let apart : AreApart q p = of_found (AreApart q) (λ (r : PlacedFile). bytes_eq r.name name) files p later placed.2 in
-          let turned : (p.place + p.size ≤ q.place) ⊎ (q.place + q.size ≤ p.place) = elim apart.ranges as (λ _. (p.place + p.size ≤ q.place) ⊎ (q.place + q.size ≤ p.place)) [ inl l ↦ inr l | inr l ↦ inl l ] in
+          let turned : (p.place + p.size ≤ q.place) ⊎ (q.place + q.size ≤ p.place) = elim apart.ranges as (λ _. (p.place + p.size ≤ q.place)
+          ⊎ (q.place + q.size ≤ p.place)) [ inl l ↦ inr l | inr l ↦ inl l ] in
           ap₂ (λ (x : Placed) (xs : List Placed). x ∷ xs)
           (other_stays old new p q offset bytes write placed.0 turned ∙ sym (cond-false _ _ _ other))
           (file_written old new files name p offset bytes later placed.3 write)
     ]
 
 -- and the load goes on
-pub step_written : (old new : Memory) (placed : List PlacedFile) (name : List ℕ) (p : PlacedFile) (offset : ℕ) (bytes : List ℕ) → IsLoading old placed → file_named placed name ≡ Some p → IsWrite old new p offset bytes → IsStep old new placed
+pub step_written : (old new : Memory) (placed : List PlacedFile) (name : List ℕ) (p : PlacedFile) (offset : ℕ) (bytes : List ℕ)
+    → IsLoading old placed → placed_named placed name ≡ Some p → IsWrite old new p offset bytes → IsStep old new placed
 step_written old new placed name p offset bytes loading found write = record {
   top = write.puts.top;
   fill = write.puts.fill;
@@ -80,7 +99,8 @@ step_written old new placed name p offset bytes loading found write = record {
         let ram_before : IsRam old.top a = subst (λ top. IsRam top a) write.puts.top ram in
         let within = write.within in
         let outside : (a < p.place + offset) ⊎ (p.place + offset + length bytes ≤ a) =
-        elim (of_found (IsBeside a) (λ (q : PlacedFile). bytes_eq q.name name) placed p found beside) as (λ _. (a < p.place + offset) ⊎ (p.place + offset + length bytes ≤ a)) [ inl before ↦ inl (omega arith) | inr after ↦ inr (omega arith) ] in
+        elim (of_found (IsBeside a) (λ (q : PlacedFile). bytes_eq q.name name) placed p found beside) as (λ _. (a < p.place + offset)
+        ⊎ (p.place + offset + length bytes ≤ a)) [ inl before ↦ inl (omega arith) | inr after ↦ inr (omega arith) ] in
         write.puts.elsewhere a ram_before outside ∙ loading.others a ram_before beside ∙ sym write.puts.fill;
   };
 }

@@ -51,14 +51,16 @@ row_ram top start count k ram below i within =
     subst (IsRam top) place (ram (16 * k + i) (omega arith))
 
 -- a row of fill bytes has no line
-pub line_at-filled : (m : Memory) (start k fill : ℕ) (row : List ℕ) (filled : Bool) → row ≡ bytes_at m (start + 16 * k) 16 → fill ≡ m.fill → filled ≡ list_all (λ byte. byte == fill) row → filled ≡ true → line_at m start k ≡ []
+pub line_at-filled : (m : Memory) (start k fill : ℕ) (row : List ℕ) (filled : Bool) → row ≡ bytes_at m (start + 16 * k) 16 → fill ≡ m.fill
+    → filled ≡ list_all (λ byte. byte == fill) row → filled ≡ true → line_at m start k ≡ []
 line_at-filled m start k fill row filled read same test all =
     let tested : list_all (λ byte. byte == m.fill) (bytes_at m (start + 16 * k) 16) ≡ true =
     rw (← read, ← same) (sym test ∙ all) in
     rw tested
 
 -- any other row has one
-pub line_at-written : (m : Memory) (start k fill : ℕ) (row text : List ℕ) (filled : Bool) → row ≡ bytes_at m (start + 16 * k) 16 → fill ≡ m.fill → filled ≡ list_all (λ byte. byte == fill) row → filled ≡ false → text ≡ row_text (start + 16 * k) row → line_at m start k ≡ text
+pub line_at-written : (m : Memory) (start k fill : ℕ) (row text : List ℕ) (filled : Bool) → row ≡ bytes_at m (start + 16 * k) 16 → fill ≡ m.fill
+    → filled ≡ list_all (λ byte. byte == fill) row → filled ≡ false → text ≡ row_text (start + 16 * k) row → line_at m start k ≡ text
 line_at-written m start k fill row text filled read same test other written =
     let tested : list_all (λ byte. byte == m.fill) (bytes_at m (start + 16 * k) 16) ≡ false =
     rw (← read, ← same) (sym test ∙ other) in
@@ -70,19 +72,22 @@ unfolding rows_text
 rows_none before m start = behind-nothing before
 
 -- the sink took one more line
-pub rows_more : (before now after : Option (List ℕ)) (m : Memory) (start k : ℕ) (line : List ℕ) → Took before now (rows_text m start k) → Took now after line → line_at m start k ≡ line → Took before after (rows_text m start (k + 1))
+pub rows_more : (before now after : Option (List ℕ)) (m : Memory) (start k : ℕ) (line : List ℕ) → Took before now (rows_text m start k)
+    → Took now after line → line_at m start k ≡ line → Took before after (rows_text m start (k + 1))
 rows_more before now after m start k line so_far took is_line =
     let more : rows_text m start (k + 1) ≡ rows_text m start k ++ line =
     rows_text-more m start k ∙ ap (λ (bytes : List ℕ). rows_text m start k ++ bytes) is_line in
     subst (Took before after) (sym more) (took_then before now after (rows_text m start k) line so_far took)
 
 -- the row had no line
-pub rows_same : (before now : Option (List ℕ)) (m : Memory) (start k : ℕ) → Took before now (rows_text m start k) → line_at m start k ≡ [] → Took before now (rows_text m start (k + 1))
+pub rows_same : (before now : Option (List ℕ)) (m : Memory) (start k : ℕ) → Took before now (rows_text m start k) → line_at m start k ≡ []
+    → Took before now (rows_text m start (k + 1))
 rows_same before now m start k so_far no_line =
     rows_more before now now m start k [] so_far (behind-nothing now) no_line
 
 -- the sink took a front of one more line, and so of all of them
-pub rows_failed : (before now after : Option (List ℕ)) (m : Memory) (start k count : ℕ) (line : List ℕ) → k < count → Took before now (rows_text m start k) → TookFront now after line → line_at m start k ≡ line → TookFront before after (rows_text m start count)
+pub rows_failed : (before now after : Option (List ℕ)) (m : Memory) (start k count : ℕ) (line : List ℕ) → k < count
+    → Took before now (rows_text m start k) → TookFront now after line → line_at m start k ≡ line → TookFront before after (rows_text m start count)
 rows_failed before now after m start k count line below so_far took is_line =
     let rest = rows_text-front m start (k + 1) count (omega arith) in
     let more : rows_text m start (k + 1) ≡ rows_text m start k ++ line =

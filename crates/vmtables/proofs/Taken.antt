@@ -20,11 +20,13 @@ abbrev pub TookUpTo : Option (List ℕ) → Option (List ℕ) → List ℕ → L
 TookUpTo before after text rest = (front : List ℕ) × (text ≡ front ++ rest) × Took before after front
 
 -- one more piece from the front of the rest, which leaves what stands after it
-pub took_piece : (before now after : Option (List ℕ)) (text rest : List ℕ) (count : ℕ) → TookUpTo before now text rest → after ≡ behind now (take count rest) → TookUpTo before after text (take (length rest - count) (drop count rest))
+pub took_piece : (before now after : Option (List ℕ)) (text rest : List ℕ) (count : ℕ) → TookUpTo before now text rest
+    → after ≡ behind now (take count rest) → TookUpTo before after text (take (length rest - count) (drop count rest))
 took_piece before now after text rest count so_far more =
     let left : take (length rest - count) (drop count rest) ≡ drop count rest = take_rest rest count in
     let whole : text ≡ (so_far.0 ++ take count rest) ++ drop count rest =
-    so_far.1 ∙ ap (λ (bytes : List ℕ). so_far.0 ++ bytes) (sym (take-append-drop count rest)) ∙ sym (append_assoc so_far.0 (take count rest) (drop count rest)) in
+    so_far.1 ∙ ap (λ (bytes : List ℕ). so_far.0 ++ bytes) (sym (take-append-drop count rest))
+    ∙ sym (append_assoc so_far.0 (take count rest) (drop count rest)) in
     let taken : after ≡ behind before (so_far.0 ++ take count rest) =
     more ∙ ap (λ (o : Option (List ℕ)). behind o (take count rest)) so_far.2 ∙ behind-append before so_far.0 (take count rest) in
     rw left (so_far.0 ++ take count rest, whole, taken)
@@ -35,7 +37,8 @@ took_then before now after text more first second =
     second ∙ ap (λ (o : Option (List ℕ)). behind o more) first ∙ behind-append before text more
 
 -- a text, and then a front of another
-pub front_then : (before now after : Option (List ℕ)) (text more : List ℕ) → Took before now text → TookFront now after more → TookFront before after (text ++ more)
+pub front_then : (before now after : Option (List ℕ)) (text more : List ℕ) → Took before now text → TookFront now after more
+    → TookFront before after (text ++ more)
 front_then before now after text more first second =
     let whole : text ++ more ≡ (text ++ second.0) ++ second.1 =
     ap (λ (bytes : List ℕ). text ++ bytes) second.2 ∙ sym (append_assoc text second.0 second.1) in

@@ -1,36 +1,57 @@
--- What is known of the files of a machine's ACPI tables, and of a memory that holds them filled.
-use Rattle.std.specs.Prelude.{◌≡◌, ℕ, ◌+◌, ◌<◌, ◌≤◌, List, [], length, Option, option_map}
-use Rattle.guest_memory.specs.Memory.{Memory}
+-- What is known of the files of a machine's ACPI tables, and of a view that holds them filled.
+use Rattle.std.specs.Prelude.{◌≡◌, ℕ, ◌+◌, ◌*◌, ◌<◌, ◌≤◌, List, [], ◌∷◌, length, map}
+use Rattle.vt_bytes.specs.View.{View}
+use Rattle.vt_layout.specs.Rows.{size}
+use Rattle.vt_layout.specs.Shown.{LayoutHeld}
 use Rattle.machine_desc.specs.declared.machine.Acpi.{Acpi}
-use Rattle.machine_desc.specs.declared.machine.Hpet.{Hpet}
-use Rattle.table_model.specs.Acpi.{IsXsdt, AreTables}
-use Rattle.table_model.specs.Inventory.{padded, head_of, hpet_of}
+use Rattle.table_model.specs.declared.header.Head.{Head}
+use Rattle.table_model.specs.declared.acpi.Table.{Table}
+use Rattle.table_model.specs.Header.{padded, head_of}
+use Rattle.table_model.specs.Xsdt.{IsXsdt}
+use Rattle.table_model.specs.Rsdp.{rsdp_rows}
+use Rattle.table_model.specs.Acpi.{rows_of, linked_table}
+use Rattle.table_model.specs.Walked.{AreAt}
 use Rattle.blob_holes.specs.Blob.{BlobState, IsBlob}
 use Rattle.blob_holes.specs.Grown.{IsLinkable}
-use Rattle.acpi_fixed.specs.Tables.{tables_name}
-use Rattle.acpi_fixed.specs.Held.{HoldsFilled, HoldsRsdp}
-use Rattle.vmtables.specs.Image.{AcpiImage, xsdt_place}
+use Rattle.blob_holes.specs.Held.{HoldsFilled, WhereHeld}
+use Rattle.acpi_fixed.specs.Tables.{tables_name, table_pointer}
+use Rattle.vmtables.specs.Image.{AcpiImage, whole, with_tables, places_in, xsdt_place}
 
--- The XSDT stands at the address and names the machine's tables.
-pub record HoldsTables (m : Memory) (xsdt : ℕ) (acpi : Acpi) (hpet : Option Hpet) : Type 0 where
+-- the most bytes that tables take, with zeros in front of each and its entry in the XSDT
+abbrev pub most_bytes : List Table → ℕ
+most_bytes [] = 0
+most_bytes (table ∷ tables) = 24 + size (rows_of table) + most_bytes tables
+
+-- Tables were appended to an empty file: it can be linked, has few bytes, and wherever it stands filled each table stands at its place.
+pub record AreAppended (tables : List Table) (places : List ℕ) (file : BlobState) : Type 0 where
+  pub file_is : file ≡ with_tables (whole []) tables
+  pub places_are : places ≡ places_in (whole []) tables
+  pub linkable : IsLinkable file
+  pub few : length file.bytes + 8 * length places ≤ most_bytes tables
+  pub stand : WhereHeld file (λ view address place_of. AreAt view (map (λ place. address + place) places)
+      (map (linked_table place_of) tables))
+
+-- The XSDT stands at the address and names the tables.
+pub record HoldsTables (view : View) (place_of : List ℕ → ℕ) (xsdt : ℕ) (head : Head) (tables : List Table) : Type 0 where
   pub addresses : List ℕ
-  pub listed : IsXsdt m xsdt (head_of acpi 1) addresses
-  pub tables : AreTables m addresses (option_map (hpet_of acpi) hpet) []
+  pub listed : IsXsdt view xsdt head addresses
+  pub stand : AreAt view addresses (map (linked_table place_of) tables)
 
--- A file of tables can be linked, has few bytes, and wherever it stands filled the XSDT stands at its place.
-pub record IsTablesFile (acpi : Acpi) (hpet : Option Hpet) (file : BlobState) : Type 0 where
+-- A file of tables can be linked, has some bytes and few, and wherever it stands filled the XSDT stands at its place.
+pub record IsTablesFile (head : Head) (tables : List Table) (file : BlobState) : Type 0 where
   pub linkable : IsLinkable file
   pub some : 0 < length file.bytes
-  pub few : length file.bytes ≤ 200
-  pub held : (m : Memory) (address : ℕ) (place_of : List ℕ → ℕ) → HoldsFilled m address file place_of → place_of tables_name ≡ address → 0 < address
-      → HoldsTables m (xsdt_place acpi hpet + address) acpi hpet
+  pub few : length file.bytes ≤ 52 + most_bytes tables
+  pub behind : xsdt_place tables ≤ length file.bytes
+  pub held : (view : View) (address : ℕ) (place_of : List ℕ → ℕ) → HoldsFilled view address file place_of → place_of tables_name ≡ address
+      → 0 < address → HoldsTables view place_of (xsdt_place tables + address) head tables
 
--- Both files are so, and wherever the RSDP's stands filled it names the XSDT.
-pub record IsAcpiImage (acpi : Acpi) (hpet : Option Hpet) (files : AcpiImage) : Type 0 where
-  pub tables : IsTablesFile acpi hpet files.tables
+-- Both files are so, and wherever the RSDP's stands filled it leads to the XSDT.
+pub record IsAcpiImage (acpi : Acpi) (tables : List Table) (files : AcpiImage) : Type 0 where
+  pub tables_file : IsTablesFile (head_of acpi 1) tables files.tables
   pub tables_blob : IsBlob files.tables
   pub rsdp_blob : IsBlob files.rsdp
   pub rsdp_linkable : IsLinkable files.rsdp
   pub rsdp_size : length files.rsdp.bytes ≡ 36
-  pub rsdp_held : (m : Memory) (address : ℕ) (place_of : List ℕ → ℕ) → HoldsFilled m address files.rsdp place_of
-      → HoldsRsdp m address (padded 6 acpi.oem_id) (xsdt_place acpi hpet + place_of tables_name)
+  pub rsdp_held : (view : View) (address : ℕ) (place_of : List ℕ → ℕ) → HoldsFilled view address files.rsdp place_of
+      → LayoutHeld view place_of address (rsdp_rows (padded 6 acpi.oem_id) (table_pointer (xsdt_place tables)))

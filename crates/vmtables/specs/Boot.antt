@@ -8,6 +8,7 @@ use Rattle.vmtables.specs.Output.{Took, TookFront, AllFlushed}
 use Rattle.vmtables.specs.Reads.{Reads}
 use Rattle.vmtables.specs.ScriptRun.{Placed, Runs, IsLeft}
 use Rattle.vmtables.specs.Image.{image_files, image_script}
+use Rattle.guest_memory.specs.Memory.{seen}
 use Rattle.table_model.specs.Inventory.{Shows, inventory_of}
 use Rattle.vmtables.specs.World.{Begun}
 use Rattle.vmtables.specs.declared.status.Status.{Status}
@@ -44,7 +45,7 @@ pub record IsLoaded (bytes : List ℕ) (w : Begun) : Type 0 where
   pub runs : Runs w.memory.top w.files w.script [] placed
   pub left : IsLeft w.memory placed
   pub zeros : w.memory.fill ≡ 0
-  pub shown : Shows w.memory (inventory_of machine)
+  pub shown : Shows w.memory.top (seen w.memory) (inventory_of machine)
 
 -- what is seen of a source: the bytes left, where it tells them, and the count of faults
 pub record SourceSeen : Type 0 where

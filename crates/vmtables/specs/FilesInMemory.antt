@@ -4,7 +4,8 @@ use Rattle.std.specs.List.{AllByRecursion}
 use Rattle.std.specs.Str.{bytes_eq}
 use Rattle.guest_memory.specs.Memory.{Memory, IsRam, IsRamRange, at, bytes_at}
 use Rattle.vmtables.specs.declared.placing.PlacedFile.{PlacedFile}
-use Rattle.vmtables.specs.Places.{Range, Apart}
+use Rattle.vmtables.specs.Places.{Apart}
+use Rattle.vmtables.specs.declared.placing.Range.{Range}
 use Rattle.vmtables.specs.ScriptRun.{Placed}
 
 -- the range of a placed file
@@ -21,8 +22,8 @@ Meets range placed end =
     (p : PlacedFile) × Contains placed p × (p.place < range.end) × (range.start < end) × (end ≡ p.place + p.size)
 
 -- the placed file that has the name
-abbrev pub file_named : List PlacedFile → List ℕ → Option PlacedFile
-file_named placed name = find (λ (p : PlacedFile). bytes_eq p.name name) placed
+abbrev pub placed_named : List PlacedFile → List ℕ → Option PlacedFile
+placed_named placed name = find (λ (p : PlacedFile). bytes_eq p.name name) placed
 
 -- a placed file with its bytes in memory
 abbrev pub placed_in : Memory → PlacedFile → Placed

@@ -5,19 +5,25 @@ use Rattle.loader_script.specs.declared.entry.Entry.{Entry}
 use Rattle.loader_script.specs.declared.entry.Entry.TheVariants.{Allocate, AddPointer, AddChecksum}
 use Rattle.machine_desc.specs.declared.machine.Machine.{Machine}
 use Rattle.machine_desc.specs.declared.machine.Acpi.{Acpi}
-use Rattle.machine_desc.specs.declared.machine.Hpet.{Hpet}
 use Rattle.blob_holes.specs.declared.hole.PointerHole.{PointerHole}
 use Rattle.blob_holes.specs.declared.hole.SumHole.{SumHole}
-use Rattle.blob_holes.specs.Blob.{BlobState}
-use Rattle.acpi_fixed.specs.Tables.{next_place, with_hpet, with_xsdt, with_rsdp, tables_name as acpi_tables_name}
+use Rattle.blob_holes.specs.Blob.{BlobState, next_place}
+use Rattle.blob_holes.specs.Rows.{with_rows}
+use Rattle.acpi_fixed.specs.Tables.{with_table, with_xsdt, with_rsdp, tables_name as acpi_tables_name}
+use Rattle.smbios_build.specs.Spelling.{structures_bytes}
+use Rattle.table_model.specs.declared.acpi.Table.{Table}
+use Rattle.table_model.specs.Header.{head_of, padded}
+use Rattle.table_model.specs.Acpi.{tables_of}
+use Rattle.table_model.specs.Anchor.{anchor_rows, anchor_of}
+use Rattle.table_model.specs.Smbios.{structures_of}
+use Rattle.vt_layout.specs.declared.row.Row.TheVariants.{Pointer}
 use Rattle.vmtables.specs.declared.files.FileBytes.{FileBytes}
-use Rattle.vmtables.specs.StructureBytes.{tables_file, anchor_file}
 
 abbrev pub anchor_name : List ℕ
 anchor_name = codes "etc/smbios/smbios-anchor"
 
-abbrev pub tables_name : List ℕ
-tables_name = codes "etc/smbios/smbios-tables"
+abbrev pub structures_name : List ℕ
+structures_name = codes "etc/smbios/smbios-tables"
 
 abbrev pub rsdp_name : List ℕ
 rsdp_name = codes "etc/acpi/rsdp"
@@ -30,48 +36,48 @@ pub record AcpiImage : Type 0 where
 -- the files of the SMBIOS structures with their holes
 pub record SmbiosImage : Type 0 where
   pub anchor : BlobState
-  pub tables : BlobState
+  pub structures : BlobState
 
 -- a file without holes
 abbrev pub whole : List ℕ → BlobState
 whole bytes = record { bytes = bytes; pointers = []; sums = [] }
 
--- the file of the ACPI tables in front of its XSDT: the HPET table, where there is one
-abbrev pub tables_before_xsdt : Acpi → Option Hpet → BlobState
-tables_before_xsdt acpi None = whole []
-tables_before_xsdt acpi (Some hpet) = with_hpet (whole []) acpi hpet
+-- a file of tables with more of them, one after the other
+abbrev pub with_tables : BlobState → List Table → BlobState
+with_tables file [] = file
+with_tables file (table ∷ tables) = with_tables (with_table file table) tables
 
--- where the tables that the XSDT names stand in their file
-abbrev pub listed_places : Option Hpet → List ℕ
-listed_places None = []
-listed_places (Some hpet) = 0 ∷ []
+-- where each of them stands in the file
+abbrev pub places_in : BlobState → List Table → List ℕ
+places_in file [] = []
+places_in file (table ∷ tables) = next_place 16 file ∷ places_in (with_table file table) tables
 
--- where the XSDT itself stands there
-abbrev pub xsdt_place : Acpi → Option Hpet → ℕ
-xsdt_place acpi hpet = next_place (tables_before_xsdt acpi hpet)
+-- where the XSDT stands behind the tables that it names
+abbrev pub xsdt_place : List Table → ℕ
+xsdt_place tables = next_place 16 (with_tables (whole []) tables)
 
--- the files of the ACPI tables of a maker, with an HPET or none
-abbrev pub acpi_files : Option Hpet → Acpi → AcpiImage
-acpi_files hpet acpi = record {
-  rsdp = with_rsdp (whole []) acpi (xsdt_place acpi hpet);
-  tables = with_xsdt (tables_before_xsdt acpi hpet) acpi (listed_places hpet);
-}
-
--- The anchor gets the address of the structures at 16, and its byte 5 makes its 24 bytes sum to zero.
-abbrev pub anchor_blob : ℕ → BlobState
-anchor_blob size = record {
-  bytes = anchor_file size;
-  pointers = record { at = 16; size = 8; target = tables_name } ∷ [];
-  sums = record { at = 5; start = 0; length = 24 } ∷ [];
+-- the files of a maker's ACPI tables
+abbrev pub acpi_files : Acpi → List Table → AcpiImage
+acpi_files acpi tables = record {
+  rsdp = with_rsdp (whole []) (padded 6 acpi.oem_id) (xsdt_place tables);
+  tables = with_xsdt (with_tables (whole []) tables) (head_of acpi 1) (places_in (whole []) tables);
 }
 
 -- the files of a machine's ACPI tables, where it has some
 abbrev pub acpi_image : Machine → Option AcpiImage
-acpi_image m = option_map (acpi_files m.hpet) m.acpi
+acpi_image m = option_map (λ acpi. acpi_files acpi (tables_of m acpi)) m.acpi
+
+-- the file of a machine's structures
+abbrev pub structures_file : Machine → List ℕ
+structures_file m = structures_bytes (structures_of m.system)
+
+-- the file of the anchor of structures that have so many bytes
+abbrev pub anchor_blob : ℕ → BlobState
+anchor_blob size = with_rows (whole []) (anchor_rows (anchor_of size) (Pointer 8 structures_name 0))
 
 -- the files of a machine's structures
 abbrev pub smbios_image : Machine → SmbiosImage
-smbios_image m = record { anchor = anchor_blob (length (tables_file m)); tables = whole (tables_file m) }
+smbios_image m = record { anchor = anchor_blob (length (structures_file m)); structures = whole (structures_file m) }
 
 -- a file of an image
 pub record ImageFile : Type 0 where
@@ -84,7 +90,7 @@ acpi_by_name None = []
 acpi_by_name (Some acpi) = record { name = rsdp_name; blob = acpi.rsdp } ∷ record { name = acpi_tables_name; blob = acpi.tables } ∷ []
 
 abbrev pub smbios_by_name : SmbiosImage → List ImageFile
-smbios_by_name smbios = record { name = anchor_name; blob = smbios.anchor } ∷ record { name = tables_name; blob = smbios.tables } ∷ []
+smbios_by_name smbios = record { name = anchor_name; blob = smbios.anchor } ∷ record { name = structures_name; blob = smbios.structures } ∷ []
 
 -- the tables before the RSDP, which is the order of their sums
 abbrev pub acpi_tables_first : Option AcpiImage → List ImageFile
@@ -97,7 +103,7 @@ acpi_allocations None = []
 acpi_allocations (Some acpi) = Allocate acpi_tables_name 64 1 ∷ Allocate rsdp_name 16 2 ∷ []
 
 abbrev pub smbios_allocations : List Entry
-smbios_allocations = Allocate tables_name 16 1 ∷ Allocate anchor_name 16 2 ∷ []
+smbios_allocations = Allocate structures_name 16 1 ∷ Allocate anchor_name 16 2 ∷ []
 
 -- the command that fills a pointer's field, and the one that fills a sum's byte
 abbrev pub add_pointer : List ℕ → PointerHole → Entry
@@ -112,9 +118,11 @@ add_pointers files = flat_map (λ (file : ImageFile). map (add_pointer file.name
 abbrev pub add_checksums : List ImageFile → List Entry
 add_checksums files = flat_map (λ (file : ImageFile). map (add_checksum file.name) file.blob.sums) files
 
+abbrev pub file_list : List ImageFile → List FileBytes
+file_list files = map (λ (file : ImageFile). record { name = file.name; bytes = file.blob.bytes }) files
+
 abbrev pub files_from : Option AcpiImage → SmbiosImage → List FileBytes
-files_from acpi smbios =
-    map (λ (file : ImageFile). record { name = file.name; bytes = file.blob.bytes }) (acpi_by_name acpi ++ smbios_by_name smbios)
+files_from acpi smbios = file_list (acpi_by_name acpi ++ smbios_by_name smbios)
 
 -- Every file is placed, then every pointer's field is filled, and then every sum's byte.
 abbrev pub script_from : Option AcpiImage → SmbiosImage → List Entry

@@ -7,9 +7,7 @@ pub mod Reads
 pub mod Reader
 pub mod Places
 pub mod ScriptRun
-pub mod StringSet
 pub mod FilesInMemory
-pub mod StructureBytes
 pub mod Image
 pub mod AcpiHeld
 pub mod World
@@ -21,11 +19,9 @@ pub use Rattle.vt_outside.specs.MemoryStream
 pub use Rattle.vt_bytes.specs.Numbers
 pub use Rattle.guest_memory.specs.Memory
 pub use Rattle.machine_desc.specs.Rules
-pub use Rattle.table_model.specs.Smbios
-pub use Rattle.table_model.specs.Acpi
 pub use Rattle.table_model.specs.Inventory
 pub use Rattle.blob_holes.specs.Blob
-pub use Rattle.blob_holes.specs.Filled
 pub use Rattle.blob_holes.specs.Grown
+pub use Rattle.blob_holes.specs.Held
 pub use Rattle.acpi_fixed.specs.Tables
-pub use Rattle.acpi_fixed.specs.Held
+pub use Rattle.smbios_build.specs.Spelling

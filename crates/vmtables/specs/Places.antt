@@ -1,11 +1,7 @@
 -- Zones of memory, and the places that files take there.
 use Rattle.std.specs.Prelude.{◌≡◌, ℕ, zero, suc, ◌+◌, ◌-◌, ◌*◌, ◌≤◌, ◌⊎◌, List}
 use Rattle.std.specs.List.{AllByRecursion}
-
--- a range of addresses; the end isn't in it
-pub record Range : Type 0 where
-  pub start : ℕ
-  pub end : ℕ
+use Rattle.vmtables.specs.declared.placing.Range.{Range}
 
 -- The zone of a number: 1 is High, the 16 MiB that end at the top, and 2 is the F segment, 0xF0000 to 0xFFFFF.
 abbrev pub zone_of : ℕ → ℕ → Range

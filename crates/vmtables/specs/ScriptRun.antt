@@ -1,16 +1,19 @@
 -- The run of a loader script on plain lists (QEMU, hw/acpi/bios-linker-loader.c): one command after the other, with no
 -- transfer of any kind.
-use Rattle.std.specs.Prelude.{◌≡◌, ℕ, ◌+◌, ◌-◌, ◌%◌, ◌^◌, ◌<◌, ◌≤◌, ◌⊎◌, Bool, not, ◌&&◌, ◌||◌, List, [], ◌∷◌, ◌++◌, length, take, drop, map, Option, Some, None, is_some, option_and_then, find, nat_lt, nat_le, ◌==◌, slice_index, slice_set, if◌then◌else◌}
+use Rattle.std.specs.Prelude.{◌≡◌, ℕ, ◌+◌, ◌-◌, ◌%◌, ◌^◌, ◌<◌, ◌≤◌, ◌⊎◌, not, ◌&&◌, ◌||◌, List, [], ◌∷◌, ◌++◌, length, take, drop, map, Option}
+use Rattle.std.specs.Prelude.{Some, None, is_some, option_and_then, find, nat_lt, nat_le, ◌==◌, slice_index, slice_set, if◌then◌else◌}
 use Rattle.std.specs.Option.{option_map}
 use Rattle.std.specs.Int.{is_power_of_two}
 use Rattle.std.specs.Str.{bytes_eq}
 use Rattle.vt_bytes.specs.Numbers.{le, le_bytes, byte_sum}
+use Rattle.vt_layout.specs.PointerSize.{is_pointer_size}
 use Rattle.vt_bytes.specs.Parts.{put_at}
 use Rattle.guest_memory.specs.Memory.{Memory, IsRam, at, bytes_at}
 use Rattle.loader_script.specs.declared.entry.Entry.{Entry}
 use Rattle.loader_script.specs.declared.entry.Entry.TheVariants.{Allocate, AddPointer, AddChecksum, WritePointer, Misnamed, Skipped}
 use Rattle.vmtables.specs.declared.files.FileBytes.{FileBytes}
-use Rattle.vmtables.specs.Places.{Range, zone_of, IsLeastFree}
+use Rattle.vmtables.specs.Places.{zone_of, IsLeastFree}
+use Rattle.vmtables.specs.declared.placing.Range.{Range}
 
 -- a file in memory: its name, where it stands, and its bytes there
 pub record Placed : Type 0 where
@@ -34,9 +37,6 @@ placed_of placed name = find (λ (p : Placed). bytes_eq p.name name) placed
 abbrev pub with_bytes : List Placed → List ℕ → List ℕ → List Placed
 with_bytes placed name bytes = map (λ (p : Placed). if bytes_eq p.name name then record p { bytes = bytes } else p) placed
 
-abbrev pub is_size : ℕ → Bool
-is_size size = (size == 1 || size == 2) || (size == 4 || size == 8)
-
 -- places a file: it is in the directory, not placed yet, not empty, its align is a power of two and its zone is 1 or 2
 abbrev pub allocated : List FileBytes → List Placed → List ℕ → ℕ → ℕ → ℕ → Option (List Placed)
 allocated files placed name align zone place = option_and_then
@@ -52,7 +52,7 @@ pointed placed dest src offset size = option_and_then
     (λ (d : Placed). option_and_then
     (λ (s : Placed).
     let sum = le (take size (drop offset d.bytes)) + s.place in
-    if (is_size size && nat_le (offset + size) (length d.bytes)) && nat_lt sum (256 ^ size)
+    if (is_pointer_size size && nat_le (offset + size) (length d.bytes)) && nat_lt sum (256 ^ size)
     then Some (with_bytes placed dest (put_at d.bytes offset (le_bytes size sum)))
     else None)
     (placed_of placed src))

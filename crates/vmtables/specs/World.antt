@@ -19,8 +19,8 @@ state_of None = Idle
 state_of (Some w) = if w.done then Done else Running
 
 -- every RAM byte is the fill byte
-abbrev pub IsFilled : Memory → Type 0
-IsFilled m = (address : ℕ) → IsRam m.top address → at m address ≡ m.fill
+abbrev pub IsBlank : Memory → Type 0
+IsBlank m = (address : ℕ) → IsRam m.top address → at m address ≡ m.fill
 
 -- A world as it is begun: the files and the script, and memory below a top in which every byte is the fill byte.
 pub record IsBegun (w : Begun) (its_files : List FileBytes) (its_script : List Entry) (its_top its_fill : ℕ) : Type 0 where
@@ -28,5 +28,5 @@ pub record IsBegun (w : Begun) (its_files : List FileBytes) (its_script : List E
   pub script : w.script ≡ its_script
   pub top : w.memory.top ≡ its_top
   pub fill : w.memory.fill ≡ its_fill
-  pub filled : IsFilled w.memory
+  pub filled : IsBlank w.memory
   pub running : w.done ≡ false

@@ -8,7 +8,7 @@ pub(crate) enum Command {
     Boot,
 }
 
-/// The command that the words are, or None where they are no command.
+/// Parses `words`, those after the program's name, as a command. Returns `None` when they aren't the single word `boot`.
 pub(crate) fn read_words(words: &[String]) -> Option<Command>
     ensures { result ≡ command_of (map string_bytes words.now) }
 {

@@ -128,13 +128,13 @@ fn acpi_at(alloc: Global, root: &Table) -> Result<Option<Acpi>, DescriptionFault
     ensures { Answers (λ acpi. acpi) result (IsPartAt (codes "acpi") IsAcpiTable (table_view root.now)) }
 {
     match part_at(root, "acpi")? {
-        Some(table) => Ok(Some(acpi_of(alloc, table)?)),
+        Some(table) => Ok(Some(acpi_part(alloc, table)?)),
         None => Ok(None),
     }
 }
 
 // What the table `acpi` says.
-fn acpi_of(alloc: Global, table: &Table) -> Result<Acpi, DescriptionFault>
+fn acpi_part(alloc: Global, table: &Table) -> Result<Acpi, DescriptionFault>
     ensures { Answers (λ acpi. acpi) result (IsAcpiTable (table_view table.now)) }
 {
     only_keys(table, &ACPI_KEYS)?;
@@ -151,13 +151,13 @@ fn hpet_at(root: &Table) -> Result<Option<Hpet>, DescriptionFault>
     ensures { Answers (λ hpet. hpet) result (IsPartAt (codes "hpet") IsHpetTable (table_view root.now)) }
 {
     match part_at(root, "hpet")? {
-        Some(table) => Ok(Some(hpet_of(table)?)),
+        Some(table) => Ok(Some(hpet_part(table)?)),
         None => Ok(None),
     }
 }
 
 // The HPET of the table `hpet`.
-fn hpet_of(table: &Table) -> Result<Hpet, DescriptionFault>
+fn hpet_part(table: &Table) -> Result<Hpet, DescriptionFault>
     ensures { Answers (λ hpet. hpet) result (IsHpetTable (table_view table.now)) }
 {
     only_keys(table, &HPET_KEYS)?;

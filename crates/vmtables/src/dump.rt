@@ -13,7 +13,9 @@ use vt_outside::{Failed, Sink};
 // How many bytes of RAM a line tells.
 const ROW: u64 = 16;
 
-/// Writes the text of a memory, line by line.
+/// Writes the dump of `memory` to `out`, line by line: the top and the fill byte, then each 16 bytes of RAM that aren't all the
+/// fill byte, then `end`. It doesn't flush `out`. Returns `Failed` when a write fails; `out` then took a part of the dump from
+/// its front.
 pub(crate) fn dump_to<K: Sink>(memory: &GuestMemory, out: &mut K) -> Result<(), Failed>
     ensures ok { OnOk result (Took (K.taken out.old) (K.taken out.new) (dump memory.now)) }
     ensures front { OnErr result (TookFront (K.taken out.old) (K.taken out.new) (dump memory.now)) }

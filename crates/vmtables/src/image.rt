@@ -1,14 +1,29 @@
-ghost use Rattle.std.specs.Prelude.{◌≡◌, ◌*◌, ◌++◌, [], List as ListOf, IfOk, OnOk, map};
+ghost use Rattle.std.specs.Prelude.{◌≡◌, ◌*◌, ◌∷◌, ◌++◌, [], List as ListOf, IfOk, OnOk, map};
 ghost use Rattle.machine_desc.specs.Rules.{IsAccepted};
-ghost use Rattle.guest_memory.specs.Memory.{Memory};
+ghost use Rattle.guest_memory.specs.Memory.{Memory, seen};
 ghost use Rattle.table_model.specs.Inventory.{Shows, inventory_of};
-ghost use Rattle.vmtables.specs.Image.{image_files, image_script, files_from, script_from, acpi_allocations, smbios_allocations, add_pointer, add_checksum, add_pointers, add_checksums, acpi_by_name, acpi_tables_first, smbios_by_name};
+ghost use Rattle.vmtables.specs.Image.{
+  acpi_allocations,
+  acpi_by_name,
+  acpi_tables_first,
+  add_checksum,
+  add_checksums,
+  add_pointer,
+  add_pointers,
+  file_list,
+  files_from,
+  image_files,
+  image_script,
+  script_from,
+  smbios_allocations,
+  smbios_by_name,
+};
 ghost use Rattle.vmtables.specs.ScriptRun.{Placed, Runs, IsLeft};
 
 use crate::acpi::{AcpiFiles, build_acpi};
 use crate::files::FileBytes;
-use crate::names::{acpi_tables_name, anchor_name, rsdp_name, tables_name};
-use crate::smbios::{SmbiosFiles, build_smbios};
+use crate::names::{acpi_tables_name, anchor_name, rsdp_name, structures_name};
+use crate::smbios::{SmbiosFiles, smbios_files_of};
 use blob_holes::Parts;
 use loader_script::Entry;
 use machine_desc::Machine;
@@ -27,7 +42,8 @@ pub(crate) struct Image {
     pub(crate) script: List<Entry>,
 }
 
-/// Builds the image of a machine.
+/// Builds the image of `machine`, which is accepted. Its script runs to the end on its files, and what it leaves in zeroed
+/// memory shows the machine. The image takes its memory from `alloc`. Returns `OutOfMemory` when memory runs out.
 pub(crate) fn image_of(alloc: Global, machine: &Machine) -> Result<Image, OutOfMemory>
     requires { IsAccepted machine.now }
     ensures files { IfOk result (λ image. image.files ≡ image_files machine.now) }
@@ -38,10 +54,21 @@ pub(crate) fn image_of(alloc: Global, machine: &Machine) -> Result<Image, OutOfM
         × Runs (machine.now.top_mib * 0x100000) (image_files machine.now) (image_script machine.now) [] after) }
     ensures shown { OnOk result ((after : ListOf Placed) (m : Memory)
         → Runs (machine.now.top_mib * 0x100000) (image_files machine.now) (image_script machine.now) [] after
-        → m.top ≡ machine.now.top_mib * 0x100000 → m.fill ≡ 0 → IsLeft m after → Shows m (inventory_of machine.now)) }
+        → m.top ≡ machine.now.top_mib * 0x100000 → m.fill ≡ 0 → IsLeft m after → Shows m.top (seen m) (inventory_of machine.now)) }
 {
     let acpi = build_acpi(alloc, machine)?;
-    let smbios = build_smbios(alloc, machine)?;
+    let smbios = smbios_files_of(alloc, machine)?;
+    Ok(image_from(alloc, acpi, smbios)?)
+}
+
+fn image_from(
+    alloc: Global,
+    acpi: Option<AcpiFiles>,
+    smbios: SmbiosFiles,
+) -> Result<Image, OutOfMemory>
+    ensures files { IfOk result (λ image. image.files ≡ files_from acpi smbios) }
+    ensures script { IfOk result (λ image. image.script ≡ script_from acpi smbios) }
+{
     let script = script_of(alloc, &acpi, &smbios)?;
     let files = files_of(alloc, acpi, smbios)?;
     Ok(Image { files, script })
@@ -56,19 +83,48 @@ fn files_of(
     ensures { IfOk result (λ files. files ≡ files_from acpi smbios) }
 {
     let mut files = List::new(alloc);
-    if let Some(AcpiFiles { rsdp, tables }) = acpi {
-        files.push(file_of(rsdp_name(), rsdp))?;
-        files.push(file_of(acpi_tables_name(), tables))?;
-    }
-    let SmbiosFiles { anchor, tables } = smbios;
-    files.push(file_of(anchor_name(), anchor))?;
-    files.push(file_of(tables_name(), tables))?;
+    push_acpi(&mut files, acpi)?;
+    push_smbios(&mut files, smbios)?;
     Ok(files)
 }
 
+fn push_acpi(files: &mut List<FileBytes>, acpi: Option<AcpiFiles>) -> Result<(), OutOfMemory>
+    ensures { OnOk result (files.new ≡ files.old ++ file_list (acpi_by_name acpi)) }
+{
+    match acpi {
+        Some(AcpiFiles { rsdp, tables }) => push_two(
+            files,
+            file_of(rsdp_name(), rsdp),
+            file_of(acpi_tables_name(), tables),
+        ),
+        None => Ok(()),
+    }
+}
+
+fn push_smbios(files: &mut List<FileBytes>, smbios: SmbiosFiles) -> Result<(), OutOfMemory>
+    ensures { OnOk result (files.new ≡ files.old ++ file_list (smbios_by_name smbios)) }
+{
+    let SmbiosFiles { anchor, structures } = smbios;
+    push_two(
+        files,
+        file_of(anchor_name(), anchor),
+        file_of(structures_name(), structures),
+    )
+}
+
+fn push_two(
+    files: &mut List<FileBytes>,
+    first: FileBytes,
+    second: FileBytes,
+) -> Result<(), OutOfMemory>
+    ensures { OnOk result (files.new ≡ files.old ++ first ∷ second ∷ []) }
+{
+    files.push(first)?;
+    files.push(second)
+}
+
 fn file_of(name: Name, parts: Parts) -> FileBytes
-    ensures name { result.name ≡ name }
-    ensures bytes { result.bytes ≡ parts.bytes }
+    ensures { result ≡ record { name = name; bytes = parts.bytes } }
 {
     FileBytes {
         name,
@@ -100,7 +156,7 @@ fn push_allocations(script: &mut List<Entry>, acpi: &Option<AcpiFiles>) -> Resul
         script.push(allocate(acpi_tables_name(), 64, HIGH))?;
         script.push(allocate(rsdp_name(), 16, F_SEGMENT))?;
     }
-    script.push(allocate(tables_name(), 16, HIGH))?;
+    script.push(allocate(structures_name(), 16, HIGH))?;
     script.push(allocate(anchor_name(), 16, F_SEGMENT))
 }
 
@@ -116,7 +172,7 @@ fn push_all_pointers(
         push_pointers(script, acpi_tables_name(), &acpi.tables)?;
     }
     push_pointers(script, anchor_name(), &smbios.anchor)?;
-    push_pointers(script, tables_name(), &smbios.tables)
+    push_pointers(script, structures_name(), &smbios.structures)
 }
 
 // The tables are summed before the RSDP.
@@ -132,7 +188,7 @@ fn push_all_checksums(
         push_checksums(script, rsdp_name(), &acpi.rsdp)?;
     }
     push_checksums(script, anchor_name(), &smbios.anchor)?;
-    push_checksums(script, tables_name(), &smbios.tables)
+    push_checksums(script, structures_name(), &smbios.structures)
 }
 
 // A command for each pointer of a file, in their order.

@@ -4,7 +4,7 @@ ghost use Rattle.std.specs.Prelude.{◌≡◌, ℕ, List};
 ghost use Rattle.machine_desc.specs.declared.machine.Machine.{Machine};
 ghost use Rattle.vmtables.specs.Reads.{Reads};
 
-/// At most one machine is read from given bytes.
+/// States that at most one machine is read from given bytes.
 pub fn one_machine_is_read()
     ensures { (bytes : List ℕ) (a b : Machine) → Reads bytes a → Reads bytes b → a ≡ b }
 {}

@@ -20,7 +20,6 @@ mod placing;
 mod smbios;
 mod state;
 mod status;
-mod string_set;
 mod top_call;
 mod world;
 

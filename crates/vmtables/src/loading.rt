@@ -1,7 +1,7 @@
 ghost use Rattle.std.specs.Prelude.{◌≡◌, ℕ, ◌<◌, ◌≤◌, ◌+◌, List as ListOf, length, Some, IsSome, vec_len, vec_capacity};
 ghost use Rattle.loader_script.specs.declared.entry.Entry.TheVariants.{Allocate};
 ghost use Rattle.vmtables.specs.ScriptRun.{Placed, Runs, IsLowPlace, carried_out, allocated, pointed, summed, bytes_of};
-ghost use Rattle.vmtables.specs.FilesInMemory.{files_in, file_named, IsLoading, IsStep};
+ghost use Rattle.vmtables.specs.FilesInMemory.{files_in, placed_named, IsLoading, IsStep};
 
 use crate::files::FileBytes;
 use crate::placing::{PlacedFile, least_free, zone_of};
@@ -9,7 +9,9 @@ use guest_memory::GuestMemory;
 use loader_script::Entry;
 use vt_outside::Name;
 
-/// Carries out the commands of a script, one after the other.
+/// Carries out the commands of `script` on `memory`, one after the other; none of them is refused. `files` are the files that a
+/// command can place. `placed` are the files that stand in `memory` already; it has room for one more for each command, and
+/// gets each file that is placed. It takes no memory.
 pub(crate) fn run_script(
     memory: &mut GuestMemory,
     files: &[FileBytes],
@@ -152,8 +154,8 @@ fn bytes_of<'a>(files: &'a [FileBytes], name: &Name) -> &'a [u8]
 
 // The placed file that has the name.
 fn placed_of<'a>(placed: &'a [PlacedFile], name: &Name) -> &'a PlacedFile
-    requires { IsSome (file_named placed.now name.now) }
-    ensures { file_named placed.now name.now ≡ Some result.now }
+    requires { IsSome (placed_named placed.now name.now) }
+    ensures { placed_named placed.now name.now ≡ Some result.now }
 {
     placed.iter().find(|file| file.name == *name).unwrap()
 }

@@ -1,30 +1,34 @@
 //! The names of an image's files in the directory of fw_cfg.
 
 ghost use Rattle.std.specs.Prelude.{◌≡◌};
-ghost use Rattle.vmtables.specs.Image.{anchor_name, tables_name, rsdp_name};
+ghost use Rattle.vmtables.specs.Image.{anchor_name, structures_name, rsdp_name};
 ghost use Rattle.acpi_fixed.specs.Tables.{tables_name as acpi_tables_name};
 
 use acpi_fixed::TABLES_FILE;
 use vt_outside::Name;
 
+/// Returns the name of the file of the SMBIOS anchor.
 pub(crate) fn anchor_name() -> Name
     ensures { result ≡ anchor_name }
 {
     Name::of("etc/smbios/smbios-anchor").unwrap()
 }
 
-pub(crate) fn tables_name() -> Name
-    ensures { result ≡ tables_name }
+/// Returns the name of the file of the SMBIOS structures.
+pub(crate) fn structures_name() -> Name
+    ensures { result ≡ structures_name }
 {
     Name::of("etc/smbios/smbios-tables").unwrap()
 }
 
+/// Returns the name of the file of the RSDP.
 pub(crate) fn rsdp_name() -> Name
     ensures { result ≡ rsdp_name }
 {
     Name::of("etc/acpi/rsdp").unwrap()
 }
 
+/// Returns the name of the file of the XSDT and the tables that it names.
 pub(crate) fn acpi_tables_name() -> Name
     ensures { result ≡ acpi_tables_name }
 {

@@ -4,7 +4,8 @@ ghost use Rattle.vmtables.specs.Output.{Took, TookFront};
 
 use vt_outside::{Failed, Sink};
 
-/// Writes a text: offers it whole, and then what is left of it until all is taken.
+/// Writes `text` to `out`: offers it whole, and then what is left of it until all is taken. It doesn't flush `out`. Returns
+/// `Failed` when a write fails; `out` then took a part of `text` from its front.
 pub(crate) fn write_all<K: Sink>(out: &mut K, text: &[u8]) -> Result<(), Failed>
     ensures ok { OnOk result (Took (K.taken out.old) (K.taken out.new) text.now) }
     ensures front { OnErr result (TookFront (K.taken out.old) (K.taken out.new) text.now) }

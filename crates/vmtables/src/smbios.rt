@@ -1,25 +1,23 @@
-ghost use Rattle.std.specs.Prelude.{◌≡◌, ◌<◌, ◌≤◌, ◌^◌, ◌++◌, length, IfOk, OnOk};
+ghost use Rattle.std.specs.Prelude.{◌≡◌, ◌<◌, ◌^◌, IfOk, OnOk};
+ghost use Rattle.table_model.specs.Smbios.{AreStructures, structures_of};
 ghost use Rattle.machine_desc.specs.Rules.{IsAccepted};
-ghost use Rattle.vmtables.specs.StructureBytes.{system_structure, end_structure, tables_file, anchor_file};
-ghost use Rattle.vmtables.specs.Image.{anchor_blob, smbios_image};
+ghost use Rattle.vmtables.specs.Image.{anchor_blob, smbios_image, structures_file};
 
-use crate::names::tables_name;
-use crate::string_set::StringSet;
-use blob_holes::{Blob, Parts};
-use machine_desc::{Machine, System};
+use crate::names::structures_name;
+use blob_holes::{Blob, Parts, append_rows};
+use machine_desc::Machine;
+use smbios_build::{SmbiosBuildFault, build_smbios};
 use std::alloc::Global;
 use std::marker::Model;
-use table_model::uuid_field;
+use table_model::{anchor_of, anchor_rows, structures_of};
+use vt_layout::Row;
 use vt_outside::{Bytes, List, OutOfMemory};
-
-// End-of-Table (7.45): type 127, length 4, handle 0x7F00, and two NULs for no strings.
-const END_OF_TABLE: [u8; 6] = [127, 4, 0x00, 0x7F, 0, 0];
 
 /// The files of a machine's SMBIOS structures, with their holes.
 #[derive(Drop)]
 pub(crate) struct SmbiosFiles {
     pub(crate) anchor: Parts,
-    pub(crate) tables: Parts,
+    pub(crate) structures: Parts,
 }
 
 impl Model for SmbiosFiles {
@@ -29,76 +27,51 @@ impl Model for SmbiosFiles {
 
     ghost view = { λ f. record {
       anchor = record { bytes = f.anchor.bytes; pointers = f.anchor.pointers; sums = f.anchor.sums };
-      tables = record { bytes = f.tables.bytes; pointers = f.tables.pointers; sums = f.tables.sums };
+      structures = record { bytes = f.structures.bytes; pointers = f.structures.pointers; sums = f.structures.sums };
     } };
 }
 
-/// Builds the files of a machine's structures.
-pub(crate) fn build_smbios(alloc: Global, machine: &Machine) -> Result<SmbiosFiles, OutOfMemory>
+/// Builds the files of the SMBIOS anchor and structures of `machine`, which is accepted. They take their memory from `alloc`.
+/// Returns `OutOfMemory` when memory runs out.
+pub(crate) fn smbios_files_of(alloc: Global, machine: &Machine) -> Result<SmbiosFiles, OutOfMemory>
     requires { IsAccepted machine.now }
-    ensures { IfOk result (λ files. files ≡ smbios_image machine.now) }
+    ensures files { IfOk result (λ files. files ≡ smbios_image machine.now) }
+    ensures read { OnOk result (AreStructures (structures_file machine.now) (structures_of machine.now.system)) }
 {
-    let tables = tables_of(alloc, machine)?;
-    let anchor = anchor_parts(alloc, tables.len() as u32)?;
+    let bytes = structures_file(alloc, machine)?;
+    let anchor = anchor_file(alloc, bytes.len() as u32)?;
     Ok(SmbiosFiles {
         anchor,
-        tables: Parts {
-            bytes: tables,
+        structures: Parts {
+            bytes,
             pointers: List::new(alloc),
             sums: List::new(alloc),
         },
     })
 }
 
-// The anchor of a table of so many bytes. It gets the table's address at 16, and its byte 5 makes its 24 bytes sum to zero
-// (DSP0134 5.2.2).
-fn anchor_parts(alloc: Global, size: u32) -> Result<Parts, OutOfMemory>
+// The structures of a machine as bytes, which are few.
+fn structures_file(alloc: Global, machine: &Machine) -> Result<Bytes, OutOfMemory>
+    requires { IsAccepted machine.now }
+    ensures bytes { IfOk result (λ bytes. bytes ≡ structures_file machine.now) }
+    ensures read { OnOk result (AreStructures (structures_file machine.now) (structures_of machine.now.system)) }
+{
+    let structures = structures_of(alloc, &machine.system)?;
+    match build_smbios(alloc, structures.as_slice()) {
+        Ok(bytes) => Ok(bytes),
+        Err(SmbiosBuildFault::OutOfMemory) => Err(OutOfMemory),
+        Err(SmbiosBuildFault::TableTooLarge) => unreachable!(),
+    }
+}
+
+// The anchor of structures that have `size` bytes. It gets their address.
+fn anchor_file(alloc: Global, size: u32) -> Result<Parts, OutOfMemory>
     ensures bytes { IfOk result (λ parts. parts.bytes ≡ (anchor_blob size).bytes) }
     ensures pointers { IfOk result (λ parts. parts.pointers ≡ (anchor_blob size).pointers) }
     ensures sums { IfOk result (λ parts. parts.sums ≡ (anchor_blob size).sums) }
 {
-    let mut anchor = Blob::new(alloc);
-    anchor.append(&anchor_of(size))?;
-    anchor.hole_pointer(16, 8, tables_name(), 0)?;
-    anchor.hole_sum(5, 0, 24)?;
-    Ok(anchor.finish())
-}
-
-// The structures of a machine as bytes (DSP0134 6.1): System Information, and the end of the table.
-fn tables_of(alloc: Global, machine: &Machine) -> Result<Bytes, OutOfMemory>
-    ensures { IfOk result (λ bytes. bytes ≡ tables_file machine.now) }
-{
-    let mut bytes = Bytes::new(alloc);
-    put_system(alloc, &mut bytes, &machine.system)?;
-    bytes.extend(&END_OF_TABLE)?;
-    Ok(bytes)
-}
-
-// System Information (7.2): type 1, length 0x1B, handle 0x0100, and a wake-up type of 6, the power switch.
-fn put_system(alloc: Global, bytes: &mut Bytes, system: &System) -> Result<(), OutOfMemory>
-    ensures { OnOk result (bytes.new ≡ bytes.old ++ system_structure system.now) }
-{
-    let mut strings = StringSet::new(alloc);
-    let manufacturer = strings.add(&system.manufacturer)?;
-    let product = strings.add(&system.product)?;
-    let version = strings.add(&system.version)?;
-    let serial = strings.add(&system.serial)?;
-    let sku = strings.add(&system.sku)?;
-    let family = strings.add(&system.family)?;
-    bytes.extend(&[1, 0x1B, 0x00, 0x01, manufacturer, product, version, serial])?;
-    bytes.extend(&uuid_field(system.uuid))?;
-    bytes.extend(&[6, sku, family])?;
-    strings.put_after(bytes)
-}
-
-// The anchor of a table of so many bytes (5.2.2): version 3.0.0, revision 1, and zeros for the checksum and the
-// address of the table.
-fn anchor_of(size: u32) -> [u8; 24]
-    ensures { result ≡ anchor_file size }
-{
-    let [s0, s1, s2, s3] = size.to_le_bytes();
-    [
-        b'_', b'S', b'M', b'3', b'_', 0, 0x18, 3, 0, 0, 1, 0, s0, s1, s2, s3, 0, 0, 0, 0, 0, 0, 0,
-        0,
-    ]
+    let structures = Row::Pointer(8, structures_name(), 0);
+    let mut file = Blob::new(alloc);
+    append_rows(&mut file, &anchor_rows(&anchor_of(size), structures))?;
+    Ok(file.finish())
 }

@@ -25,14 +25,14 @@ pub enum Status {
 }
 
 impl Status {
-    /// The number that a process ends with.
+    /// Returns the number of this status, with which the process ends.
     pub fn number(self) -> u8
         ensures { result ≡ number_of self }
     {
         self as u8
     }
 
-    /// The line that says it, with its line feed; nothing for `Ok`.
+    /// Returns the line that tells this status, with its line feed, or the empty text for `Ok`.
     pub(crate) fn line(self) -> &'static str
         ensures { result.now ≡ line_of self }
     {

@@ -1,6 +1,7 @@
-ghost use Rattle.std.specs.Prelude.{◌≡◌, ◌≢◌, ◌<◌, ◌≤◌, ◌↔◌, ◌⊎◌, List, [], map, string_bytes, Err, Some, None, Option, IfSome, IsSome, IfErr, OnOk, OnErr, IsSomeAnd};
+ghost use Rattle.std.specs.Prelude.{◌≡◌, ◌≢◌, ℕ, ◌<◌, ◌≤◌, ◌↔◌, ◌⊎◌, List, [], map, string_bytes, Err, Some, None, Option, IfSome, IsSome, IfErr, OnOk, OnErr, IsSomeAnd};
 ghost use Rattle.vt_outside.specs.Stream.{Rose};
 ghost use Rattle.machine_desc.specs.declared.machine.Machine.{Machine};
+ghost use Rattle.machine_desc.specs.Rules.{IsAccepted};
 ghost use Rattle.vmtables.specs.Boot.{HasLoaded, WasRead, IsLoaded, LeavesWorld, BootEnds, status_of};
 ghost use Rattle.vmtables.specs.Command.{command_of};
 ghost use Rattle.vmtables.specs.Dump.{dump};
@@ -16,14 +17,22 @@ use crate::input::read_to_end;
 use crate::output::write_all;
 use crate::status::Status;
 use crate::world::World;
+use machine_desc::Machine as Described;
 use std::alloc::Global;
-use vt_outside::{Failed, Sink, Source};
+use vt_outside::{Failed, OutOfMemory, Sink, Source};
 
 // How many bytes a MiB has.
 const MIB: u32 = 0x10_0000;
 
-/// Does what the words say: `boot` reads a description from `source`, builds the machine's files, loads them into
-/// the memory of `world`, and writes its dump to `out`. Nothing is written before all but the writing is done.
+/// Carries out the command that `words`, those after the program's name, ask for, and returns how it ended. `boot` reads a
+/// description from `source`, builds the machine's files, loads them into the memory of `world`, writes its dump to `out` and
+/// flushes it. It takes its memory from `alloc`. Nothing is written to `out` before all but the writing is done.
+///
+/// `Usage` means that `words` are no command; nothing is then read. `ReadFault` means that `source` failed, `InputTooLong` that
+/// it gave more than 67,108,864 bytes, `DescriptionRefused` that its bytes describe no accepted machine, `OutOfMemory` that
+/// memory ran out, and `WriteFault` that `out` failed. With `Ok` `out` took the whole dump, with `WriteFault` a part of it from
+/// its front, perhaps all, and with any other status nothing. With `Ok` and `WriteFault` the machine is loaded in `world`. With
+/// any other status `world` is as before, except that it may be idle after `OutOfMemory`.
 ///
 /// `say` takes the line of a status other than `Ok`. What becomes of that line changes nothing else.
 pub fn top<S: Source, K: Sink, E: Sink>(
@@ -113,7 +122,17 @@ fn load_machine(alloc: Global, description: &[u8], world: &mut World) -> Result<
     ensures kept { IfErr result (λ status. LeavesWorld status world.old world.new) }
 {
     let machine = read_machine(alloc, description)?;
-    let image = image_of(alloc, &machine)?;
+    load_image(alloc, &machine, world)?;
+    Ok(())
+}
+
+// Loads the files of a machine that is read from these bytes into the world's memory.
+fn load_image(alloc: Global, machine: &Described, world: &mut World) -> Result<(), OutOfMemory>
+    requires { IsAccepted machine.now }
+    ensures ok { OnOk result ((bytes : List ℕ) → Reads bytes machine.now → IsSomeAnd world.new (IsLoaded bytes)) }
+    ensures err { OnErr result ((world.new ≡ world.old) ⊎ (world.new ≡ None)) }
+{
+    let image = image_of(alloc, machine)?;
     world.begin(alloc, image.files, image.script, machine.top_mib * MIB, 0)?;
     world.load();
     Ok(())

@@ -67,15 +67,16 @@ impl Load {
 }
 
 impl World {
-    /// A world in which nothing was begun.
+    /// Returns a world in which nothing was begun.
     pub fn idle() -> World
         ensures { result ≡ None }
     {
         World { load: None }
     }
 
-    /// Begins a load of files by a script, into memory below `top`, an address, in which every byte is `fill`. It
-    /// takes all memory that the load needs. After a refusal the world is idle.
+    /// Begins a load of `files` by `script`, into memory below the address `top`, in which every byte is `fill`. `top` is a
+    /// multiple of 1 MiB from 0x4000000 to 0xC0000000. A load that was begun before is dropped. It takes all memory that the
+    /// load needs from `alloc`. Returns `OutOfMemory` when memory runs out; the world is then idle.
     pub fn begin(
         &mut self,
         alloc: Global,
@@ -101,8 +102,8 @@ impl World {
         Ok(())
     }
 
-    /// Carries out the script, whose commands none refuses, and leaves the files in memory. Each file takes the
-    /// least free place of its zone. It takes no memory.
+    /// Carries out the script, and leaves the files in memory. A load was begun and isn't done, and none of its commands is
+    /// refused. Each file takes the least free place of its zone. It takes no memory. The load is then done.
     pub fn load(&mut self)
         requires running { IsSomeAnd self.old (λ w. w.done ≡ false) }
         requires runs { IfSome self.old (λ w. (after : ListOf Placed) × Runs w.memory.top w.files w.script [] after) }
@@ -118,7 +119,7 @@ impl World {
         }
     }
 
-    /// How far the world is.
+    /// Returns how far the world is.
     pub fn state(&self) -> State
         ensures { result ≡ state_of self.now }
     {
@@ -129,7 +130,7 @@ impl World {
         }
     }
 
-    /// The guest's memory.
+    /// Returns the guest's memory, borrowed. A load was begun.
     pub fn memory(&self) -> &GuestMemory
         requires { IsSome self.now }
         ensures { IsSomeAnd self.now (λ w. result.now ≡ w.memory) }

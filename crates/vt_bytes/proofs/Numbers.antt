@@ -1,5 +1,6 @@
 -- Numbers in bytes, from either end.
-use Rattle.std.proofs.Common.{◌≡◌, ℕ, zero, suc, ◌+◌, ◌-◌, ◌*◌, ◌/◌, ◌%◌, ◌^◌, ◌<◌, ◌≤◌, List, [], ◌∷◌, ◌++◌, reverse, length, slice_index, take, drop, bit_or, arith, refl, ap, sym, ◌∙◌}
+use Rattle.std.proofs.Common.{◌≡◌, ℕ, zero, suc, ◌+◌, ◌-◌, ◌*◌, ◌/◌, ◌%◌, ◌^◌, ◌<◌, ◌≤◌, List, [], ◌∷◌, ◌++◌, reverse, length, slice_index, take}
+use Rattle.std.proofs.Common.{drop, bit_or, arith, refl, ap, sym, ◌∙◌}
 use Rattle.std.specs.Int.{bytes_low_first, bytes_high_first, byte_at, to_le_bytes, to_be_bytes, w64}
 use Rattle.std.proofs.Math.Nat.{div-div-eq-div-mul, div-one, pow-suc, pow-le-pow_right}
 use Rattle.std.proofs.lemmas.Grind.{pow_more}
@@ -54,7 +55,7 @@ bytes_low_first-more i (suc k) n =
     ap (λ bytes. byte_at i n ∷ bytes) (bytes_low_first-more (suc i) k n ∙ ap (λ j. bytes_low_first (suc i) k n ++ byte_at j n ∷ []) place)
 
 -- from the other end
-bytes_high_first-reverse : (k n : ℕ) → bytes_high_first k n ≡ reverse (bytes_low_first 0 k n)
+pub bytes_high_first-reverse : (k n : ℕ) → bytes_high_first k n ≡ reverse (bytes_low_first 0 k n)
 bytes_high_first-reverse zero n = refl
 bytes_high_first-reverse (suc k) n =
     let place : 0 + k ≡ k = omega arith in
@@ -75,7 +76,8 @@ drop-bytes_high_first (suc k) m n =
 pub be_bytes-short : (size n : ℕ) → size ≤ 8 → drop (8 - size) (to_be_bytes w64 n) ≡ be_bytes size n
 be_bytes-short size n h =
     let count : 8 ≡ 8 - size + size = omega arith in
-    ap (λ j. drop (8 - size) (bytes_high_first j n)) count ∙ drop-bytes_high_first (8 - size) size n ∙ bytes_high_first-reverse size n ∙ ap reverse (le_bytes-whole size n)
+    ap (λ j. drop (8 - size) (bytes_high_first j n)) count ∙ drop-bytes_high_first (8 - size) size n ∙ bytes_high_first-reverse size n
+    ∙ ap reverse (le_bytes-whole size n)
 
 -- a number in 8 bits more than it had, with a byte at its low end, as the code computes it
 pub record Pushed (bytes : List ℕ) (n number byte : ℕ) : Type 0 where

@@ -1,7 +1,6 @@
 -- The number that the bytes of a field spell fits the field.
-use Rattle.std.proofs.Common.{◌≡◌, ℕ, zero, suc, ◌+◌, ◌*◌, ◌^◌, ◌<◌, List, [], ◌∷◌, take, drop, slice_index, arith, ap}
+use Rattle.std.proofs.Common.{◌≡◌, ℕ, zero, suc, ◌+◌, ◌*◌, ◌^◌, ◌<◌, List, [], ◌∷◌, take, slice_index, arith, ap}
 use Rattle.std.proofs.lemmas.Grind.{pow_more}
-use Rattle.std.proofs.lemmas.List.{get_or-drop}
 use Rattle.vt_bytes.specs.Numbers.{le}
 
 -- one byte more is 256 times as many numbers
@@ -24,7 +23,3 @@ le-fits (suc k) (byte ∷ bytes) each =
     let rest : le (take k bytes) < 256 ^ k = le-fits k bytes (λ i. each (suc i)) in
     let first : byte < 256 = each 0 in
     omega arith
-
--- the same from a place on
-pub le-fits_at : (at k : ℕ) (bytes : List ℕ) → ((i : ℕ) → slice_index bytes i < 256) → le (take k (drop at bytes)) < 256 ^ k
-le-fits_at at k bytes each = le-fits k (drop at bytes) (λ i. rw get_or-drop (each (at + i)))

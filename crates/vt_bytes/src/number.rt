@@ -1,7 +1,8 @@
 ghost use Rattle.std.specs.Prelude.{◌≡◌, ◌+◌, ◌<◌, ◌≤◌, ◌^◌, ◌++◌, length, take, drop};
 ghost use Rattle.vt_bytes.specs.Numbers.{le, be, le_bytes, be_bytes};
 
-/// The number in `n` bytes at a place, low byte first.
+/// Reads the unsigned number in `n` bytes, 1 to 8, from the offset `at` on, low byte first. `at` is in bytes, and the `n` bytes
+/// must lie within `bytes`.
 pub fn get_le(bytes: &[u8], at: usize, n: usize) -> u64
     requires some { 1 ≤ n }
     requires fits { n ≤ 8 }
@@ -15,7 +16,8 @@ pub fn get_le(bytes: &[u8], at: usize, n: usize) -> u64
     number
 }
 
-/// The number in `n` bytes at a place, high byte first.
+/// Reads the unsigned number in `n` bytes, 1 to 8, from the offset `at` on, high byte first. `at` is in bytes, and the `n`
+/// bytes must lie within `bytes`.
 pub fn get_be(bytes: &[u8], at: usize, n: usize) -> u64
     requires some { 1 ≤ n }
     requires fits { n ≤ 8 }
@@ -29,7 +31,8 @@ pub fn get_be(bytes: &[u8], at: usize, n: usize) -> u64
     number
 }
 
-/// Puts a number in `n` bytes at a place, low byte first.
+/// Writes `value` into `n` bytes, 1 to 8, from the offset `at` on, low byte first. `at` is in bytes, the `n` bytes must lie
+/// within `bytes`, and `value` must fit them. The other bytes are what they were.
 pub fn put_le(bytes: &mut [u8], at: usize, n: usize, value: u64)
     requires some { 1 ≤ n }
     requires fits { n ≤ 8 }
@@ -40,7 +43,8 @@ pub fn put_le(bytes: &mut [u8], at: usize, n: usize, value: u64)
     bytes[at..at + n].copy_from_slice(&value.to_le_bytes()[..n]);
 }
 
-/// Puts a number in `n` bytes at a place, high byte first.
+/// Writes `value` into `n` bytes, 1 to 8, from the offset `at` on, high byte first. `at` is in bytes, the `n` bytes must lie
+/// within `bytes`, and `value` must fit them. The other bytes are what they were.
 pub fn put_be(bytes: &mut [u8], at: usize, n: usize, value: u64)
     requires some { 1 ≤ n }
     requires fits { n ≤ 8 }

@@ -1,7 +1,7 @@
 ghost use Rattle.std.specs.Prelude.{◌≡◌};
 ghost use Rattle.vt_bytes.specs.Numbers.{byte_sum};
 
-/// The sum of the bytes, modulo 256.
+/// Returns the sum of all of `bytes`, modulo 256. The sum of no bytes is 0.
 pub fn byte_sum(bytes: &[u8]) -> u8
     ensures { result ≡ byte_sum bytes.now }
 {

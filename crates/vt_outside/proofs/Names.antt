@@ -1,9 +1,10 @@
 -- A name in its field: zeros after it change nothing of what stands before the first NUL.
-use Rattle.std.proofs.Common.{◌≡◌, ℕ, suc, zero, ◌+◌, ◌<◌, ◌≤◌, List, [], ◌∷◌, ◌++◌, true, false, cond, eqb, leb, not, length, take, drop, replicate, refl, arith, ap, sym, ◌∙◌}
+use Rattle.std.proofs.Common.{◌≡◌, ℕ, suc, zero, ◌+◌, ◌-◌, ◌<◌, ◌≤◌, List, [], ◌∷◌, ◌++◌, true, false, cond, eqb, leb, not, length, take, drop, replicate}
+use Rattle.std.proofs.Common.{Ok, refl, arith, ap, sym, ◌∙◌, length-append}
 use Rattle.std.proofs.lemmas.Bool.{and_parts, leb-true, ne_eqb}
 use Rattle.std.proofs.lemmas.Bool.Decides.{nat_tests}
 use Rattle.std.proofs.lemmas.Grind.{common_steps}
-use Rattle.std.proofs.lemmas.List.{drop-replicate}
+use Rattle.std.proofs.lemmas.List.{drop-replicate, length-replicate}
 use Rattle.std.specs.List.{list_all}
 use Rattle.vt_outside.specs.Name.{name_of, before_nul, in_field, is_printable, IsName, IsField}
 
@@ -37,14 +38,35 @@ padded_is : (text copied : List ℕ) → copied ≡ text → copied ++ drop (len
 padded_is text copied same = rw (same, drop-replicate {X = ℕ} (length text) 56 0)
 
 -- before that field's first NUL stands the text
-pub before_nul-copied : (text copied : List ℕ) → copied ≡ text → list_all is_printable text ≡ true → before_nul (copied ++ drop (length text) (replicate 56 0)) ≡ text
+pub before_nul-copied : (text copied : List ℕ) → copied ≡ text → list_all is_printable text ≡ true
+    → before_nul (copied ++ drop (length text) (replicate 56 0)) ≡ text
 before_nul-copied text copied same printable = ap before_nul (padded_is text copied same) ∙ before_nul-padded text _ printable
 
 -- and that field holds a name
-pub IsField-copied : (text copied : List ℕ) → copied ≡ text → length text ≤ 55 → 0 < length text → list_all is_printable text ≡ true → IsField (copied ++ drop (length text) (replicate 56 0))
+pub IsField-copied : (text copied : List ℕ) → copied ≡ text → length text ≤ 55 → 0 < length text → list_all is_printable text ≡ true
+    → IsField (copied ++ drop (length text) (replicate 56 0))
 IsField-copied text copied same short long printable =
     let before = before_nul-copied text copied same printable in
     record {
       named = rw before (IsName-from_tests text short long printable);
       padded = ap in_field before ∙ sym (padded_is text copied same);
     }
+
+-- what a name is
+pub record Printable (name : List ℕ) : Type 0 where
+  pub short : length name ≤ 55
+  pub each : list_all is_printable name ≡ true
+
+pub Printable-from : (name : List ℕ) → IsName name → Printable name
+unfolding name_of
+Printable-from name named = record { short = grind (arith, common_steps, nat_tests); each = grind (arith, common_steps, nat_tests) }
+
+-- a name's field has 56 bytes
+pub length-in_field : (name : List ℕ) → IsName name → length (in_field name) ≡ 56
+length-in_field name named =
+    let short : length name ≤ 55 = (Printable-from name named).short in
+    omega (arith, length-append name (replicate (56 - length name) 0), length-replicate {A = ℕ} (56 - length name) 0)
+
+-- and the name is read again from it
+pub name-in_field : (name : List ℕ) → IsName name → name_of (before_nul (in_field name)) ≡ Ok name
+name-in_field name named = ap name_of (before_nul-padded name (56 - length name) (Printable-from name named).each) ∙ named

@@ -20,7 +20,7 @@ impl Model for Bytes {
 }
 
 impl Bytes {
-    /// No bytes. It takes no memory.
+    /// Makes an empty list of bytes, which will take its memory from `alloc`. It takes none yet, so it can't fail.
     pub fn new(alloc: Global) -> Bytes
         ensures { result ≡ [] }
     {
@@ -29,7 +29,7 @@ impl Bytes {
         }
     }
 
-    /// Adds a byte at the end.
+    /// Adds `byte` at the end. On `OutOfMemory` nothing is added, and the bytes are what they were.
     pub fn push(&mut self, byte: u8) -> Result<(), OutOfMemory>
         ensures ok { OnOk result (self.new ≡ self.old ++ byte ∷ []) }
         ensures err { OnErr result (self.new ≡ self.old) }
@@ -37,7 +37,7 @@ impl Bytes {
         self.bytes.push(byte)
     }
 
-    /// Adds the bytes at the end, all or none.
+    /// Adds all of `bytes` at the end, in order. On `OutOfMemory` none is added, and the bytes are what they were.
     pub fn extend(&mut self, bytes: &[u8]) -> Result<(), OutOfMemory>
         ensures ok { OnOk result (self.new ≡ self.old ++ bytes.now) }
         ensures err { OnErr result (self.new ≡ self.old) }
@@ -45,14 +45,14 @@ impl Bytes {
         self.bytes.extend(bytes)
     }
 
-    /// The number of bytes.
+    /// Returns the number of bytes.
     pub fn len(&self) -> usize
         ensures { result ≡ length self.now }
     {
         self.bytes.len()
     }
 
-    /// The byte at a place.
+    /// Returns the byte at `place`, counted from 0, which must be below the number of bytes.
     pub fn get(&self, place: usize) -> &u8
         requires { place < length self.now }
         ensures { slice_get self.now place ≡ Some result.now }
@@ -60,7 +60,7 @@ impl Bytes {
         self.bytes.get(place)
     }
 
-    /// Puts another byte at a place.
+    /// Replaces the byte at `place`, counted from 0, with `byte`. `place` must be below the number of bytes.
     pub fn set(&mut self, place: usize, byte: u8)
         requires { place < length self.old }
         ensures { self.new ≡ slice_set self.old place byte }
@@ -68,7 +68,8 @@ impl Bytes {
         self.bytes.set(place, byte);
     }
 
-    /// Puts other bytes in place of as many from a place on.
+    /// Overwrites the bytes from `place` on, counted from 0, with all of `bytes`. They must end within the list: its length
+    /// doesn't change.
     pub fn put(&mut self, place: usize, bytes: &[u8])
         requires { place + length bytes.now ≤ length self.old }
         ensures { self.new ≡ take place self.old ++ bytes.now ++ drop (place + length bytes.now) self.old }
@@ -76,7 +77,7 @@ impl Bytes {
         self.bytes.put(place, bytes);
     }
 
-    /// Keeps the first `count` bytes.
+    /// Keeps the first `count` bytes and drops the rest. `count` must be at most the number of bytes.
     pub fn cut(&mut self, count: usize)
         requires { count ≤ length self.old }
         ensures { self.new ≡ take count self.old }
@@ -84,14 +85,14 @@ impl Bytes {
         self.bytes.cut(count);
     }
 
-    /// The bytes, in order.
+    /// Returns all the bytes, in order, as a slice.
     pub fn as_slice(&self) -> &[u8]
         ensures { result.now ≡ self.now }
     {
         self.bytes.as_slice()
     }
 
-    /// Another list of the same bytes, with the same allocator.
+    /// Makes another list of bytes with the same bytes and the same allocator. On `OutOfMemory` no copy is made.
     pub fn copy(&self) -> Result<Bytes, OutOfMemory>
         ensures { IfOk result (λ copy. copy ≡ self.now) }
     {

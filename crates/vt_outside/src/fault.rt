@@ -6,7 +6,7 @@ use thiserror::Error;
 #[error("a read or a write failed")]
 pub struct Failed;
 
-/// Memory ran out.
+/// An allocation failed: memory ran out.
 #[derive(Clone, Copy, Debug, PartialEq, Eq, Error)]
 #[error("out of memory")]
 pub struct OutOfMemory;

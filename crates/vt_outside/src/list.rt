@@ -21,7 +21,7 @@ impl<T> Model for List<T> {
 }
 
 impl<T: Drop> List<T> {
-    /// No items. It takes no memory.
+    /// Makes an empty list, which will take its memory from `alloc`. It takes none yet, so it can't fail.
     pub fn new(alloc: Global) -> List<T>
         ensures { result ≡ [] }
     {
@@ -30,7 +30,7 @@ impl<T: Drop> List<T> {
         }
     }
 
-    /// Adds an item at the end.
+    /// Adds `item` at the end. On `OutOfMemory` it isn't added, and the list is what it was.
     pub fn push(&mut self, item: T) -> Result<(), OutOfMemory>
         ensures ok { OnOk result (self.new ≡ self.old ++ item ∷ []) }
         ensures err { OnErr result (self.new ≡ self.old) }
@@ -39,14 +39,14 @@ impl<T: Drop> List<T> {
         Ok(())
     }
 
-    /// The number of items.
+    /// Returns the number of items.
     pub fn len(&self) -> usize
         ensures { result ≡ length self.now }
     {
         self.items.len()
     }
 
-    /// The item at a place.
+    /// Returns the item at `place`, counted from 0, which must be below the number of items.
     pub fn get(&self, place: usize) -> &T
         requires { place < length self.now }
         ensures { slice_get self.now place ≡ Some result.now }
@@ -54,7 +54,7 @@ impl<T: Drop> List<T> {
         &self.items[place]
     }
 
-    /// Puts another item at a place.
+    /// Replaces the item at `place`, counted from 0, with `item`. `place` must be below the number of items.
     pub fn set(&mut self, place: usize, item: T)
         requires { place < length self.old }
         ensures { self.new ≡ slice_set self.old place item }
@@ -62,7 +62,8 @@ impl<T: Drop> List<T> {
         self.items[place] = item;
     }
 
-    /// The item at a place, to be changed.
+    /// Lends the item at `place`, counted from 0, to be changed. `place` must be below the number of items. What the borrower
+    /// leaves there is the list's item at `place`, and the other items are what they were.
     pub fn get_mut(&mut self, place: usize) -> &mut T
         requires { place < length self.old }
         ensures* lends { sem 𝓛 (Lends (the_row T.row) T.row self.entry result (slice_set self.old place)) }
@@ -71,7 +72,7 @@ impl<T: Drop> List<T> {
         &mut self.items[place]
     }
 
-    /// Keeps the first `count` items.
+    /// Keeps the first `count` items and drops the rest. `count` must be at most the number of items.
     pub fn cut(&mut self, count: usize)
         requires { count ≤ length self.old }
         ensures { self.new ≡ take count self.old }
@@ -79,7 +80,7 @@ impl<T: Drop> List<T> {
         self.items.truncate(count);
     }
 
-    /// The items, in order.
+    /// Returns all the items, in order, as a slice.
     pub fn as_slice(&self) -> &[T]
         ensures { result.now ≡ self.now }
     {
@@ -88,7 +89,7 @@ impl<T: Drop> List<T> {
 }
 
 impl<T: Copy> List<T> {
-    /// Adds the items at the end, all or none.
+    /// Adds copies of all of `items` at the end, in order. On `OutOfMemory` none is added, and the list is what it was.
     pub fn extend(&mut self, items: &[T]) -> Result<(), OutOfMemory>
         ensures ok { OnOk result (self.new ≡ self.old ++ items.now) }
         ensures err { OnErr result (self.new ≡ self.old) }
@@ -97,7 +98,8 @@ impl<T: Copy> List<T> {
         Ok(())
     }
 
-    /// Puts other items in place of as many from a place on.
+    /// Overwrites the items from `place` on, counted from 0, with copies of all of `items`. They must end within the list: its
+    /// length doesn't change.
     pub fn put(&mut self, place: usize, items: &[T])
         requires { place + length items.now ≤ length self.old }
         ensures { self.new ≡ take place self.old ++ items.now ++ drop (place + length items.now) self.old }
@@ -105,7 +107,7 @@ impl<T: Copy> List<T> {
         self.items[place..place + items.len()].copy_from_slice(items);
     }
 
-    /// Another list of the same items, with the same allocator.
+    /// Makes another list with the same items and the same allocator. On `OutOfMemory` no copy is made.
     pub fn copy(&self) -> Result<List<T>, OutOfMemory>
         ensures { IfOk result (λ list. list ≡ self.now) }
     {

@@ -9,7 +9,7 @@ use crate::stream::Sink;
 use std::alloc::Global;
 use std::marker::Model;
 
-/// Bytes that were taken into memory, with writes that fail where the caller says so.
+/// A sink that keeps what it takes in memory, and whose writes fail where the caller says so.
 #[derive(Debug, Drop)]
 pub struct ListSink {
     taken: Vec<u8>,
@@ -39,8 +39,10 @@ impl Model for ListSink {
 }
 
 impl ListSink {
-    /// A sink that holds at most `room` bytes, which it reserves here. The writes whose numbers, from 0 on, are
-    /// in `fails` fail, and so does a write when no room is left.
+    /// Makes a sink that holds at most `room` bytes, and reserves them from `alloc` here. `fails` lists the writes that fail,
+    /// each by its number: all writes are counted, from 0. A write also fails when no room is left.
+    ///
+    /// On `OutOfMemory` there is no memory for `room` bytes, and no sink is made.
     pub fn new(alloc: Global, room: usize, fails: List<u32>) -> Result<ListSink, OutOfMemory>
         ensures { IfOk result (λ sink. sink ≡ record { taken = []; flushed = 0; room = room; fails = fails; calls = 0; faults = 0 }) }
     {
@@ -54,7 +56,7 @@ impl ListSink {
         })
     }
 
-    /// The bytes taken.
+    /// Returns the bytes that were taken so far, in order, flushed or not.
     pub fn taken(&self) -> &[u8]
         ensures { result.now ≡ self.now.taken }
     {
@@ -107,7 +109,7 @@ impl Sink for ListSink {
 pub struct SureSink;
 
 impl SureSink {
-    /// The sink. It takes no memory.
+    /// Makes the sink. It takes no memory.
     pub fn new() -> SureSink {
         SureSink
     }

@@ -8,7 +8,7 @@ use crate::list::List;
 use crate::stream::Source;
 use std::marker::Model;
 
-/// Bytes in memory, given in pieces, with reads that fail where the caller says so.
+/// A source of bytes in memory, which it gives in pieces, and whose reads fail where the caller says so.
 #[derive(Debug, Drop)]
 pub struct ListSource {
     bytes: Bytes,
@@ -37,8 +37,8 @@ impl Model for ListSource {
 }
 
 impl ListSource {
-    /// A source of these bytes. A read gives at most `piece` of them, and the reads whose numbers, from 0 on,
-    /// are in `fails` fail. It takes no memory.
+    /// Makes a source that gives `bytes`, in order. A read gives at most `piece` bytes, which must be at least 1. `fails` lists
+    /// the reads that fail, each by its number: all reads are counted, from 0. It takes no memory.
     pub fn new(bytes: Bytes, piece: usize, fails: List<u32>) -> ListSource
         requires { 0 < piece }
         ensures { result ≡ record { left = bytes; piece = piece; fails = fails; calls = 0; faults = 0 } }
@@ -86,14 +86,14 @@ impl Source for ListSource {
     }
 }
 
-/// Whether a call has a listed number.
+/// Tells whether `fails` lists the number `call`.
 pub(crate) fn is_listed(fails: &[u32], call: u64) -> bool
     ensures { IsTrue result ↔ Contains fails.now call }
 {
     fails.iter().any(|number| u64::from(*number) == call)
 }
 
-/// Bytes in memory, with no read that fails.
+/// A source of bytes in memory, whose reads never fail.
 #[derive(Debug, Drop)]
 pub struct SureSource {
     bytes: Bytes,
@@ -111,7 +111,7 @@ impl Model for SureSource {
 }
 
 impl SureSource {
-    /// A source of these bytes. It takes no memory.
+    /// Makes a source that gives `bytes`, in order. It takes no memory.
     pub fn new(bytes: Bytes) -> SureSource
         ensures { result ≡ bytes }
     {

@@ -10,15 +10,16 @@ const LONGEST: usize = 55;
 /// Why bytes are no file name.
 #[derive(Clone, Copy, Debug, PartialEq, Eq)]
 pub enum NameFault {
-    /// There are more than 55 bytes before a NUL.
+    /// The name would have more than 55 bytes: a field has no NUL, or a text leaves no room for one.
     NoNul,
-    /// There is no byte before the NUL.
+    /// The name would have no bytes.
     EmptyName,
-    /// A byte isn't 0x20 to 0x7E.
+    /// A byte of the name isn't printable ASCII, 0x20 to 0x7E.
     BadNameByte,
 }
 
-/// The name of a file of fw_cfg: 1 to 55 bytes, each 0x20 to 0x7E. Contracts see the list of these bytes.
+/// The name of a file of fw_cfg: 1 to 55 bytes, each 0x20 to 0x7E (QEMU, docs/specs/fw_cfg). Contracts see the list of these
+/// bytes.
 #[derive(Clone, Copy, Debug)]
 pub struct Name {
     field: [u8; 56],
@@ -41,14 +42,20 @@ impl Model for Name {
 }
 
 impl Name {
-    /// The name in a field of 56 bytes: what stands before the first NUL. What follows it is ignored.
+    /// Reads the name in `bytes`, a field of 56 bytes: the bytes before the first NUL. What follows the NUL is ignored.
+    ///
+    /// The error is the first that applies: `NoNul` if the field has no NUL, `EmptyName` if it begins with one, and
+    /// `BadNameByte` if a byte before it isn't 0x20 to 0x7E.
     pub fn read(bytes: &[u8; 56]) -> Result<Name, NameFault>
         ensures { result ≡ name_of (before_nul bytes.now) }
     {
         Name::from_bytes(&bytes[..place_of_nul(bytes)])
     }
 
-    /// The name that a text is.
+    /// Parses `text` as a file name: all of its bytes are the name.
+    ///
+    /// The error is the first that applies: `NoNul` if `text` has more than 55 bytes, `EmptyName` if it has none, and
+    /// `BadNameByte` if one of them isn't 0x20 to 0x7E. A NUL is such a byte.
     pub fn of(text: &str) -> Result<Name, NameFault>
         ensures { result ≡ name_of text.now }
     {
@@ -73,7 +80,7 @@ impl Name {
         Ok(Name { field })
     }
 
-    /// The name in a field of 56 bytes, with zeros after it.
+    /// Returns the field of 56 bytes that holds the name: its bytes, and zeros after them.
     pub fn bytes(&self) -> [u8; 56]
         ensures field { result ≡ in_field self.now }
         ensures name { IsName self.now }

@@ -5,8 +5,8 @@ use crate::fault::Failed;
 use crate::stream::{Sink, Source};
 use std::io::{ErrorKind, Read, Write};
 
-/// A reader of std as a source. It tells nothing of the bytes, and counts each error that it answers with
-/// Failed.
+/// A source that reads from a reader of std. Contracts say nothing of its bytes. It counts each error that it answers with
+/// `Failed`.
 ///
 /// A call that was interrupted is made again, and is no error.
 #[derive(Drop)]
@@ -16,7 +16,7 @@ pub struct ReadSource<R> {
 }
 
 impl<R: Read> ReadSource<R> {
-    /// A source of what the reader gives.
+    /// Makes a source whose bytes come from `reader`, with no fault counted. It reads nothing yet.
     pub fn new(reader: R) -> ReadSource<R> {
         ReadSource { reader, faults: 0 }
     }
@@ -40,8 +40,8 @@ impl<R: Read> Source for ReadSource<R> {
     }
 }
 
-/// A writer of std as a sink. It tells nothing of the bytes, and counts each error that it answers with
-/// Failed.
+/// A sink that writes to a writer of std. Contracts say nothing of its bytes. It counts each error that it answers with
+/// `Failed`.
 ///
 /// A call that was interrupted is made again, and is no error. A write that takes nothing is one.
 #[derive(Drop)]
@@ -51,7 +51,7 @@ pub struct WriteSink<W> {
 }
 
 impl<W: Write> WriteSink<W> {
-    /// A sink whose bytes go to the writer.
+    /// Makes a sink whose bytes go to `writer`, with no fault counted. It writes nothing yet.
     pub fn new(writer: W) -> WriteSink<W> {
         WriteSink { writer, faults: 0 }
     }

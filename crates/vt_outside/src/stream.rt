@@ -11,7 +11,11 @@ pub trait Source {
     // How many reads were answered with Failed. A count that is kept in a u64 stays at its last value.
     ghost faults: { Self → ℕ };
 
-    /// Reads the next bytes into the front of `into`, and tells how many. 0 means that none is left.
+    /// Reads the next bytes into the front of `into`, which must have at least one byte, and returns how many. They may be
+    /// fewer than `into` has room for. 0 means that none is left.
+    ///
+    /// On `Failed` no byte was read: what was left is still left. The fault is counted, where the count isn't full. What `into`
+    /// holds then isn't said.
     fn read(&mut self, into: &mut [u8]) -> Result<usize, Failed>
         requires { 0 < length into.old }
         ensures given { IfOk result (λ n. left self.old ≡ in_front (take n into.new) (left self.new)) }
@@ -35,7 +39,10 @@ pub trait Sink {
     // How many writes and flushes were answered with Failed. A count that is kept in a u64 stays at its last value.
     ghost faults: { Self → ℕ };
 
-    /// Takes some of the bytes from the front of `piece`, at least one, and tells how many.
+    /// Takes bytes from the front of `piece`, which must have at least one, and returns how many: at least one, and maybe not
+    /// all. They aren't flushed yet.
+    ///
+    /// On `Failed` no byte was taken. The fault is counted, where the count isn't full.
     fn write(&mut self, piece: &[u8]) -> Result<usize, Failed>
         requires { 0 < length piece.now }
         ensures took { IfOk result (λ n. taken self.new ≡ behind (taken self.old) (take n piece.now)) }
@@ -48,7 +55,10 @@ pub trait Sink {
         ensures sound { OnOk result (faults self.new ≡ faults self.old) }
         ensures never_falls { faults self.old ≤ faults self.new };
 
-    /// Hands on all that was taken.
+    /// Hands on all bytes that were taken, so that all of them are flushed.
+    ///
+    /// On `Failed` the bytes taken and the number of those flushed are what they were. The fault is counted, where the count
+    /// isn't full.
     fn flush(&mut self) -> Result<(), Failed>
         ensures all { OnOk result (IfSome (taken self.new) (λ bytes. flushed self.new ≡ length bytes)) }
         ensures unflushed { OnErr result (flushed self.new ≡ flushed self.old) }

@@ -20,7 +20,7 @@ impl Model for Text {
 }
 
 impl Text {
-    /// The empty text. It takes no memory.
+    /// Makes an empty text, which will take its memory from `alloc`. It takes none yet, so it can't fail.
     pub fn new(alloc: Global) -> Text
         ensures { result ≡ [] }
     {
@@ -29,7 +29,7 @@ impl Text {
         }
     }
 
-    /// Adds a byte at the end.
+    /// Adds `byte` at the end. On `OutOfMemory` nothing is added, and the bytes are what they were.
     pub fn push(&mut self, byte: u8) -> Result<(), OutOfMemory>
         ensures ok { OnOk result (self.new ≡ self.old ++ byte ∷ []) }
         ensures err { OnErr result (self.new ≡ self.old) }
@@ -37,7 +37,7 @@ impl Text {
         self.bytes.push(byte)
     }
 
-    /// Adds the bytes at the end, all or none.
+    /// Adds all of `bytes` at the end, in order. On `OutOfMemory` none is added, and the bytes are what they were.
     pub fn extend(&mut self, bytes: &[u8]) -> Result<(), OutOfMemory>
         ensures ok { OnOk result (self.new ≡ self.old ++ bytes.now) }
         ensures err { OnErr result (self.new ≡ self.old) }
@@ -45,14 +45,14 @@ impl Text {
         self.bytes.extend(bytes)
     }
 
-    /// The number of bytes.
+    /// Returns the number of bytes.
     pub fn len(&self) -> usize
         ensures { result ≡ length self.now }
     {
         self.bytes.len()
     }
 
-    /// The byte at a place.
+    /// Returns the byte at `place`, counted from 0, which must be below the number of bytes.
     pub fn get(&self, place: usize) -> &u8
         requires { place < length self.now }
         ensures { slice_get self.now place ≡ Some result.now }
@@ -60,7 +60,7 @@ impl Text {
         self.bytes.get(place)
     }
 
-    /// Puts another byte at a place.
+    /// Replaces the byte at `place`, counted from 0, with `byte`. `place` must be below the number of bytes.
     pub fn set(&mut self, place: usize, byte: u8)
         requires { place < length self.old }
         ensures { self.new ≡ slice_set self.old place byte }
@@ -68,7 +68,7 @@ impl Text {
         self.bytes.set(place, byte);
     }
 
-    /// Keeps the first `count` bytes.
+    /// Keeps the first `count` bytes and drops the rest. `count` must be at most the number of bytes.
     pub fn cut(&mut self, count: usize)
         requires { count ≤ length self.old }
         ensures { self.new ≡ take count self.old }
@@ -76,14 +76,14 @@ impl Text {
         self.bytes.cut(count);
     }
 
-    /// The bytes, in order.
+    /// Returns all the bytes, in order, as a slice.
     pub fn as_slice(&self) -> &[u8]
         ensures { result.now ≡ self.now }
     {
         self.bytes.as_slice()
     }
 
-    /// Another text of the same bytes, with the same allocator.
+    /// Makes another text with the same bytes and the same allocator. On `OutOfMemory` no copy is made.
     pub fn copy(&self) -> Result<Text, OutOfMemory>
         ensures { IfOk result (λ copy. copy ≡ self.now) }
     {

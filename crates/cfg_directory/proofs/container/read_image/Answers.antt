@@ -11,12 +11,14 @@ use Rattle.cfg_directory.proofs.container.read_image.Goals as goal
 pub returns-in_err-read_parts-clause-only : goal.returns-in_err-read_parts-clause-only
 returns-in_err-read_parts-clause-only c = λ items is.
     let p = err_from_is_err_and c.from_residual.result c.from_residual.ensures.1 in
-    rw (p.1, p.2) (fails_as c.in_err-read_parts.field-0.0 (parts_of c.args.bytes.now) (Ok items) (λ fault fails. sym (contained_is_read c.args.bytes.now items is) ∙ sym (parts_are c.args.bytes.now) ∙ fails) c.in_err-read_parts.ensures.exact)
+    rw (p.1, p.2) (fails_as c.in_err-read_parts.field-0.0 (parts_of c.args.bytes.now) (Ok items)
+    (λ fault fails. sym (contained_is_read c.args.bytes.now items is) ∙ sym (parts_are c.args.bytes.now) ∙ fails) c.in_err-read_parts.ensures.exact)
 
 pub returns-in_err-read_parts-clause-exact : goal.returns-in_err-read_parts-clause-exact
 returns-in_err-read_parts-clause-exact c =
     let p = err_from_is_err_and c.from_residual.result c.from_residual.ensures.1 in
-    rw (p.1, p.2) (fails_as c.in_err-read_parts.field-0.0 (parts_of c.args.bytes.now) (read_so c.args.bytes.now) (λ fault fails. sym (parts_are c.args.bytes.now) ∙ fails) c.in_err-read_parts.ensures.exact)
+    rw (p.1, p.2) (fails_as c.in_err-read_parts.field-0.0 (parts_of c.args.bytes.now) (read_so c.args.bytes.now)
+    (λ fault fails. sym (parts_are c.args.bytes.now) ∙ fails) c.in_err-read_parts.ensures.exact)
 
 pub of-requires : goal.of-requires
 of-requires c =
@@ -24,7 +26,8 @@ of-requires c =
 
 pub returns-clause-found : goal.returns-clause-found
 returns-clause-found c =
-    subst (IsContainer c.args.bytes.now) (sym c.of.ensures) (read_is_contained c.args.bytes.now c.in_ok-read_parts.field-0 (sym (parts_are c.args.bytes.now) ∙ c.in_ok-read_parts.ensures.exact))
+    subst (IsContainer c.args.bytes.now) (sym c.of.ensures)
+    (read_is_contained c.args.bytes.now c.in_ok-read_parts.field-0 (sym (parts_are c.args.bytes.now) ∙ c.in_ok-read_parts.ensures.exact))
 
 pub returns-clause-only : goal.returns-clause-only
 returns-clause-only c = λ items is.

@@ -15,7 +15,10 @@ pub returns-in_err-entry-clause-exact : goal.returns-in_err-entry-clause-exact
 returns-in_err-entry-clause-exact c =
     let p = err_from_is_err_and c.from_residual.result c.from_residual.ensures.1 in
     let shown = ap₂ (listed_of c.loop-index.index) c.as_slice.ensures c.split_at.ensures.front in
-    rw (p.1, p.2) (fails_as c.in_err-entry.field-0.0 (listed_of c.loop-index.index c.as_slice.result.now c.split_at.result.0.now) (directory_at c.args.count c.args.bytes.now) (λ fault is. entry_fails c.args.count c.loop-index.index c.loop-index.listed c.loop-index.rest.now c.args.bytes.now c.loop-index-test.true c.if-bytes-count.false c.loop-index.invariant.said fault (sym shown ∙ is)) c.in_err-entry.ensures.exact)
+    rw (p.1, p.2) (fails_as c.in_err-entry.field-0.0 (listed_of c.loop-index.index c.as_slice.result.now c.split_at.result.0.now)
+    (directory_at c.args.count c.args.bytes.now)
+    (λ fault is. entry_fails c.args.count c.loop-index.index c.loop-index.listed c.loop-index.rest.now c.args.bytes.now c.loop-index-test.true
+    c.if-bytes-count.false c.loop-index.invariant.said fault (sym shown ∙ is)) c.in_err-entry.ensures.exact)
 
 pub loop-index-preserved : goal.loop-index-preserved
 loop-index-preserved c =
@@ -23,12 +26,16 @@ loop-index-preserved c =
     let pushed = c.in_ok-push.ensures.ok in
     let place : 64 * c.loop-index.index + 64 ≡ 64 * (c.loop-index.index + 1) = omega arith in
     record {
-      said = ap₂ (λ (listed : List Listed) (rest : List ℕ). directory_so (c.args.count - (c.loop-index.index + 1)) (c.loop-index.index + 1) listed rest) pushed c.split_at.ensures.back
-          ∙ entry_goes_on c.args.count c.loop-index.index c.loop-index.listed c.loop-index.rest.now c.in_ok-entry.entry (directory_so c.args.count 0 [] c.args.bytes.now) c.loop-index-test.true (sym shown ∙ c.in_ok-entry.ensures.exact) c.loop-index.invariant.said;
-      rest = c.split_at.ensures.back ∙ ap (drop 64) c.loop-index.invariant.rest ∙ drop-drop 64 (64 * c.loop-index.index) c.args.bytes.now ∙ ap (λ n. drop n c.args.bytes.now) place;
+      said = ap₂ (λ (listed : List Listed) (rest : List ℕ). directory_so (c.args.count - (c.loop-index.index + 1)) (c.loop-index.index + 1) listed rest)
+          pushed c.split_at.ensures.back
+          ∙ entry_goes_on c.args.count c.loop-index.index c.loop-index.listed c.loop-index.rest.now c.in_ok-entry.entry
+          (directory_so c.args.count 0 [] c.args.bytes.now) c.loop-index-test.true (sym shown ∙ c.in_ok-entry.ensures.exact) c.loop-index.invariant.said;
+      rest = c.split_at.ensures.back ∙ ap (drop 64) c.loop-index.invariant.rest ∙ drop-drop 64 (64 * c.loop-index.index) c.args.bytes.now
+          ∙ ap (λ n. drop n c.args.bytes.now) place;
       count = omega (arith, ap length pushed, length_push c.loop-index.listed c.in_ok-entry.entry, c.loop-index.invariant.count);
     }
 
 pub returns-clause-exact : goal.returns-clause-exact
 returns-clause-exact c =
-    entries_done c.args.count c.loop-index.index c.loop-index.listed c.loop-index.rest.now c.args.bytes.now (omega arith) c.if-bytes-count.false c.loop-index.invariant.said c.loop-index.invariant.rest
+    entries_done c.args.count c.loop-index.index c.loop-index.listed c.loop-index.rest.now c.args.bytes.now (omega arith) c.if-bytes-count.false
+    c.loop-index.invariant.said c.loop-index.invariant.rest

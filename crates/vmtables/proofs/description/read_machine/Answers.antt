@@ -27,5 +27,6 @@ returns-in_err-machine c =
     let p = err_from_is_err_and c.from_residual-in_err-machine.result c.from_residual-in_err-machine.ensures.1 in
     rw (p.1, p.2)
     (refused_whole (IsRootTable root) (Reads c.args.bytes.now) c.in_err-machine.field-0.0
-    (λ machine meant. let same_root : meant.root.0 ≡ root = cc (meant.root.1, c.in_ok-root.ensures, c.in-Ok.ensures.cases.0) in (machine, rw same_root at meant.root.2))
+    (λ machine meant. let same_root : meant.root.0 ≡ root = cc (meant.root.1, c.in_ok-root.ensures, c.in-Ok.ensures.cases.0) in
+    (machine, rw same_root at meant.root.2))
     c.in_err-machine.ensures)

@@ -9,4 +9,5 @@ returns-in_err-only_keys c =
     let table = table_view c.args.table.now in
     let p = err_from_is_err_and c.from_residual.result c.from_residual.ensures.1 in
     rw (p.1, p.2)
-    (refused_whole (λ (done : Unit {0}). HasOnlyKeys system_keys table) (IsSystemTable table) c.in_err-only_keys.field-0.0 (λ whole meant. (tt, meant.only)) c.in_err-only_keys.ensures)
+    (refused_whole (λ (done : Unit {0}). HasOnlyKeys system_keys table) (IsSystemTable table) c.in_err-only_keys.field-0.0
+    (λ whole meant. (tt, meant.only)) c.in_err-only_keys.ensures)

@@ -16,21 +16,24 @@ line-requires g c = ap length c.bytes_at-row.ensures ∙ length-bytes_at _ _ _
 
 pub returns-in_err-write_all-clause-front : goal.returns-in_err-write_all-clause-front
 returns-in_err-write_all-clause-front g c =
-    let is_line = line_at-written c.args.memory.now c.args.start c.loop-k.k _ _ _ _ c.bytes_at-row.ensures c.fill-fill.ensures c.is_filled.ensures c.if-not-is_filled.true c.line.ensures in
+    let is_line = line_at-written c.args.memory.now c.args.start c.loop-k.k _ _ _ _ c.bytes_at-row.ensures c.fill-fill.ensures c.is_filled.ensures
+    c.if-not-is_filled.true c.line.ensures in
     on_err c.from_residual.result _ (rows_failed _ _ _ _ _ _ _ _ c.loop-k-test.true c.loop-k.invariant.so_far c.in_err-write_all.ensures.front is_line)
 
 pub loop-k-preserved : goal.loop-k-preserved
 loop-k-preserved g c =
     elim c.if-not-is_filled.branch [
       | then-not-is_filled+in_ok-write_all w ↦
-          let is_line = line_at-written c.args.memory.now c.args.start c.loop-k.k _ _ _ _ c.bytes_at-row.ensures c.fill-fill.ensures c.is_filled.ensures w.if-not-is_filled.true w.line.ensures in
+          let is_line = line_at-written c.args.memory.now c.args.start c.loop-k.k _ _ _ _ c.bytes_at-row.ensures c.fill-fill.ensures
+          c.is_filled.ensures w.if-not-is_filled.true w.line.ensures in
           record {
             so_far = ap g.K.Sink.taken w.out-is ∙ rows_more _ _ _ _ _ _ _ c.loop-k.invariant.so_far w.in_ok-write_all.ensures.ok is_line;
             unflushed = ap g.K.Sink.flushed w.out-is ∙ w.in_ok-write_all.ensures.unflushed ∙ c.loop-k.invariant.unflushed;
             sound = ap g.K.Sink.faults w.out-is ∙ w.in_ok-write_all.ensures.sound ∙ c.loop-k.invariant.sound;
           }
       | else-not-is_filled w ↦
-          let no_line = line_at-filled c.args.memory.now c.args.start c.loop-k.k _ _ _ c.bytes_at-row.ensures c.fill-fill.ensures c.is_filled.ensures w.if-not-is_filled.false in
+          let no_line = line_at-filled c.args.memory.now c.args.start c.loop-k.k _ _ _ c.bytes_at-row.ensures c.fill-fill.ensures c.is_filled.ensures
+          w.if-not-is_filled.false in
           record {
             so_far = ap g.K.Sink.taken w.out-is ∙ rows_same _ _ _ _ _ c.loop-k.invariant.so_far no_line;
             unflushed = ap g.K.Sink.flushed w.out-is ∙ c.loop-k.invariant.unflushed;

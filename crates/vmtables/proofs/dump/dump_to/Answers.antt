@@ -40,7 +40,8 @@ returns-clause-ok g c =
     let low = took_then _ _ _ _ _ first c.in_ok-dump_rows.ensures.ok in
     let bios = took_then _ _ _ _ _ low c.in_ok-dump_rows-2.ensures.ok in
     let rows = high_is c.args.memory.now _ (c.from-top.ensures ∙ c.top.ensures.value) in
-    let high = took_then _ _ _ _ _ bios (subst (Took (g.K.Sink.taken c.dump_rows-2.new.out) (g.K.Sink.taken c.dump_rows-3.new.out)) rows c.in_ok-dump_rows-3.ensures.ok) in
+    let high = took_then _ _ _ _ _ bios (subst (Took (g.K.Sink.taken c.dump_rows-2.new.out) (g.K.Sink.taken c.dump_rows-3.new.out)) rows
+    c.in_ok-dump_rows-3.ensures.ok) in
     on_ok_weaker c.write_all-2.result (all_taken _ _ _ c.args.memory.now high) c.write_all-2.ensures.ok
 
 pub returns-clause-front : goal.returns-clause-front
@@ -50,5 +51,6 @@ returns-clause-front g c =
     let low = took_then _ _ _ _ _ first c.in_ok-dump_rows.ensures.ok in
     let bios = took_then _ _ _ _ _ low c.in_ok-dump_rows-2.ensures.ok in
     let rows = high_is c.args.memory.now _ (c.from-top.ensures ∙ c.top.ensures.value) in
-    let high = took_then _ _ _ _ _ bios (subst (Took (g.K.Sink.taken c.dump_rows-2.new.out) (g.K.Sink.taken c.dump_rows-3.new.out)) rows c.in_ok-dump_rows-3.ensures.ok) in
+    let high = took_then _ _ _ _ _ bios (subst (Took (g.K.Sink.taken c.dump_rows-2.new.out) (g.K.Sink.taken c.dump_rows-3.new.out)) rows
+    c.in_ok-dump_rows-3.ensures.ok) in
     on_err_weaker c.write_all-2.result (last_failed _ _ _ c.args.memory.now high) c.write_all-2.ensures.front

@@ -14,12 +14,14 @@ placed_of-requires c =
 
 pub overflow_add-field : goal.overflow_add-field
 overflow_add-field c =
-    let low : EndsLow c.placed_of.result.now = (found_is_placed _ c.args.placed.now c.args.name.now c.placed_of.result.now c.placed_of.ensures c.requires.loading.files).1 in
+    let low : EndsLow c.placed_of.result.now = (found_is_placed _ c.args.placed.now c.args.name.now c.placed_of.result.now c.placed_of.ensures
+    c.requires.loading.files).1 in
     omega arith
 
 pub overflow_add-range : goal.overflow_add-range
 overflow_add-range c =
-    let low : EndsLow c.placed_of.result.now = (found_is_placed _ c.args.placed.now c.args.name.now c.placed_of.result.now c.placed_of.ensures c.requires.loading.files).1 in
+    let low : EndsLow c.placed_of.result.now = (found_is_placed _ c.args.placed.now c.args.name.now c.placed_of.result.now c.placed_of.ensures
+    c.requires.loading.files).1 in
     omega arith
 
 pub read-byte-requires : goal.read-byte-requires
@@ -44,9 +46,12 @@ pub returns-clause-after : goal.returns-clause-after
 returns-clause-after c =
     let sum : IsSum c.args.memory.now c.args.placed.now c.args.name.now c.args.offset c.args.start c.args.length c.placed_of.result.now =
     record { loading = c.requires.loading; found = c.placed_of.ensures; lawful = c.requires.lawful } in
-    let byte : (c.read-byte.result + (256 - c.sum_range-sum.result)) % 256 ≡ (at c.args.memory.now (c.placed_of.result.now.place + c.from.result) + (256 - byte_sum (bytes_at c.args.memory.now (c.placed_of.result.now.place + c.from-2.result) c.args.length))) % 256 =
+    let byte : (c.read-byte.result + (256 - c.sum_range-sum.result)) % 256
+    ≡ (at c.args.memory.now (c.placed_of.result.now.place + c.from.result) + (256 - byte_sum
+    (bytes_at c.args.memory.now (c.placed_of.result.now.place + c.from-2.result) c.args.length))) % 256 =
     ap₂ (λ byte range. (byte + (256 - range)) % 256) c.read-byte.ensures c.sum_range-sum.ensures in
-    sum_after _ _ _ _ _ _ _ _ _ _ _ (ap (λ offset. c.placed_of.result.now.place + offset) c.from.ensures) (ap (λ start. c.placed_of.result.now.place + start) c.from-2.ensures) sum byte c.write.ensures
+    sum_after _ _ _ _ _ _ _ _ _ _ _ (ap (λ offset. c.placed_of.result.now.place + offset) c.from.ensures)
+    (ap (λ start. c.placed_of.result.now.place + start) c.from-2.ensures) sum byte c.write.ensures
 
 pub returns-clause-step : goal.returns-clause-step
 returns-clause-step c =

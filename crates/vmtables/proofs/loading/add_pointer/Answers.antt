@@ -12,37 +12,44 @@ placed_of-requires c =
 
 pub overflow_add-field : goal.overflow_add-field
 overflow_add-field c =
-    let low : EndsLow c.placed_of.result.now = (found_is_placed _ c.args.placed.now c.args.dest.now c.placed_of.result.now c.placed_of.ensures c.requires.loading.files).1 in
+    let low : EndsLow c.placed_of.result.now = (found_is_placed _ c.args.placed.now c.args.dest.now c.placed_of.result.now c.placed_of.ensures
+    c.requires.loading.files).1 in
     omega arith
 
 pub placed_of-requires-2 : goal.placed_of-requires-2
 placed_of-requires-2 c =
     some_named c.args.memory.now c.args.placed.now c.args.src.now
-    (source_placed _ c.args.dest.now c.args.src.now c.args.offset c.args.size _ (found_in c.args.memory.now c.args.placed.now c.args.dest.now c.placed_of.result.now c.placed_of.ensures) c.requires.lawful)
+    (source_placed _ c.args.dest.now c.args.src.now c.args.offset c.args.size _
+    (found_in c.args.memory.now c.args.placed.now c.args.dest.now c.placed_of.result.now c.placed_of.ensures) c.requires.lawful)
 
 pub patch_add-requires-clause-ram : goal.patch_add-requires-clause-ram
 patch_add-requires-clause-ram c =
-    let pointer : IsPointer c.args.memory.now c.args.placed.now c.args.dest.now c.args.src.now c.args.offset c.args.size c.placed_of.result.now c.placed_of-2.result.now =
+    let pointer : IsPointer c.args.memory.now c.args.placed.now c.args.dest.now c.args.src.now c.args.offset c.args.size c.placed_of.result.now
+    c.placed_of-2.result.now =
     record { loading = c.requires.loading; dest_is = c.placed_of.ensures; src_is = c.placed_of-2.ensures; lawful = c.requires.lawful } in
     pointer_ram _ _ _ _ _ _ _ _ _ (ap (λ offset. c.placed_of.result.now.place + offset) c.from.ensures) pointer
 
 pub unwrap-requires : goal.unwrap-requires
 unwrap-requires c =
-    let pointer : IsPointer c.args.memory.now c.args.placed.now c.args.dest.now c.args.src.now c.args.offset c.args.size c.placed_of.result.now c.placed_of-2.result.now =
+    let pointer : IsPointer c.args.memory.now c.args.placed.now c.args.dest.now c.args.src.now c.args.offset c.args.size c.placed_of.result.now
+    c.placed_of-2.result.now =
     record { loading = c.requires.loading; dest_is = c.placed_of.ensures; src_is = c.placed_of-2.ensures; lawful = c.requires.lawful } in
-    let fits = pointer_fits _ _ _ _ _ _ (c.placed_of.result.now.place + c.from.result) _ _ (ap (λ offset. c.placed_of.result.now.place + offset) c.from.ensures) pointer in
+    let fits = pointer_fits _ _ _ _ _ _ (c.placed_of.result.now.place + c.from.result) _ _
+    (ap (λ offset. c.placed_of.result.now.place + offset) c.from.ensures) pointer in
     IsOk-from c.patch_add.result (λ error. absurd (omega (arith, fits, c.patch_add.ensures.too_far.0 error)))
 
 pub returns-clause-after : goal.returns-clause-after
 returns-clause-after c =
-    let pointer : IsPointer c.args.memory.now c.args.placed.now c.args.dest.now c.args.src.now c.args.offset c.args.size c.placed_of.result.now c.placed_of-2.result.now =
+    let pointer : IsPointer c.args.memory.now c.args.placed.now c.args.dest.now c.args.src.now c.args.offset c.args.size c.placed_of.result.now
+    c.placed_of-2.result.now =
     record { loading = c.requires.loading; dest_is = c.placed_of.ensures; src_is = c.placed_of-2.ensures; lawful = c.requires.lawful } in
     pointer_after _ _ _ _ _ _ _ (c.placed_of.result.now.place + c.from.result) _ _ (ap (λ offset. c.placed_of.result.now.place + offset) c.from.ensures) pointer
     (OnOk-at_ok _ c.patch_add.result c.unwrap.result c.unwrap.ensures c.patch_add.ensures.ok)
 
 pub returns-clause-step : goal.returns-clause-step
 returns-clause-step c =
-    let pointer : IsPointer c.args.memory.now c.args.placed.now c.args.dest.now c.args.src.now c.args.offset c.args.size c.placed_of.result.now c.placed_of-2.result.now =
+    let pointer : IsPointer c.args.memory.now c.args.placed.now c.args.dest.now c.args.src.now c.args.offset c.args.size c.placed_of.result.now
+    c.placed_of-2.result.now =
     record { loading = c.requires.loading; dest_is = c.placed_of.ensures; src_is = c.placed_of-2.ensures; lawful = c.requires.lawful } in
     pointer_step _ _ _ _ _ _ _ (c.placed_of.result.now.place + c.from.result) _ _ (ap (λ offset. c.placed_of.result.now.place + offset) c.from.ensures) pointer
     (OnOk-at_ok _ c.patch_add.result c.unwrap.result c.unwrap.ensures c.patch_add.ensures.ok)

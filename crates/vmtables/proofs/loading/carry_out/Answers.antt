@@ -7,6 +7,7 @@ pub returns-in-Allocate-clause-after : goal.returns-in-Allocate-clause-after
 returns-in-Allocate-clause-after c = λ place.
     subst
     (λ entry. IsLowPlace c.args.memory.now.top c.args.files.now (files_in c.args.memory.now c.args.placed.now.items) entry place
-    → carried_out c.args.files.now entry place (files_in c.args.memory.now c.args.placed.now.items) ≡ Some (files_in c.allocate.new.memory c.allocate.new.placed.items))
+    → carried_out c.args.files.now entry place (files_in c.args.memory.now c.args.placed.now.items)
+    ≡ Some (files_in c.allocate.new.memory c.allocate.new.placed.items))
     (sym c.in-Allocate.is)
     (c.allocate.ensures.after place)

@@ -8,10 +8,12 @@ use Rattle.vmtables.proofs.loading.placed_of.Goals as goal
 
 pub unwrap-requires : goal.unwrap-requires
 unwrap-requires c =
-    let found = find_from_yields_List (λ (p : PlacedFile). bytes_eq p.name c.args.name.now) _ _ c.find.result c.find.ensures.ran (YieldsList-from_slice c.args.placed.now cc) (λ x b q k. search (rules, tests)) in
+    let found = find_from_yields_List (λ (p : PlacedFile). bytes_eq p.name c.args.name.now) _ _ c.find.result c.find.ensures.ran
+    (YieldsList-from_slice c.args.placed.now cc) (λ x b q k. search (rules, tests)) in
     IsSome-before_map _ c.find.result (subst IsSome (sym found) c.requires)
 
 pub returns : goal.returns
 returns c =
-    let found = find_from_yields_List (λ (p : PlacedFile). bytes_eq p.name c.args.name.now) _ _ c.find.result c.find.ensures.ran (YieldsList-from_slice c.args.placed.now cc) (λ x b q k. search (rules, tests)) in
+    let found = find_from_yields_List (λ (p : PlacedFile). bytes_eq p.name c.args.name.now) _ _ c.find.result c.find.ensures.ran
+    (YieldsList-from_slice c.args.placed.now cc) (λ x b q k. search (rules, tests)) in
     sym found ∙ ap (option_map _) c.unwrap.ensures

@@ -9,7 +9,12 @@ loop-end-init c =
     record {
       aligned = (c.next_multiple_of-place.result / c.args.align, multiple_of _ _ next.multiple);
       from = next.lower_bound;
-      least = λ other free. omega (arith, next_is_least c.args.zone.start c.args.align c.next_multiple_of-place.result free.aligned.0 next.multiple next.upper_bound (omega (arith, free.aligned.1, free.from)), free.aligned.1);
+      least = λ other free. omega (
+        arith,
+        next_is_least c.args.zone.start c.args.align c.next_multiple_of-place.result free.aligned.0 next.multiple
+            next.upper_bound (omega (arith, free.aligned.1, free.from)),
+        free.aligned.1,
+      );
     }
 
 pub end_of_overlap-requires-clause-range : goal.end_of_overlap-requires-clause-range
@@ -32,7 +37,8 @@ loop-end-preserved c =
     record {
       aligned = (c.next_multiple_of-place-in-Some.result / c.args.align, multiple_of _ _ next.multiple);
       from = omega (arith, next.lower_bound, c.loop-end.invariant.from);
-      least = λ other free. past_next _ c.args.placed.now c.args.size c.args.align c.loop-end.place other c.in-Some.end _ c.in-Some.ensures.met free (c.loop-end.invariant.least other free) next.multiple next.upper_bound;
+      least = λ other free. past_next _ c.args.placed.now c.args.size c.args.align c.loop-end.place other c.in-Some.end _ c.in-Some.ensures.met free
+          (c.loop-end.invariant.least other free) next.multiple next.upper_bound;
     }
 
 pub returns : goal.returns

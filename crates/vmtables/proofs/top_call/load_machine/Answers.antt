@@ -1,9 +1,4 @@
-use Rattle.std.proofs.Common.{refl}
-use Rattle.vmtables.proofs.Loaded.{loaded}
 use Rattle.vmtables.proofs.top_call.load_machine.Goals as goal
 
 pub returns-clause-ok : goal.returns-clause-ok
-returns-clause-ok c =
-    let image = c.in_ok-image.ensures in
-    loaded c.args.description.now c.in_ok-machine.machine c.in_ok-image.image.files c.in_ok-image.image.script _ c.begin.new.self c.load.new.self c.in_ok-machine.ensures image.runs image.shown image.files image.script
-    refl c.in_ok-begin.ensures.ok c.load.ensures.done c.load.ensures.left c.load.ensures.same
+returns-clause-ok c = c.in_ok-load_image.ensures.ok c.args.description.now c.in_ok-machine.ensures

@@ -11,7 +11,8 @@ loop-place-preserved c =
     let next : place - 1 + 1 ≡ place = omega arith in
     let count : c.args.at + c.args.n - (place - 1) ≡ done + 1 = omega arith in
     let within : done < 8 = omega arith in
-    let both = pushed (take done (drop place bytes)) done _ c.from.result within c.loop-place.invariant.value c.loop-place.invariant.small (omega (arith, c.type_inv.bytes (place - 1))) in
+    let both = pushed (take done (drop place bytes)) done _ c.from.result within c.loop-place.invariant.value c.loop-place.invariant.small
+    (omega (arith, c.type_inv.bytes (place - 1))) in
     let spelt : c.from.result + 256 * le (take done (drop place bytes)) ≡ le (take (done + 1) (drop (place - 1) bytes)) =
     ap (λ byte. byte + 256 * le (take done (drop place bytes))) c.from.ensures
     ∙ ap (λ p. slice_index bytes (place - 1) + 256 * le (take done (drop p bytes))) (sym next)

@@ -7,5 +7,6 @@ use Rattle.vt_outside.proofs.name.place_of_nul.Goals as goal
 
 pub returns-clause-first : goal.returns-clause-first
 returns-clause-first c =
-    let found = position_from_yields_List (λ byte. byte == 0) _ _ c.position.result c.position.ensures.ran (YieldsList-from_slice c.args.bytes.now cc) (λ x b q k. search (rules, tests)) in
+    let found = position_from_yields_List (λ byte. byte == 0) _ _ c.position.result c.position.ensures.ran
+    (YieldsList-from_slice c.args.bytes.now cc) (λ x b q k. search (rules, tests)) in
     grind (arith, nat_tests, prefix_len-le-length)

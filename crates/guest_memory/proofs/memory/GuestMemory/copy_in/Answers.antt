@@ -20,8 +20,10 @@ invariant_of-self c =
     let top : IsTop c.args.self.now.top = subst (λ m. IsTop m.top) c.self.view_is c.self.invariant.top in
     let some : 0 < length c.args.bytes.now = not_empty _ _ c.is_empty.ensures c.if-is_empty.false in
     let within = in_low _ _ _ top c.requires some c.if-address.true in
-    let wrote = wrote_slice c.self.inside.low.items c.args.address _ _ _ _ c.args.bytes.now c.deref_mut.ensures.value c.copy_from_slice.ensures.after (omega arith) c.self.inside.low.ok.0 (omega (arith, within.1)) in
-    keeps_low (record { top = c.self.inside.top; fill = c.self.inside.fill; low = c.self.inside.low.items; high = c.self.inside.high.items }) _ c.args.address c.args.bytes.now refl refl refl wrote c.self.invariant within.0
+    let wrote = wrote_slice c.self.inside.low.items c.args.address _ _ _ _ c.args.bytes.now c.deref_mut.ensures.value c.copy_from_slice.ensures.after
+    (omega arith) c.self.inside.low.ok.0 (omega (arith, within.1)) in
+    keeps_low (record { top = c.self.inside.top; fill = c.self.inside.fill; low = c.self.inside.low.items; high = c.self.inside.high.items }) _
+    c.args.address c.args.bytes.now refl refl refl wrote c.self.invariant within.0
 
 pub returns-then-address : goal.returns-then-address
 returns-then-address c =
@@ -39,5 +41,6 @@ returns-else-address c =
     let within = in_high _ _ _ top c.requires some c.if-address.false in
     let same : c.self.inside.top ≡ c.args.self.now.top = ap (λ m. m.top) c.self.view_is in
     puts_high _ _ _ _ _ _ c.self.view_is refl refl refl
-    (wrote_slice _ _ _ _ _ _ _ c.deref_mut-else-address.ensures.value c.copy_from_slice-else-address.ensures.after (omega arith) c.self.inside.high.ok.0 (omega (arith, within.1)))
+    (wrote_slice _ _ _ _ _ _ _ c.deref_mut-else-address.ensures.value c.copy_from_slice-else-address.ensures.after (omega arith)
+    c.self.inside.high.ok.0 (omega (arith, within.1)))
     c.self.invariant.top (omega arith)

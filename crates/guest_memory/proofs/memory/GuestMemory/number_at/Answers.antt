@@ -7,10 +7,13 @@ use Rattle.guest_memory.proofs.memory.GuestMemory.number_at.Goals as goal
 
 pub get_le-requires-clause-within : goal.get_le-requires-clause-within
 get_le-requires-clause-within c =
-    let size : length c.bytes_at.result.now ≡ c.from-size.result = ap length c.bytes_at.ensures ∙ length-bytes_at c.args.self.now c.args.address c.from-size.result in
+    let size : length c.bytes_at.result.now ≡ c.from-size.result = ap length c.bytes_at.ensures
+    ∙ length-bytes_at c.args.self.now c.args.address c.from-size.result in
     omega arith
 
 pub returns : goal.returns
 returns c =
-    let size : length c.bytes_at.result.now ≡ c.from-size.result = ap length c.bytes_at.ensures ∙ length-bytes_at c.args.self.now c.args.address c.from-size.result in
-    c.get_le.ensures ∙ ap le (take_all c.from-size.result c.bytes_at.result.now (omega arith) ∙ c.bytes_at.ensures ∙ ap (bytes_at c.args.self.now c.args.address) c.from-size.ensures)
+    let size : length c.bytes_at.result.now ≡ c.from-size.result = ap length c.bytes_at.ensures
+    ∙ length-bytes_at c.args.self.now c.args.address c.from-size.result in
+    c.get_le.ensures ∙ ap le (take_all c.from-size.result c.bytes_at.result.now (omega arith) ∙ c.bytes_at.ensures
+    ∙ ap (bytes_at c.args.self.now c.args.address) c.from-size.ensures)

@@ -7,4 +7,5 @@ pub returns-clause-left : goal.returns-clause-left
 returns-clause-left c = λ after runs.
     IsLeft-from_loading _ _ after c.run_script.ensures.step.loading
     (c.run_script.ensures.after after
-    (runs_seen _ _ _ _ _ _ _ after c.as_slice.ensures c.as_slice-2.ensures (ap (files_in c.args.self.now.memory) (c.requires.kept.none_placed c.requires.running)) runs))
+    (runs_seen _ _ _ _ _ _ _ after c.as_slice.ensures c.as_slice-2.ensures
+    (ap (files_in c.args.self.now.memory) (c.requires.kept.none_placed c.requires.running)) runs))

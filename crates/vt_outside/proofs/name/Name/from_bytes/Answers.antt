@@ -14,4 +14,5 @@ pub returns : goal.returns
 returns c =
     let not_empty = eqb-false (length c.args.text.now) 0 (sym c.if-is_empty.ensures) in
     let printable : list_all is_printable c.args.text.now ≡ true = sym c.if-not-are_printable.ensures in
-    ap (λ x. Ok x) (before_nul-copied c.args.text.now _ c.copy_from_slice.ensures.after printable) ∙ sym (IsName-from_tests c.args.text.now c.if-text-gt-LONGEST.false (omega arith) printable)
+    ap (λ x. Ok x) (before_nul-copied c.args.text.now _ c.copy_from_slice.ensures.after printable)
+    ∙ sym (IsName-from_tests c.args.text.now c.if-text-gt-LONGEST.false (omega arith) printable)

@@ -1,0 +1,9 @@
+use Rattle.std.proofs.Common.{◌≡◌, take}
+use Rattle.std.specs.List.{AllByRecursion}
+use Rattle.smbios_build.specs.Spelling.{structures_bytes}
+use Rattle.smbios_build.proofs.Read.{IsRead}
+use Rattle.smbios_build.proofs.building.spell.Given as goal
+
+abbrev pub invariant-loop-structure : goal.invariant-loop-structure
+invariant-loop-structure l =
+    (l.bytes ≡ structures_bytes (take l.structure-index l.structures)) × AllByRecursion IsRead (take l.structure-index l.structures)

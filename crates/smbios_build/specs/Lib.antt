@@ -1,0 +1,10 @@
+pub mod Cut
+pub mod Spelling
+pub mod Buildable
+pub use Rattle.vt_bytes.specs.Numbers
+pub use Rattle.vt_layout.specs.Rows
+pub use Rattle.machine_desc.specs.Rules
+pub use Rattle.table_model.specs.Strings
+pub use Rattle.table_model.specs.SystemInformation
+pub use Rattle.table_model.specs.Anchor
+pub use Rattle.table_model.specs.Smbios

@@ -1,0 +1,108 @@
+ghost use Rattle.std.specs.Prelude.{◌≡◌, ◌<◌, ◌≤◌, ◌+◌, ◌==◌, [], ◌∷◌, ◌++◌, length, map, IfOk, OnOk, OnErr, if◌then◌else◌};
+ghost use Rattle.std.specs.List.{AllByRecursion};
+ghost use Rattle.table_model.specs.Strings.{HasNoNul, IsString, numbers_from, strings_of, string_set};
+
+use std::alloc::Global;
+use std::marker::Model;
+use vt_outside::{Bytes, OutOfMemory, Text};
+
+/// The strings of a structure while it is built (DSP0134 6.1.3). Contracts see their list, in the order of their numbers, which
+/// count from 1.
+#[derive(Drop)]
+pub struct StringSet {
+    count: u8,
+    // Each string with its NUL.
+    bytes: Bytes,
+}
+
+impl Model for StringSet {
+    ghost use Rattle.std.specs.Prelude.{ℕ, List};
+    ghost use Rattle.smbios_build.specs.Cut.{cut_at_nuls, AreStringsIn};
+
+    ghost Value = { List (List ℕ) };
+
+    ghost view = { λ s. cut_at_nuls s.bytes };
+
+    ghost invariant = { λ s. AreStringsIn s.bytes s.count };
+}
+
+impl StringSet {
+    /// Returns a set without strings. It takes memory from `alloc` when a string is added, none before.
+    pub fn new(alloc: Global) -> StringSet
+        ensures { result ≡ [] }
+    {
+        StringSet {
+            count: 0,
+            bytes: Bytes::new(alloc),
+        }
+    }
+
+    /// Adds `text`, which holds no NUL, and returns its number: the next one, or 0 for the empty text, which isn't added. The
+    /// set has less than 255 strings before, so that their numbers fit a byte. Returns `OutOfMemory` when memory runs out; the
+    /// set is then as before.
+    pub fn add(&mut self, text: &Text) -> Result<u8, OutOfMemory>
+        requires few { length self.old < 255 }
+        requires no_nul { HasNoNul text.now }
+        ensures number { IfOk result (λ number. number ≡ (if length text.now == 0 then 0 else length self.old + 1)) }
+        ensures ok { OnOk result (self.new ≡ self.old ++ strings_of (text.now ∷ [])) }
+        ensures err { OnErr result (self.new ≡ self.old) }
+    {
+        if text.len() == 0 {
+            return Ok(0);
+        }
+        let size = self.bytes.len();
+        self.bytes.extend(text.as_slice())?;
+        if let Err(fault) = self.bytes.push(0) {
+            self.bytes.cut(size);
+            return Err(fault);
+        }
+        self.count += 1;
+        Ok(self.count)
+    }
+
+    /// Appends the strings to `bytes`, which end in a structure's area: each with its NUL and one more NUL, or two NULs where
+    /// there are none. Returns `OutOfMemory` when memory runs out; what `bytes` then holds is unspecified.
+    pub(crate) fn put_after(&self, bytes: &mut Bytes) -> Result<(), OutOfMemory>
+        ensures { OnOk result (bytes.new ≡ bytes.old ++ string_set self.now) }
+    {
+        if self.count == 0 {
+            return bytes.extend(&[0, 0]);
+        }
+        bytes.extend(self.bytes.as_slice())?;
+        bytes.push(0)
+    }
+}
+
+/// Adds the `N` texts of `texts` to `strings`, in order, and returns their numbers, 0 for an empty text. No text holds a NUL,
+/// and `strings` has at most 255 - `N` strings before. Returns `OutOfMemory` when memory runs out; some of the texts may then
+/// have been added.
+pub(crate) fn numbers_of<const N: usize>(
+    strings: &mut StringSet,
+    texts: &[&Text],
+) -> Result<[u8; N], OutOfMemory>
+    requires each { length texts.now ≡ N }
+    requires few { length strings.old + N ≤ 255 }
+    requires no_nuls { AllByRecursion (λ text. HasNoNul text.now) texts.now }
+    ensures numbers { IfOk result (λ numbers. numbers ≡ numbers_from (length strings.old + 1) (map (λ text. text.now) texts.now)) }
+    ensures ok { OnOk result (strings.new ≡ strings.old ++ strings_of (map (λ text. text.now) texts.now)) }
+{
+    let mut numbers = [0; N];
+    for (place, text) in texts.iter().enumerate() {
+        numbers[place] = strings.add(text)?;
+    }
+    Ok(numbers)
+}
+
+/// Returns the set of `strings`, in order. There are at most 255 of them, and none is empty or holds a NUL. The set takes its
+/// memory from `alloc`. Returns `OutOfMemory` when memory runs out.
+pub(crate) fn set_of(alloc: Global, strings: &[Text]) -> Result<StringSet, OutOfMemory>
+    requires few { length strings.now ≤ 255 }
+    requires texts { AllByRecursion IsString strings.now }
+    ensures { IfOk result (λ set. set ≡ strings.now) }
+{
+    let mut set = StringSet::new(alloc);
+    for text in strings {
+        set.add(text)?;
+    }
+    Ok(set)
+}

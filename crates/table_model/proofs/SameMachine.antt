@@ -1,0 +1,235 @@
+-- Two accepted machines with one inventory are the same.
+use Rattle.std.proofs.Common.{◌≡◌, ℕ, zero, suc, ◌-◌, ◌*◌, ◌^◌, ◌<◌, Bool, true, false, not, ◌||◌}
+use Rattle.std.proofs.Common.{List, [], ◌∷◌, ◌++◌, length, replicate, reverse, slice_index}
+use Rattle.std.proofs.Common.{Option, Some, None, IfSome, nat_le, is_some, ◌==◌, arith, refl, ap, sym, ◌∙◌}
+use Rattle.std.proofs.lemmas.Bool.{and_parts}
+use Rattle.std.proofs.lemmas.Bool.Decides.{nat_tests}
+use Rattle.std.proofs.lemmas.List.{reverse-reverse}
+use Rattle.std.specs.Int.{w128, to_be_bytes}
+use Rattle.std.specs.Option.{option_map, option_map_or}
+use Rattle.uuid.specs.Parts.{swap_fields}
+use Rattle.vt_bytes.specs.Numbers.{le, le_bytes}
+use Rattle.vt_bytes.proofs.Numbers.{le-le_bytes, le_bytes-whole, bytes_high_first-reverse}
+use Rattle.machine_desc.specs.declared.machine.Machine.{Machine}
+use Rattle.machine_desc.specs.declared.machine.System.{System as SystemPart}
+use Rattle.machine_desc.specs.declared.machine.Acpi.{Acpi}
+use Rattle.machine_desc.specs.declared.machine.Hpet.{Hpet}
+use Rattle.machine_desc.specs.Rules.{only_at, is_own_uuid, is_padded_text, breaches, IsAccepted, HasFitting}
+use Rattle.machine_desc.proofs.Kept.{each_is_kept}
+use Rattle.table_model.specs.declared.hpet.HpetTable.{HpetTable}
+use Rattle.table_model.specs.declared.acpi.AcpiTables.{AcpiTables}
+use Rattle.table_model.specs.declared.system_information.SystemInfo.{SystemInfo}
+use Rattle.table_model.specs.declared.smbios.Body.TheVariants.{System}
+use Rattle.table_model.specs.declared.smbios.Structure.{Structure}
+use Rattle.table_model.specs.declared.smbios.SmbiosTable.{SmbiosTable}
+use Rattle.table_model.specs.declared.inventory.Inventory.{Inventory}
+use Rattle.table_model.specs.Header.{padded}
+use Rattle.table_model.specs.Hpet.{hpet_of}
+use Rattle.table_model.specs.Acpi.{acpi_of}
+use Rattle.table_model.specs.SystemInformation.{uuid_field, info_of}
+use Rattle.table_model.specs.Smbios.{structures_of, smbios_of}
+use Rattle.table_model.specs.Inventory.{inventory_of}
+use Rattle.table_model.proofs.AcceptedAcpi.{accepted_padded}
+
+-- the last byte of a text is no space
+abbrev NoSpace : List ℕ → Type 0
+NoSpace text = slice_index text (length text - 1) ≡ 0x20 → ⊥
+
+-- the last byte of a longer text
+last_of_more : (first next : ℕ) (text : List ℕ)
+    → slice_index (first ∷ next ∷ text) (length (first ∷ next ∷ text) - 1) ≡ slice_index (next ∷ text) (length (next ∷ text) - 1)
+last_of_more first next text =
+    let place : length (first ∷ next ∷ text) - 1 ≡ suc (length (next ∷ text) - 1) = omega arith in
+    ap (slice_index (first ∷ next ∷ text)) place
+
+no_space_behind : (first : ℕ) (text : List ℕ) → NoSpace (first ∷ text) → NoSpace text
+no_space_behind first [] none = λ is. absurd (cc)
+no_space_behind first (next ∷ text) none = λ is. none (last_of_more first next text ∙ is)
+
+-- spaces alone are no text that doesn't end in one
+only_spaces : (count more : ℕ) (first : ℕ) (text : List ℕ) → NoSpace (first ∷ text)
+    → replicate count 0x20 ≡ (first ∷ text) ++ replicate more 0x20 → ⊥
+only_spaces zero more first text none same = absurd (cc)
+only_spaces (suc count) more first [] none same = none (cc)
+only_spaces (suc count) more first (next ∷ text) none same = only_spaces count more next text (no_space_behind first (next ∷ text) none) (cc)
+
+-- texts that don't end in a space are the same where they are with spaces behind them
+one_padded : (s t : List ℕ) (j k : ℕ) → NoSpace s → NoSpace t → s ++ replicate j 0x20 ≡ t ++ replicate k 0x20 → s ≡ t
+one_padded [] [] j k s_none t_none same = refl
+one_padded [] (b ∷ t) j k s_none t_none same = absurd (only_spaces j k b t t_none same)
+one_padded (a ∷ s) [] j k s_none t_none same = absurd (only_spaces k j a s s_none (sym same))
+one_padded (a ∷ s) (b ∷ t) j k s_none t_none same =
+    let first : a ≡ b = cc in
+    let rest : s ≡ t = one_padded s t j k (no_space_behind a s s_none) (no_space_behind b t t_none) (cc) in
+    cc
+
+no_space : (size : ℕ) (text : List ℕ) → is_padded_text size text ≡ true → NoSpace text
+no_space size text is ends =
+    let parts = and_parts (nat_le (length text) size) (not (slice_index text (length text - 1) == 0x20)) is in
+    space_is_no_other (slice_index text (length text - 1)) parts.1 ends
+  where
+    space_is_no_other : (byte : ℕ) → not (byte == 0x20) ≡ true → byte ≡ 0x20 → ⊥
+    space_is_no_other byte other is = grind (arith, nat_tests)
+
+one_text : (size : ℕ) (s t : List ℕ) → is_padded_text size s ≡ true → is_padded_text size t ≡ true → padded size s ≡ padded size t → s ≡ t
+one_text size s t is also same = one_padded s t (size - length s) (size - length t) (no_space size s is) (no_space size t also) same
+
+-- the number of a UUID's field
+value_in : List ℕ → ℕ
+value_in field = le (reverse (swap_fields field))
+
+value_in-some : (uuid : ℕ) → uuid < 2 ^ 128 → value_in (uuid_field (Some uuid)) ≡ uuid
+unfolding value_in
+value_in-some uuid fits =
+    let turned : swap_fields (swap_fields (to_be_bytes w128 uuid)) ≡ to_be_bytes w128 uuid = refl in
+    let bytes : to_be_bytes w128 uuid ≡ reverse (le_bytes 16 uuid) = bytes_high_first-reverse 16 uuid ∙ ap reverse (le_bytes-whole 16 uuid) in
+    ap (λ field. le (reverse field)) bytes ∙ ap le (reverse-reverse (le_bytes 16 uuid)) ∙ le-le_bytes 16 uuid fits
+
+value_in-none : value_in (uuid_field None) ≡ 0
+unfolding value_in
+value_in-none = refl
+
+-- a UUID of its own isn't zero
+not_zero : (uuid : ℕ) → is_own_uuid uuid ≡ true → uuid ≡ 0 → ⊥
+not_zero uuid own is =
+    let parts = and_parts (not (uuid == 0)) (not (uuid == 2 ^ 128 - 1)) own in
+    zero_is_zero uuid parts.0 is
+  where
+    zero_is_zero : (uuid : ℕ) → not (uuid == 0) ≡ true → uuid ≡ 0 → ⊥
+    zero_is_zero uuid other is = grind (arith, nat_tests)
+
+-- UUIDs with one field are the same
+one_uuid : (u v : Option ℕ) → IfSome u (λ uuid. uuid < 2 ^ 128) → IfSome v (λ uuid. uuid < 2 ^ 128) → option_map_or is_own_uuid u true ≡ true
+    → option_map_or is_own_uuid v true ≡ true → uuid_field u ≡ uuid_field v → u ≡ v
+one_uuid None None u_fits v_fits u_own v_own same = refl
+one_uuid None (Some v) u_fits v_fits u_own v_own same =
+    absurd (not_zero v v_own (sym (value_in-some v v_fits) ∙ sym (ap value_in same) ∙ value_in-none))
+one_uuid (Some u) None u_fits v_fits u_own v_own same =
+    absurd (not_zero u u_own (sym (value_in-some u u_fits) ∙ ap value_in same ∙ value_in-none))
+one_uuid (Some u) (Some v) u_fits v_fits u_own v_own same =
+    ap Some (sym (value_in-some u u_fits) ∙ ap value_in same ∙ value_in-some v v_fits)
+
+only_none : (index : ℕ) (holds : Bool) → only_at index holds ≡ None → holds ≡ true
+only_none index true none = refl
+only_none index false none = absurd (cc)
+
+own_uuid : (m : Machine) → IsAccepted m → option_map_or is_own_uuid m.system.uuid true ≡ true
+own_uuid m accepted = only_none 0 (option_map_or is_own_uuid m.system.uuid true) (each_is_kept 4 (breaches m) accepted)
+
+-- the system of these parts
+system_from : List ℕ → List ℕ → List ℕ → List ℕ → List ℕ → List ℕ → Option ℕ → SystemPart
+system_from manufacturer product version serial sku family uuid = record {
+  manufacturer = manufacturer;
+  product = product;
+  version = version;
+  serial = serial;
+  sku = sku;
+  family = family;
+  uuid = uuid;
+}
+
+system_from-parts : (s : SystemPart) → system_from s.manufacturer s.product s.version s.serial s.sku s.family s.uuid ≡ s
+unfolding system_from
+system_from-parts s = refl
+
+-- its first structure
+abbrev system_structure : SystemPart → Structure
+system_structure s = record { handle = 0x0100; body = System (info_of s) }
+
+-- a machine's System Information is in its inventory
+info_in : (a b : Machine) → inventory_of a ≡ inventory_of b → info_of a.system ≡ info_of b.system
+info_in a b same =
+    let shown : ◌≡◌ {A = Option SmbiosTable} (Some (smbios_of a.system)) (Some (smbios_of b.system)) = ap (λ (i : Inventory). i.smbios) same in
+    let tables : smbios_of a.system ≡ smbios_of b.system = cc in
+    let lists : structures_of a.system ≡ structures_of b.system = ap (λ (t : SmbiosTable). t.structures) tables in
+    let firsts : system_structure a.system ≡ system_structure b.system = cc in
+    let bodies : System (info_of a.system) ≡ System (info_of b.system) = ap (λ (s : Structure). s.body) firsts in
+    cc
+
+same_system : (a b : Machine) → HasFitting a → HasFitting b → IsAccepted a → IsAccepted b → inventory_of a ≡ inventory_of b → a.system ≡ b.system
+same_system a b a_fits b_fits a_accepted b_accepted same =
+    let infos = info_in a b same in
+    let manufacturer : a.system.manufacturer ≡ b.system.manufacturer = ap (λ (i : SystemInfo). i.manufacturer) infos in
+    let product : a.system.product ≡ b.system.product = ap (λ (i : SystemInfo). i.product) infos in
+    let version : a.system.version ≡ b.system.version = ap (λ (i : SystemInfo). i.version) infos in
+    let serial : a.system.serial ≡ b.system.serial = ap (λ (i : SystemInfo). i.serial) infos in
+    let sku : a.system.sku ≡ b.system.sku = ap (λ (i : SystemInfo). i.sku) infos in
+    let family : a.system.family ≡ b.system.family = ap (λ (i : SystemInfo). i.family) infos in
+    let uuid : a.system.uuid ≡ b.system.uuid =
+    one_uuid a.system.uuid b.system.uuid a_fits b_fits (own_uuid a a_accepted) (own_uuid b b_accepted) (ap (λ (i : SystemInfo). i.uuid) infos) in
+    same_parts a.system b.system manufacturer product version serial sku family uuid
+  where
+    same_parts : (s t : SystemPart) → s.manufacturer ≡ t.manufacturer → s.product ≡ t.product → s.version ≡ t.version → s.serial ≡ t.serial
+        → s.sku ≡ t.sku → s.family ≡ t.family → s.uuid ≡ t.uuid → s ≡ t
+    same_parts s t manufacturer product version serial sku family uuid =
+        let parts : system_from s.manufacturer s.product s.version s.serial s.sku s.family s.uuid
+        ≡ system_from t.manufacturer t.product t.version t.serial t.sku t.family t.uuid = cc in
+        sym (system_from-parts s) ∙ parts ∙ system_from-parts t
+
+-- the HPET of a table
+hpet_in : HpetTable → Hpet
+hpet_in t = record { address = t.address.address; block_id = t.block_id; number = t.number; min_tick = t.min_tick }
+
+hpet_in-of : (acpi : Acpi) (hpet : Hpet) → hpet_in (hpet_of acpi hpet) ≡ hpet
+unfolding hpet_in
+hpet_in-of acpi hpet = refl
+
+same_hpet : (x y : Acpi) (g h : Option Hpet) → option_map (hpet_of x) g ≡ option_map (hpet_of y) h → g ≡ h
+same_hpet x y None None same = refl
+same_hpet x y None (Some h) same = absurd (cc)
+same_hpet x y (Some g) None same = absurd (cc)
+same_hpet x y (Some g) (Some h) same =
+    let tables : hpet_of x g ≡ hpet_of y h = cc in
+    ap Some (sym (hpet_in-of x g) ∙ ap hpet_in tables ∙ hpet_in-of y h)
+
+-- an accepted machine without ACPI tables has no HPET
+no_hpet : (m : Machine) → IsAccepted m → m.acpi ≡ None → m.hpet ≡ None
+no_hpet m accepted none =
+    let needed = only_none 1 (not (is_some m.hpet) || is_some m.acpi) (each_is_kept 13 (breaches m) accepted) in
+    without m.hpet (ap (λ (o : Option Acpi). not (is_some m.hpet) || is_some o) (sym none) ∙ needed)
+  where
+    without : (o : Option Hpet) → not (is_some o) || false ≡ true → o ≡ None
+    without None is = refl
+    without (Some hpet) is = absurd (cc)
+
+-- the identifiers of these parts
+acpi_from : List ℕ → List ℕ → Acpi
+acpi_from oem_id oem_table_id = record { oem_id = oem_id; oem_table_id = oem_table_id }
+
+-- the ACPI tables that a machine wants, and its HPET
+record SameTables (o p : Option Acpi) (g h : Option Hpet) : Type 0 where
+  acpi : o ≡ p
+  hpet : g ≡ h
+
+same_tables : (a b : Machine) (o p : Option Acpi) → a.acpi ≡ o → b.acpi ≡ p → IsAccepted a → IsAccepted b
+    → option_map (acpi_of a) o ≡ option_map (acpi_of b) p → SameTables o p a.hpet b.hpet
+unfolding acpi_from
+same_tables a b None None a_has b_has a_accepted b_accepted same =
+    record { acpi = refl; hpet = no_hpet a a_accepted a_has ∙ sym (no_hpet b b_accepted b_has) }
+same_tables a b None (Some y) a_has b_has a_accepted b_accepted same = absurd (cc)
+same_tables a b (Some x) None a_has b_has a_accepted b_accepted same = absurd (cc)
+same_tables a b (Some x) (Some y) a_has b_has a_accepted b_accepted same =
+    let tables : acpi_of a x ≡ acpi_of b y = cc in
+    let is = accepted_padded a x a_accepted a_has in
+    let also = accepted_padded b y b_accepted b_has in
+    let oem_id = one_text 6 x.oem_id y.oem_id is.oem_id also.oem_id (ap (λ (t : AcpiTables). t.oem_id) tables) in
+    let oem_table_id =
+    one_text 8 x.oem_table_id y.oem_table_id is.oem_table_id also.oem_table_id (ap (λ (t : AcpiTables). t.xsdt.oem_table_id) tables) in
+    record {
+      acpi = ap Some (ap (λ text. acpi_from text x.oem_table_id) oem_id ∙ ap (acpi_from y.oem_id) oem_table_id);
+      hpet = same_hpet x y a.hpet b.hpet (ap (λ (t : AcpiTables). t.hpet) tables);
+    }
+
+-- the machine of these parts
+machine_from : ℕ → SystemPart → Option Acpi → Option Hpet → Machine
+machine_from top_mib system acpi hpet = record { top_mib = top_mib; system = system; acpi = acpi; hpet = hpet }
+
+pub same_machine : (a b : Machine) → HasFitting a → HasFitting b → IsAccepted a → IsAccepted b → inventory_of a ≡ inventory_of b → a ≡ b
+unfolding machine_from
+same_machine a b a_fits b_fits a_accepted b_accepted same =
+    let tops : a.top_mib * 0x100000 ≡ b.top_mib * 0x100000 = ap (λ (i : Inventory). i.top) same in
+    let top : a.top_mib ≡ b.top_mib = omega arith in
+    let system = same_system a b a_fits b_fits a_accepted b_accepted same in
+    let tables = same_tables a b a.acpi b.acpi refl refl a_accepted b_accepted (ap (λ (i : Inventory). i.acpi) same) in
+    ap (λ n. machine_from n a.system a.acpi a.hpet) top ∙ ap (λ s. machine_from b.top_mib s a.acpi a.hpet) system
+    ∙ ap (λ o. machine_from b.top_mib b.system o a.hpet) tables.acpi ∙ ap (machine_from b.top_mib b.system b.acpi) tables.hpet

@@ -1,0 +1,17 @@
+-- Tables that stand at addresses, and what they are together.
+use Rattle.std.specs.Prelude.{◌≡◌, ℕ, List, [], ◌∷◌}
+use Rattle.vt_bytes.specs.View.{View}
+use Rattle.table_model.specs.declared.acpi.AcpiTables.{AcpiTables}
+use Rattle.table_model.specs.declared.acpi.Table.{Table}
+use Rattle.table_model.specs.Acpi.{IsAt, Adds}
+
+-- each table stands at its address
+abbrev pub AreAt : View → List ℕ → List Table → Type 0
+AreAt view [] [] = Unit {0}
+AreAt view (address ∷ addresses) (table ∷ tables) = IsAt view address table × AreAt view addresses tables
+AreAt view addresses tables = ⊥
+
+-- the tables are added one after the other
+abbrev pub AddAll : List Table → AcpiTables → AcpiTables → Type 0
+AddAll [] before after = after ≡ before
+AddAll (table ∷ tables) before after = (between : AcpiTables) × Adds table before between × AddAll tables between after

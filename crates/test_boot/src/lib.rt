@@ -1,0 +1,20 @@
+//! Tests of the command `boot`, through the top call over streams in memory: descriptions that are refused and accepted, the dumps
+//! of the machines that they describe, streams that fail, inputs of the greatest length, and worlds over many runs.
+#![tactic(auto)]
+
+#[cfg(test)]
+mod descriptions;
+#[cfg(test)]
+mod dumps;
+#[cfg(test)]
+mod endless;
+#[cfg(test)]
+mod limits;
+#[cfg(test)]
+mod says;
+#[cfg(test)]
+mod sinks;
+#[cfg(test)]
+mod sources;
+#[cfg(test)]
+mod worlds;

@@ -1,0 +1,67 @@
+//! The files of a device, by name and by selector, and bytes that are written into one.
+
+ghost use Rattle.std.specs.Prelude.{◌≡◌, length, IfOk};
+
+use cfg_directory::{Item, Items};
+use std::alloc::Global;
+use std::process::Abort;
+use std::test::Fail;
+use vt_outside::{Bytes, Name, OutOfMemory};
+
+#[test]
+fn files_by_name_and_selector(rt: HostRuntime) -> Result<(), Fail> {
+    let (first, second) = (Name::of("etc/a")?, Name::of("etc/ab")?);
+    let mut items = Items::new(rt.alloc());
+    assert_eq!(rt; items.add(first, true, five_bytes(rt.alloc())?)?, 0x20);
+    items.write_at(0x20, 1, &[9, 8]);
+    is_found(&rt, &items, &first, &second);
+    is_selected(&rt, &items, &first);
+    Ok(())
+}
+
+// The file that was added is found by its name, and no other.
+fn is_found(rt: &impl Abort, items: &Items, first: &Name, second: &Name) {
+    match items.find(first) {
+        Some(item) => is_the_file(rt, item),
+        None => panic!(rt; "a file that was added"),
+    }
+    assert!(rt; items.find(second).is_none());
+}
+
+fn is_the_file(rt: &impl Abort, item: &Item) {
+    assert_eq!(rt; (item.select, item.writable), (0x20, true));
+    assert_eq!(rt; item.bytes.as_slice(), [7, 9, 8, 7, 7].as_slice());
+}
+
+// It is found by its selector, and no other.
+fn is_selected(rt: &impl Abort, items: &Items, first: &Name) {
+    match items.by_select(0x20) {
+        Some(item) => assert!(rt; item.name == *first),
+        None => panic!(rt; "a file that was added"),
+    }
+    assert!(rt; items.by_select(0x21).is_none());
+}
+
+fn five_bytes(alloc: Global) -> Result<Bytes, OutOfMemory>
+    ensures { IfOk result (λ bytes. length bytes ≡ 5) }
+{
+    let mut bytes = Bytes::new(alloc);
+    bytes.extend(&[7; 5])?;
+    Ok(bytes)
+}
+
+#[test]
+fn one_more_file(rt: HostRuntime) -> Result<(), Fail> {
+    let name = Name::of("etc/table-loader")?;
+    let mut items = Items::new(rt.alloc());
+    assert_eq!(rt; items.add(name, false, Bytes::new(rt.alloc()))?, 0x20);
+    Ok(())
+}
+
+#[test]
+fn one_more_file_with_a_selector(rt: HostRuntime) -> Result<(), Fail> {
+    let name = Name::of("etc/table-loader")?;
+    let mut items = Items::new(rt.alloc());
+    items.add_at(name, 0x3FFF, true, Bytes::new(rt.alloc()))?;
+    Ok(())
+}

@@ -1,0 +1,11 @@
+//! Tests of the files of a device: containers both ways, what is refused as one, the directory, and files by name and by selector.
+#![tactic(auto)]
+
+#[cfg(test)]
+mod containers;
+#[cfg(test)]
+mod images;
+#[cfg(test)]
+mod items;
+#[cfg(test)]
+mod refusals;

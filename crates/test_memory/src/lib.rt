@@ -1,0 +1,5 @@
+//! Tests of guest memory: what is RAM, and each call that reads or changes a range.
+#![tactic(auto)]
+
+#[cfg(test)]
+mod memory;

@@ -1,0 +1,15 @@
+//! Tests of lists, texts, byte strings, names, sources and sinks: public calls once, and what is refused.
+#![tactic(auto)]
+
+#[cfg(test)]
+mod asserts;
+#[cfg(test)]
+mod errors;
+#[cfg(test)]
+mod lists;
+#[cfg(test)]
+mod memory_streams;
+#[cfg(test)]
+mod names;
+#[cfg(test)]
+mod std_streams;

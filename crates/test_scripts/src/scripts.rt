@@ -1,0 +1,150 @@
+//! Loader scripts as bytes, and why a command is refused.
+
+ghost use Rattle.std.specs.Prelude.{◌≡◌, codes};
+
+use loader_script::{
+    Cause, Entry, FileInfo, ScriptFault, decode_entry, decode_script, encode_script, refusal,
+};
+use std::alloc::Global;
+use std::process::Abort;
+use std::test::Fail;
+use vt_outside::Name;
+
+// ALLOCATE of "a" to a multiple of 0x10 of the F segment.
+fn allocate() -> [u8; 128] {
+    let mut entry = [0; 128];
+    entry[0] = 1;
+    entry[4] = b'a';
+    entry[60] = 0x10;
+    entry[64] = 2;
+    entry
+}
+
+#[test]
+fn one_command(rt: HostRuntime) -> Result<(), Fail> {
+    let Entry::Allocate { file, align, zone } = decode_entry(&allocate()) else {
+        return Err(Fail::from("an Allocate"));
+    };
+    assert!(rt; file == Name::of("a")?);
+    assert_eq!(rt; (align, zone), (0x10, 2));
+    let written = encode_script(rt.alloc(), &[Entry::Allocate { file, align, zone }])?;
+    assert_eq!(rt; written.as_slice(), allocate().as_slice());
+    Ok(())
+}
+
+#[test]
+fn commands_of_other_numbers(rt: HostRuntime) {
+    for (number, is_skipped) in [(0, true), (1, false), (4, true), (0xFF, true)] {
+        let mut entry = allocate();
+        entry[0] = number;
+        assert_eq!(rt;
+            matches!(decode_entry(&entry), Entry::Skipped(_)),
+            is_skipped,
+            "at {number}"
+        );
+    }
+    // a name of 56 bytes without a NUL
+    let mut entry = allocate();
+    entry[4..60].fill(0x41);
+    assert!(rt; matches!(decode_entry(&entry), Entry::Misnamed(1)));
+}
+
+#[test]
+fn lengths_of_scripts(rt: HostRuntime) {
+    assert_eq!(rt; count_of(rt.alloc(), &[]), Ok(0));
+    assert_eq!(rt; count_of(rt.alloc(), &[0; 128]), Ok(1));
+    assert_eq!(rt;
+        count_of(rt.alloc(), &[0; 127]),
+        Err(ScriptFault::ScriptLength)
+    );
+    assert_eq!(rt;
+        count_of(rt.alloc(), &[0; 129]),
+        Err(ScriptFault::ScriptLength)
+    );
+}
+
+// How many commands the bytes are read as.
+fn count_of(alloc: Global, bytes: &[u8]) -> Result<usize, ScriptFault> {
+    decode_script(alloc, bytes).map(|script| script.len())
+}
+
+#[test]
+fn causes_of_refusal(rt: HostRuntime) {
+    assert_eq!(rt; refusal(&Entry::Skipped(9), &[], &[]), None);
+    assert_eq!(rt;
+        refusal(&Entry::Misnamed(2), &[], &[]),
+        Some(Cause::BadName)
+    );
+}
+
+// Of two files "a", of 16 bytes at 0x03000000, and "b", of 8 bytes, writable and not placed.
+fn cause_of(entry: &Entry) -> Option<Cause> {
+    refusal(
+        entry,
+        &[
+            FileInfo {
+                name: a(),
+                size: 16,
+                writable: false,
+            },
+            FileInfo {
+                name: b(),
+                size: 8,
+                writable: true,
+            },
+        ],
+        &[Some(0x0300_0000), None],
+    )
+}
+
+fn a() -> Name
+    ensures { result ≡ codes "a" }
+{
+    Name::of("a").unwrap()
+}
+
+fn b() -> Name
+    ensures { result ≡ codes "b" }
+{
+    Name::of("b").unwrap()
+}
+
+#[test]
+fn causes_with_files(rt: HostRuntime) -> Result<(), Fail> {
+    allocations(&rt, a(), b(), Name::of("etc/other")?);
+    pointers(&rt, a(), b());
+    Ok(())
+}
+
+fn allocations(rt: &impl Abort, a: Name, b: Name, other: Name) {
+    is_cause(rt, &allocate_of(a, 16, 1), Some(Cause::AlreadyPlaced));
+    is_cause(rt, &allocate_of(b, 16, 2), None);
+    is_cause(rt, &allocate_of(b, 24, 1), Some(Cause::BadAlign));
+    is_cause(rt, &allocate_of(b, 16, 3), Some(Cause::BadZone));
+    is_cause(rt, &allocate_of(other, 16, 1), Some(Cause::NoFile));
+}
+
+fn pointers(rt: &impl Abort, a: Name, b: Name) {
+    is_cause(rt, &add_pointer(a, a, 8, 8), None);
+    is_cause(rt, &add_pointer(a, a, 9, 8), Some(Cause::OutOfRange));
+    is_cause(rt, &add_pointer(a, a, 8, 3), Some(Cause::BadSize));
+    is_cause(rt, &add_pointer(a, b, 8, 8), Some(Cause::NotPlaced));
+}
+
+// The command is refused for this cause, or not refused.
+fn is_cause(rt: &impl Abort, entry: &Entry, cause: Option<Cause>) {
+    assert_eq!(rt; cause_of(entry), cause, "at {entry:?}");
+}
+
+fn allocate_of(file: Name, align: u32, zone: u8) -> Entry {
+    Entry::Allocate { file, align, zone }
+}
+
+fn add_pointer(dest: Name, src: Name, offset: u32, size: u8) -> Entry {
+    Entry::AddPointer {
+        dest,
+        src,
+        offset,
+        size,
+    }
+}

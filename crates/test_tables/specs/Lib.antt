@@ -1,0 +1,2 @@
+pub mod Unended
+pub use Rattle.smbios_build.specs.Buildable

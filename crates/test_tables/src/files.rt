@@ -1,0 +1,100 @@
+//! ACPI tables as files with holes. The bytes were made by hand from ACPI 6.5, 5.2.5.3, 5.2.6 and 5.2.8, and IA-PC HPET
+//! 1.0a, 3.2.4; each checksum is still zero, and each address is an offset of the file of the tables.
+
+ghost use Rattle.std.specs.Prelude.{◌≡◌, length, IfOk, IsSome};
+
+use acpi_fixed::{TABLES_FILE, append_hpet, append_rsdp, append_xsdt};
+use blob_holes::{Blob, Parts, PointerHole, SumHole};
+use fixtures::full_machine;
+use machine_desc::Machine;
+use std::alloc::Global;
+use std::process::Abort;
+use std::test::Fail;
+use vt_outside::{Name, OutOfMemory};
+
+// Five bytes, and each table at the next multiple of 16.
+const FILE: &[u8] = b"\x07\x07\x07\x07\x07\0\0\0\0\0\0\0\0\0\0\0\
+    HPET\x38\0\0\0\x01\0ACME  VMTABLE \x01\0\0\0VMTB\x01\0\0\0\
+    \x04\x03\x02\x01\0\x40\0\0\0\x04\xD0\xFE\0\0\0\0\x05\x07\x06\0\
+    \0\0\0\0\0\0\0\0\
+    XSDT\x34\0\0\0\x01\0ACME  VMTABLE \x01\0\0\0VMTB\x01\0\0\0\
+    \x10\0\0\0\0\0\0\0\x40\x03\x02\x01\0\0\0\0\
+    \0\0\0\0\0\0\0\0\0\0\0\0\
+    RSD PTR \0ACME  \x02\0\0\0\0\x24\0\0\0\
+    \x50\0\0\0\0\0\0\0\0\0\0\0";
+
+// Where the two entries of the XSDT stand, and the RSDP's address of the XSDT.
+const POINTERS: [u32; 3] = [116, 124, 168];
+
+// The checksums of the HPET table, the XSDT and the RSDP, and the RSDP's extended one.
+const SUMS: [SumHole; 4] = [
+    SumHole {
+        at: 25,
+        start: 16,
+        length: 56,
+    },
+    SumHole {
+        at: 89,
+        start: 80,
+        length: 52,
+    },
+    SumHole {
+        at: 152,
+        start: 144,
+        length: 20,
+    },
+    SumHole {
+        at: 176,
+        start: 144,
+        length: 36,
+    },
+];
+
+#[test]
+fn acpi_tables(rt: HostRuntime) -> Result<(), Fail> {
+    let parts = file(rt.alloc())?;
+    assert_eq!(rt; parts.bytes.as_slice(), FILE);
+    are_pointers_to_tables(&rt, parts.pointers.as_slice(), Name::of("etc/acpi/tables")?);
+    assert_eq!(rt; parts.sums.as_slice(), SUMS.as_slice());
+    assert_eq!(rt; TABLES_FILE, "etc/acpi/tables");
+    Ok(())
+}
+
+// A file that begins with five bytes, and has an HPET table, an XSDT with another entry, and an RSDP.
+fn file(alloc: Global) -> Result<Parts, Fail> {
+    let machine = full_machine(alloc)?;
+    let mut blob = five_bytes(alloc)?;
+    append_tables(&mut blob, &machine)?;
+    Ok(blob.finish())
+}
+
+fn append_tables(blob: &mut Blob, machine: &Machine) -> Result<(), Fail>
+    requires bytes { length blob.old.bytes ≡ 5 }
+    requires acpi { IsSome machine.now.acpi }
+    requires hpet { IsSome machine.now.hpet }
+{
+    if machine.check().is_err() {
+        return Err(Fail::from("a lawful machine"));
+    }
+    let hpet = append_hpet(blob, machine)?;
+    let xsdt = append_xsdt(blob, machine, &[hpet, 0x0102_0340])?;
+    append_rsdp(blob, machine, xsdt)?;
+    Ok(())
+}
+
+fn are_pointers_to_tables(rt: &impl Abort, pointers: &[PointerHole], tables: Name) {
+    assert_eq!(rt; pointers.len(), POINTERS.len());
+    for (pointer, place) in pointers.iter().zip(POINTERS) {
+        assert_eq!(rt; (pointer.at, pointer.size), (place, 8));
+        assert!(rt; pointer.target == tables);
+    }
+}
+
+// A file of five bytes.
+fn five_bytes(alloc: Global) -> Result<Blob, OutOfMemory>
+    ensures { IfOk result (λ blob. length blob.bytes ≡ 5) }
+{
+    let mut blob = Blob::new(alloc);
+    blob.append(b"\x07\x07\x07\x07\x07")?;
+    Ok(blob)
+}

@@ -1,0 +1,9 @@
+//! Tests of tables: the inventory of a machine, ACPI tables as files with holes, and SMBIOS structures as bytes. Public calls once.
+#![tactic(auto)]
+
+#[cfg(test)]
+mod files;
+#[cfg(test)]
+mod records;
+#[cfg(test)]
+mod structures;

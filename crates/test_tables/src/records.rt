@@ -1,0 +1,130 @@
+//! What the tables of a machine say, as records. What is expected was made by hand from DSP0134 7.2, ACPI 6.5 5.2.6 and
+//! IA-PC HPET 1.0a 3.2.4.
+
+use fixtures::{HPET, acpi, full_machine};
+use machine_desc::Machine;
+use std::alloc::Global;
+use std::process::Abort;
+use std::test::Fail;
+use table_model::{
+    AcpiTables, Body, GenericAddress, Head, HpetTable, Inventory, SmbiosTable, SystemInfo, head_of,
+    hpet_of, inventory_of, uuid_field,
+};
+use vt_outside::Text;
+
+// The header of each table of the machine.
+const HEAD: Head = Head {
+    revision: 1,
+    oem_id: *b"ACME  ",
+    oem_table_id: *b"VMTABLE ",
+    oem_revision: 1,
+    creator_id: *b"VMTB",
+    creator_revision: 1,
+};
+
+const HPET_TABLE: HpetTable = HpetTable {
+    head: HEAD,
+    block_id: 0x0102_0304,
+    address: GenericAddress {
+        space: 0,
+        width: 64,
+        offset: 0,
+        access: 0,
+        address: 0xFED0_0400,
+    },
+    number: 5,
+    min_tick: 0x0607,
+};
+
+// The machine's UUID, whose first three fields are little-endian.
+const UUID: [u8; 16] = [
+    0x33, 0x22, 0x11, 0x00, 0x55, 0x44, 0x77, 0x66, 0x88, 0x99, 0xAA, 0xBB, 0xCC, 0xDD, 0xEE, 0xFF,
+];
+
+#[test]
+fn the_inventory_of_a_machine(rt: HostRuntime) -> Result<(), Fail> {
+    let inventory = inventory(rt.alloc())?;
+    assert_eq!(rt; inventory.top, 0x400_0000);
+    match &inventory.smbios {
+        Some(smbios) => is_the_smbios_table(&rt, smbios),
+        None => panic!(rt; "no SMBIOS table"),
+    }
+    match &inventory.acpi {
+        Some(acpi) => are_the_acpi_tables(&rt, acpi),
+        None => panic!(rt; "no ACPI tables"),
+    }
+    Ok(())
+}
+
+fn inventory(alloc: Global) -> Result<Inventory, Fail> {
+    let machine = full_machine(alloc)?;
+    inventory_of_lawful(alloc, &machine)
+}
+
+fn inventory_of_lawful(alloc: Global, machine: &Machine) -> Result<Inventory, Fail> {
+    if machine.check().is_err() {
+        return Err(Fail::from("a lawful machine"));
+    }
+    Ok(inventory_of(alloc, machine)?)
+}
+
+fn is_the_smbios_table(rt: &impl Abort, table: &SmbiosTable) {
+    assert_eq!(rt; (table.major, table.minor, table.docrev), (3, 0, 0));
+    assert_eq!(rt; table.structures.len(), 2);
+    let system = table.structures.get(0);
+    assert_eq!(rt; system.handle, 0x0100);
+    match &system.body {
+        Body::System(info) => is_the_system(rt, info),
+        _ => panic!(rt; "another structure before the system"),
+    }
+    let end = table.structures.get(1);
+    assert_eq!(rt; end.handle, 0x7F00);
+    assert!(rt; matches!(end.body, Body::End));
+}
+
+fn is_the_system(rt: &impl Abort, info: &SystemInfo) {
+    is_text(rt, &info.manufacturer, b"ACME");
+    is_text(rt, &info.product, b"VM");
+    is_text(rt, &info.version, b"1.0");
+    is_text(rt, &info.serial, b"SN 7");
+    assert_eq!(rt; info.uuid, UUID);
+    assert_eq!(rt; info.wake_up, 6);
+    is_text(rt, &info.sku, b"");
+    is_text(rt, &info.family, b"Test");
+}
+
+fn is_text(rt: &impl Abort, text: &Text, wanted: &[u8]) {
+    assert_eq!(rt; text.as_slice(), wanted);
+}
+
+fn are_the_acpi_tables(rt: &impl Abort, tables: &AcpiTables) {
+    assert_eq!(rt; tables.oem_id, *b"ACME  ");
+    assert_eq!(rt; tables.xsdt, HEAD);
+    assert_eq!(rt; tables.hpet, Some(HPET_TABLE));
+    assert_eq!(rt; tables.others.len(), 0);
+}
+
+#[test]
+fn the_records_of_acpi_tables(rt: HostRuntime) -> Result<(), Fail> {
+    let acpi = acpi(rt.alloc(), "ACME", "VMTABLE")?;
+    if acpi.oem_id.len() > 6 || acpi.oem_table_id.len() > 8 {
+        return Err(Fail::from("identifiers that fit"));
+    }
+    assert_eq!(rt; head_of(&acpi, 1), HEAD);
+    assert_eq!(rt;
+        head_of(&acpi, 3),
+        Head {
+            revision: 3,
+            ..HEAD
+        }
+    );
+    assert_eq!(rt; hpet_of(&acpi, HPET), HPET_TABLE);
+    Ok(())
+}
+
+#[test]
+fn the_bytes_of_uuids(rt: HostRuntime) {
+    let uuid = 0x0011_2233_4455_6677_8899_AABB_CCDD_EEFF;
+    assert_eq!(rt; uuid_field(Some(uuid)), UUID);
+    assert_eq!(rt; uuid_field(None), [0; 16]);
+}

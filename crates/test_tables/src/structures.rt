@@ -1,0 +1,206 @@
+//! SMBIOS structures and their anchor as bytes, which were made by hand from DSP0134, 5.2.2, 6.1 and 7.2.
+
+ghost use Rattle.std.specs.Prelude.{◌≡◌, ◌<◌, ◌≤◌, ◌+◌, [], ◌∷◌, length, IfOk, OnOk};
+ghost use Rattle.table_model.specs.Strings.{HasNoNul};
+ghost use Rattle.smbios_build.specs.Buildable.{IsRaw, AreBuildable};
+ghost use Rattle.test_tables.specs.Unended.{AreUnended};
+
+use fixtures::{MINIMAL_MACHINE, machine_of};
+use machine_desc::Machine;
+use smbios_build::laws::accepted_structures_are_buildable;
+use smbios_build::{SmbiosBuildFault, StringSet, build_anchor, build_smbios};
+use std::alloc::Global;
+use std::process::Abort;
+use std::test::Fail;
+use table_model::{Body, Structure, structures_of};
+use vt_outside::{Bytes, List, OutOfMemory, Text};
+
+// System Information of the minimal machine, whose texts are `ACME` and `VM`, and the end.
+const MINIMAL_STRUCTURES: &[u8] = b"\x01\x1b\x00\x01\x01\x02\x00\x00\
+    \x33\x22\x11\x00\x55\x44\x77\x66\x88\x99\xaa\xbb\xcc\xdd\xee\xff\
+    \x06\x00\x00ACME\0VM\0\0\x7f\x04\x00\x7f\0\0";
+
+// A structure of type 200 with two bytes and one string, and the end.
+const RAW_STRUCTURES: &[u8] = b"\xc8\x06\x01\x02\x09\x08ab\0\0\x7f\x04\x00\x7f\0\0";
+
+// The anchor of 64 bytes, with zeros for its checksum and the address of the structures.
+const ANCHOR: [u8; 24] = *b"_SM3_\0\x18\x03\0\0\x01\0\x40\0\0\0\0\0\0\0\0\0\0\0";
+
+#[test]
+fn structures_of_a_machine(rt: HostRuntime) -> Result<(), Fail> {
+    let structures = minimal_structures(rt.alloc())?;
+    are_built(&rt, rt.alloc(), structures.as_slice(), MINIMAL_STRUCTURES);
+    Ok(())
+}
+
+fn minimal_structures(alloc: Global) -> Result<List<Structure>, Fail>
+    ensures { IfOk result (λ structures. AreBuildable structures) }
+{
+    let machine = machine_of(alloc, &MINIMAL_MACHINE)?;
+    accepted_structures(alloc, &machine)
+}
+
+fn accepted_structures(alloc: Global, machine: &Machine) -> Result<List<Structure>, Fail>
+    ensures { IfOk result (λ structures. AreBuildable structures) }
+{
+    if machine.check().is_err() {
+        return Err(Fail::from("a lawful machine"));
+    }
+    accepted_structures_are_buildable();
+    Ok(structures_of(alloc, &machine.system)?)
+}
+
+fn are_built(rt: &impl Abort, alloc: Global, structures: &[Structure], wanted: &[u8])
+    requires { AreBuildable structures.now }
+{
+    match build_smbios(alloc, structures) {
+        Ok(bytes) => assert_eq!(rt; bytes.as_slice(), wanted),
+        Err(_) => panic!(rt; "structures that aren't built"),
+    }
+}
+
+#[test]
+fn a_raw_structure(rt: HostRuntime) -> Result<(), Fail> {
+    let structures = raw_and_end(rt.alloc())?;
+    are_built(&rt, rt.alloc(), structures.as_slice(), RAW_STRUCTURES);
+    Ok(())
+}
+
+fn raw_and_end(alloc: Global) -> Result<List<Structure>, OutOfMemory>
+    ensures { IfOk result (λ structures. AreBuildable structures) }
+{
+    let mut structures = List::new(alloc);
+    push_small(alloc, &mut structures)?;
+    push_end(&mut structures)?;
+    Ok(structures)
+}
+
+// Appends a structure of two bytes and one string.
+fn push_small(alloc: Global, structures: &mut List<Structure>) -> Result<(), OutOfMemory>
+    requires { AreUnended structures.old }
+    ensures { OnOk result (AreUnended structures.new) }
+{
+    let area = bytes_of(alloc, &[9, 8])?;
+    let strings = one_text(alloc, &[b'a', b'b'])?;
+    push_raw(structures, area, strings)
+}
+
+// More than 4,194,304 bytes.
+#[test]
+fn too_many_structures(rt: HostRuntime) -> Result<(), Fail> {
+    let structures = many_and_end(rt.alloc())?;
+    are_too_large(&rt, rt.alloc(), structures.as_slice());
+    Ok(())
+}
+
+fn are_too_large(rt: &impl Abort, alloc: Global, structures: &[Structure])
+    requires { AreBuildable structures.now }
+{
+    let built = build_smbios(alloc, structures);
+    assert!(rt; matches!(built, Err(SmbiosBuildFault::TableTooLarge)));
+}
+
+// 70,000 structures of 66 bytes, and the end.
+fn many_and_end(alloc: Global) -> Result<List<Structure>, OutOfMemory>
+    ensures { IfOk result (λ structures. AreBuildable structures) }
+{
+    let mut structures = List::new(alloc);
+    for _ in 0..70_000 {
+        push_wide(alloc, &mut structures)?;
+    }
+    push_end(&mut structures)?;
+    Ok(structures)
+}
+
+// Appends a structure of 60 bytes and no string.
+fn push_wide(alloc: Global, structures: &mut List<Structure>) -> Result<(), OutOfMemory>
+    requires { AreUnended structures.old }
+    ensures { OnOk result (AreUnended structures.new) }
+{
+    let area = bytes_of(alloc, &[7; 60])?;
+    push_raw(structures, area, List::new(alloc))
+}
+
+// Appends a structure of type 200.
+fn push_raw(
+    structures: &mut List<Structure>,
+    area: Bytes,
+    strings: List<Text>,
+) -> Result<(), OutOfMemory>
+    requires raw { IsRaw 200 area strings }
+    requires unended { AreUnended structures.old }
+    ensures { OnOk result (AreUnended structures.new) }
+{
+    structures.push(Structure {
+        handle: 0x0201,
+        body: Body::Raw {
+            kind: 200,
+            area,
+            strings,
+        },
+    })
+}
+
+#[tactic(auto, using(crate::proofs::Ended::ended))]
+fn push_end(structures: &mut List<Structure>) -> Result<(), OutOfMemory>
+    requires { AreUnended structures.old }
+    ensures { OnOk result (AreBuildable structures.new) }
+{
+    structures.push(Structure {
+        handle: 0x7F00,
+        body: Body::End,
+    })
+}
+
+#[test]
+fn numbers_of_strings(rt: HostRuntime) -> Result<(), Fail> {
+    let numbers = numbers(rt.alloc())?;
+    assert_eq!(rt; numbers, [0, 1, 0, 2]);
+    Ok(())
+}
+
+fn numbers(alloc: Global) -> Result<[u8; 4], OutOfMemory> {
+    let mut strings = StringSet::new(alloc);
+    let none = add(alloc, &mut strings, &[])?;
+    let first = add(alloc, &mut strings, &[b'A'])?;
+    let none_again = add(alloc, &mut strings, &[])?;
+    let second = add(alloc, &mut strings, &[b'B', b'C'])?;
+    Ok([none, first, none_again, second])
+}
+
+fn add(alloc: Global, strings: &mut StringSet, text: &[u8]) -> Result<u8, OutOfMemory>
+    requires few { length strings.old < 255 }
+    requires no_nul { HasNoNul text.now }
+    ensures { OnOk result (length strings.new ≤ length strings.old + 1) }
+{
+    strings.add(&text_of(alloc, text)?)
+}
+
+#[test]
+fn an_anchor(rt: HostRuntime) {
+    assert_eq!(rt; build_anchor(0x40), ANCHOR);
+}
+
+fn bytes_of(alloc: Global, bytes: &[u8]) -> Result<Bytes, OutOfMemory>
+    ensures { IfOk result (λ copy. copy ≡ bytes.now) }
+{
+    let mut copy = Bytes::new(alloc);
+    copy.extend(bytes)?;
+    Ok(copy)
+}
+
+fn text_of(alloc: Global, text: &[u8]) -> Result<Text, OutOfMemory>
+    ensures { IfOk result (λ copy. copy ≡ text.now) }
+{
+    let mut copy = Text::new(alloc);
+    copy.extend(text)?;
+    Ok(copy)
+}
+
+fn one_text(alloc: Global, text: &[u8]) -> Result<List<Text>, OutOfMemory>
+    ensures { IfOk result (λ texts. texts ≡ text.now ∷ []) }
+{
+    let mut texts = List::new(alloc);
+    texts.push(text_of(alloc, text)?)?;
+    Ok(texts)
+}

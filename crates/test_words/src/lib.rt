@@ -1,0 +1,7 @@
+//! Tests of the top call's words: those that are no command, and the numbers of the statuses that it answers with.
+#![tactic(auto)]
+
+#[cfg(test)]
+mod statuses;
+#[cfg(test)]
+mod words;

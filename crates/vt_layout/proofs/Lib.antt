@@ -1,0 +1,6 @@
+pub mod Sizes
+pub mod Same
+pub mod Shows
+pub mod Spelled
+pub mod NumberRows
+pub mod InBytes

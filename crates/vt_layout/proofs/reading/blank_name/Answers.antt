@@ -1,0 +1,7 @@
+use Rattle.std.proofs.Common.{rules}
+use Rattle.vt_outside.specs.Name.{name_of}
+use Rattle.vt_layout.proofs.reading.blank_name.Goals as goal
+
+pub unwrap-requires : goal.unwrap-requires
+unfolding name_of
+unwrap-requires c = search rules
