@@ -5,7 +5,8 @@
 #
 # usage: judges/run.sh [PROGRAM]     PROGRAM stands for ./vmtables
 #
-# Status 0: no fault was found; 1: one was. A judge that isn't there and can't be installed is named as skipped.
+# Status 0: no fault was found; 1: one was. A judge that isn't there and can't be installed is skipped. The last lines say how many
+# faults were found, and which judges were asked and which were skipped.
 set -u
 shopt -s nullglob
 here=$(dirname "$(readlink -f "$0")")
@@ -14,6 +15,8 @@ program=$(readlink -f "${1:-$root/vmtables}")
 PATH=$PATH:/usr/sbin # where Debian has dmidecode
 work=$(mktemp -d)
 trap 'rm -rf "$work"' EXIT
+judges=(dmidecode iasl)
+asked=() # the judges that were asked
 faults=0
 
 has() {
@@ -81,9 +84,15 @@ flip() {
     printf '%b' "\\x$(printf %02x $((byte ^ 1)))" | dd of="$1" bs=1 seek="$2" conv=notrunc status=none
 }
 
+# was_asked TOOL: whether the tool has judged a file.
+was_asked() {
+    [[ " ${asked[*]} " == *" $1 "* ]]
+}
+
 # ask TOOL JUDGE FILE CHECKSUM: has the tool judge a file, and then a copy with a bit flipped in the byte at CHECKSUM.
 ask() {
     local said
+    was_asked "$1" || asked+=("$1")
     said=$("$2" "$folder" "$3" 2>&1) || { fault "$1" "$3" "$said"; return; }
     rm -rf "$folder.flipped"
     cp -r "$folder" "$folder.flipped"
@@ -135,22 +144,43 @@ judge_description() {
     ! has iasl || ask_iasl
 }
 
-main() {
+# Whether there is what makes files for the judges.
+can_make_files() {
+    python3 -c 'import tomllib' 2>/dev/null && return
+    echo "no judge can be asked: python3 of 3.11 or later isn't there to make files for them"
+    return 1
+}
+
+judge_examples() {
     local at
-    install_missing_judges
-    for tool in dmidecode iasl; do
-        has "$tool" || echo "skipped: $tool"
-    done
-    if ! python3 -c 'import tomllib' 2>/dev/null; then
-        echo "skipped: dmidecode and iasl, since python3 of 3.11 or later isn't there to make files for them"
-        return
-    fi
     "$program" --version || exit 1 # builds ./vmtables where it isn't built, in sight
     cd "$root" || exit 1
     for at in examples/*.toml; do
         judge_description "$at"
     done
+}
+
+# listed NAME..: the names with commas between them, after how many they are.
+listed() {
+    local names="$*"
+    echo "$#${names:+: ${names// /, }}"
+}
+
+report() {
+    local judge skipped=()
+    for judge in "${judges[@]}"; do
+        was_asked "$judge" || skipped+=("$judge")
+    done
     echo "judges: faults found: $faults"
+    echo "judges: asked $(listed "${asked[@]}")"
+    echo "judges: skipped $(listed "${skipped[@]}")"
+    [ "${#asked[@]}" -gt 0 ] || echo "judges: ALL WERE SKIPPED, so nothing that the program writes was judged"
+}
+
+main() {
+    install_missing_judges
+    ! can_make_files || judge_examples
+    report
     [ "$faults" -eq 0 ]
 }
 

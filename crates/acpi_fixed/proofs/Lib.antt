@@ -1,3 +1,3 @@
 pub mod Tables
-pub mod Entries
 pub mod OfParts
+pub mod Puts

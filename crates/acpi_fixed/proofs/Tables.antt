@@ -8,7 +8,8 @@ use Rattle.vt_layout.specs.declared.row.Row.{Row}
 use Rattle.vt_layout.specs.Rows.{size, IsRow}
 use Rattle.table_model.specs.declared.header.Head.{Head}
 use Rattle.table_model.specs.Header.{header_rows, table_rows}
-use Rattle.blob_holes.specs.Rows.{SumsFit, AreRows}
+use Rattle.blob_holes.specs.Rows.{IsUnsummed, AreRows}
+use Rattle.blob_holes.proofs.Unsummed.{sums_fit}
 
 -- 16 is a power of two
 pub sixteen : is_power_of_two 16 ≡ true
@@ -26,11 +27,11 @@ each_table_row signature head body header is behind_is fit are =
     each_append IsRow (header_rows signature (36 + size body) head) body (subst (AllByRecursion IsRow) rows_are fit) are
 
 pub are_table_rows : (signature : List ℕ) (head : Head) (body : List Row) → AllByRecursion IsRow (table_rows signature head body)
-    → SumsFit (36 + size body) (36 + size body) 36 body → AreRows (table_rows signature head body)
+    → AllByRecursion IsUnsummed body → AreRows (table_rows signature head body)
 are_table_rows signature head body each no_sum =
-    let whole : 36 + size body ≡ size (table_rows signature head body) = omega arith in
+    let total : ℕ = size (table_rows signature head body) in
     let fits : (0 ≤ 9) × (9 < 36 + size body) × (36 + size body ≤ size (table_rows signature head body)) = (omega arith, omega arith, omega arith) in
     record {
       each = each;
-      sums = (tt, (tt, (tt, (fits, (tt, (tt, (tt, (tt, (tt, subst (λ total. SumsFit total (36 + size body) 36 body) whole no_sum)))))))));
+      sums = (tt, (tt, (tt, (fits, (tt, (tt, (tt, (tt, (tt, sums_fit total (36 + size body) 36 body no_sum)))))))));
     }

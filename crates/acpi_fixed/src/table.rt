@@ -1,14 +1,12 @@
-ghost use Rattle.std.specs.Prelude.{◌≡◌, ◌+◌, ◌<◌, ◌≤◌, ◌^◌, ◌++◌, length, IfOk, OnOk};
+ghost use Rattle.std.specs.Prelude.{◌≡◌, ◌+◌, ◌<◌, ◌≤◌, ◌^◌, length, IfOk, OnOk};
 ghost use Rattle.std.specs.List.{AllByRecursion};
 ghost use Rattle.vt_layout.specs.Rows.{IsRow, size};
-ghost use Rattle.vt_layout.specs.Shown.{LayoutHeld};
 ghost use Rattle.table_model.specs.Header.{table_rows};
-ghost use Rattle.table_model.specs.Acpi.{rows_of, linked_table, IsAt};
-ghost use Rattle.blob_holes.specs.Blob.{next_place, aligned};
-ghost use Rattle.blob_holes.specs.Grown.{Extends, IsLinkable};
-ghost use Rattle.blob_holes.specs.Held.{WhereHeld};
-ghost use Rattle.blob_holes.specs.Rows.{SumsFit, with_rows};
-ghost use Rattle.acpi_fixed.specs.Tables.{with_table, tables_name, table_pointer};
+ghost use Rattle.table_model.specs.Acpi.{IsWritable};
+ghost use Rattle.blob_holes.specs.Blob.{next_place};
+ghost use Rattle.blob_holes.specs.Rows.{IsUnsummed};
+ghost use Rattle.blob_holes.specs.Appended.{IsAppended};
+ghost use Rattle.acpi_fixed.specs.Tables.{IsTablePut, tables_name, table_pointer};
 
 use blob_holes::{Blob, append_layout};
 use table_model::{HEADER_SIZE, Head, Table, header_rows, hpet_body};
@@ -21,25 +19,19 @@ pub const TABLES_FILE: &str = "etc/acpi/tables";
 /// The alignment of a table in its file, in bytes.
 pub(crate) const ALIGN: u32 = 16;
 
-/// Appends `table` to `blob` at the next multiple of 16, and returns its offset in bytes. `blob` has less than 2 GiB before.
-/// Returns `OutOfMemory` when memory runs out; what `blob` then holds is unspecified.
+/// Appends `table` to `blob` at the next multiple of 16, and returns its offset in bytes. `table` is one that can be written: each
+/// of its entries is of a known type, and each of its lists is as long as the table says. An HPET table always is. `blob` has less
+/// than 2 GiB before. Returns `OutOfMemory` when memory runs out; what `blob` then holds is unspecified.
 pub fn put_table(blob: &mut Blob, table: &Table) -> Result<u32, OutOfMemory>
-    requires { length blob.old.bytes < 2 ^ 31 }
+    requires writable { IsWritable table.now }
+    requires short { length blob.old.bytes < 2 ^ 31 }
 
-    // What the file then is, exactly.
+    // Where the table is in the file.
     ensures place { IfOk result (λ place. place ≡ next_place 16 blob.old) }
-    ensures file { OnOk result (blob.new ≡ with_table blob.old table.now) }
-    ensures size { OnOk result (length blob.new.bytes ≡ next_place 16 blob.old + size (rows_of table.now)) }
 
-    // It has only grown, and its holes can be filled as before.
-    ensures grown { OnOk result (Extends blob.old blob.new) }
-    ensures linkable { OnOk result (IsLinkable blob.old → IsLinkable blob.new) }
-
-    // Wherever a view holds it with its holes filled, the table stands at its place.
-    ensures held { OnOk result (WhereHeld blob.new (λ view address place_of.
-        LayoutHeld view place_of (address + next_place 16 blob.old) (rows_of table.now))) }
-    ensures shown { OnOk result (WhereHeld blob.new (λ view address place_of.
-        IsAt view (address + next_place 16 blob.old) (linked_table place_of table.now))) }
+    // What the file then is, exactly; that it has only grown, and can be linked as before; and that wherever a view holds it with its
+    // holes filled, the table stands at its place.
+    ensures put { OnOk result (IsTablePut blob.old blob.new table.now) }
 {
     match table {
         Table::Hpet(table) => append_table(blob, b"HPET", &table.head, &hpet_body(table)),
@@ -56,16 +48,11 @@ pub(crate) fn append_table(
     body: &[Row],
 ) -> Result<u32, OutOfMemory>
     requires body { AllByRecursion IsRow body.now }
-    requires no_sum { SumsFit (36 + size body.now) (36 + size body.now) 36 body.now }
+    requires no_sum { AllByRecursion IsUnsummed body.now }
     requires short { length blob.old.bytes < 2 ^ 31 }
     requires few { size body.now ≤ 2 ^ 24 }
     ensures place { IfOk result (λ place. place ≡ next_place 16 blob.old) }
-    ensures file { OnOk result (blob.new ≡ with_rows (aligned 16 blob.old) (table_rows signature.now head.now body.now)) }
-    ensures size { OnOk result (length blob.new.bytes ≡ next_place 16 blob.old + size (table_rows signature.now head.now body.now)) }
-    ensures grown { OnOk result (Extends blob.old blob.new) }
-    ensures linkable { OnOk result (IsLinkable blob.old → IsLinkable blob.new) }
-    ensures held { OnOk result (WhereHeld blob.new (λ view address place_of.
-        LayoutHeld view place_of (address + next_place 16 blob.old) (table_rows signature.now head.now body.now))) }
+    ensures appended { OnOk result (IsAppended 16 blob.old blob.new (table_rows signature.now head.now body.now)) }
     ensures rows { AllByRecursion IsRow (table_rows signature.now head.now body.now) }
 {
     let total = HEADER_SIZE + size_of(body);

@@ -11,3 +11,4 @@ pub mod Stood
 pub mod HeldRows
 pub mod Grew
 pub mod Pieces
+pub mod Unsummed

@@ -1,5 +1,5 @@
 -- A blob that has grown, and one that can be linked.
-use Rattle.std.specs.Prelude.{◌≡◌, ℕ, ◌^◌, ◌<◌, ◌≤◌, List, ◌++◌, length}
+use Rattle.std.specs.Prelude.{◌≡◌, ℕ, ◌<◌, ◌≤◌, List, ◌++◌, length}
 use Rattle.std.specs.List.{AllByRecursion}
 use Rattle.vt_layout.specs.Rows.{places_end}
 use Rattle.blob_holes.specs.declared.hole.PointerHole.{PointerHole}

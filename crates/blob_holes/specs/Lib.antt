@@ -3,6 +3,7 @@ pub mod Filled
 pub mod Grown
 pub mod Rows
 pub mod Held
+pub mod Appended
 pub use Rattle.vt_outside.specs.Name
 pub use Rattle.vt_bytes.specs.Numbers
 pub use Rattle.vt_layout.specs.Shown

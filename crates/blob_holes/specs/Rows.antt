@@ -59,6 +59,11 @@ SumsFit total free offset [] = Unit {0}
 SumsFit total free offset (row ∷ rows) =
     IsSum total free offset row × SumsFit total (free_behind free row) (offset + width_of row) rows
 
+-- no row is a sum
+abbrev pub IsUnsummed : Row → Type 0
+IsUnsummed (Sum covers) = ⊥
+IsUnsummed row = Unit {0}
+
 -- the rows of a layout that can be appended: each value fits its row, and each sum its layout
 pub record AreRows (rows : List Row) : Type 0 where
   pub each : AllByRecursion IsRow rows

@@ -4,10 +4,11 @@ ghost use Rattle.std.specs.List.{AllByRecursion};
 ghost use Rattle.vt_layout.specs.Rows.{IsRow, width_of, bytes_of, size};
 ghost use Rattle.vt_layout.specs.Shown.{LayoutHeld};
 ghost use Rattle.blob_holes.specs.declared.hole.SumHole.{SumHole};
-ghost use Rattle.blob_holes.specs.Blob.{IsBlob, FitsSum, next_place, aligned};
+ghost use Rattle.blob_holes.specs.Blob.{IsBlob, FitsSum, next_place};
 ghost use Rattle.blob_holes.specs.Grown.{Extends, IsLinkable};
 ghost use Rattle.blob_holes.specs.Rows.{AreRows, pointer_of, sum_of, sum_holes, unsummed, with_rows};
 ghost use Rattle.blob_holes.specs.Held.{WhereHeld};
+ghost use Rattle.blob_holes.specs.Appended.{IsAppended};
 
 use crate::blob::Blob;
 use vt_layout::Row;
@@ -44,12 +45,7 @@ pub fn append_layout(
     requires rows { AreRows (header.now ++ body.now) }
     requires short { next_place align blob.old + size (header.now ++ body.now) < 2 ^ 32 }
     ensures place { IfOk result (λ place. place ≡ next_place align blob.old) }
-    ensures file { OnOk result (blob.new ≡ with_rows (aligned align blob.old) (header.now ++ body.now)) }
-    ensures size { OnOk result (length blob.new.bytes ≡ next_place align blob.old + size (header.now ++ body.now)) }
-    ensures grown { OnOk result (Extends blob.old blob.new) }
-    ensures linkable { OnOk result (IsLinkable blob.old → IsLinkable blob.new) }
-    ensures held { OnOk result (WhereHeld blob.new
-        (λ view address place_of. LayoutHeld view place_of (address + next_place align blob.old) (header.now ++ body.now))) }
+    ensures appended { OnOk result (IsAppended align blob.old blob.new (header.now ++ body.now)) }
 {
     let place = blob.len().next_multiple_of(align);
     blob.align(align)?;

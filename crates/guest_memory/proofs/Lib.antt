@@ -1,5 +1,2 @@
-pub mod Ranges
-pub mod Edits
-pub mod Bytes
-pub mod Windows
-pub mod Seen
+pub mod Held
+pub mod Runs

@@ -1,3 +1,3 @@
-pub mod Memory
 pub use Rattle.vt_bytes.specs.Numbers
 pub use Rattle.vt_bytes.specs.View
+pub use Rattle.vt_bytes.specs.Memory

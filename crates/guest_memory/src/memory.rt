@@ -1,43 +1,72 @@
 ghost use Rattle.std.specs.Prelude.{◌≡◌, ℕ, ◌+◌, ◌<◌, ◌≤◌, ◌%◌, ◌↔◌, [], ◌∷◌, length, IsTrue, IfOk, slice_index};
-ghost use Rattle.vt_bytes.specs.Numbers.{byte_sum, le};
-ghost use Rattle.guest_memory.specs.Memory.{IsTop, IsRam, IsRamRange, high_start, at, bytes_at, Puts};
+ghost use Rattle.std.specs.Borrow.{Lends, Array, u8, sem};
+ghost use Rattle.vt_bytes.specs.Memory.{IsTop, IsRam, IsMemory, high_start, ram_ranges, at, bytes_at, with_bytes};
+ghost use Rattle.guest_memory.specs.contracts.memory.GuestMemory.{the_row};
 
 use std::alloc::Global;
 use std::marker::Model;
-use vt_bytes::{byte_sum, get_le};
+use vt_bytes::AddressRange;
 use vt_outside::OutOfMemory;
 
-const LOW_BYTES: usize = 0x10_0000;
+const LOW_END: u64 = 0xA_0000;
 
-const HIGH_BYTES: usize = 0x200_0000;
+const BIOS_START: u64 = 0xE_0000;
 
-const HOLE_START: u64 = 0xA_0000;
+const BIOS_END: u64 = 0x10_0000;
 
-const HOLE_END: u64 = 0xE_0000;
+const HIGH_BYTES: u64 = 0x200_0000;
 
-/// The memory of a guest.
+/// How many bytes a frame has. `window` and `window_mut` lend none past the end of one.
+pub const FRAME_BYTES: u64 = 4096;
+
+/// Returns the ranges of addresses that are RAM where RAM ends at the address `top`: 0 to 0x9FFFF, 0xE0000 to 0xFFFFF, and the
+/// 32 MiB that end at `top`, which must be a multiple of 1 MiB, from 64 MiB to 3 GiB.
+pub fn ram_ranges(top: u32) -> [AddressRange; 3]
+    requires { IsTop top }
+    ensures { result ≡ ram_ranges top }
+{
+    let top = u64::from(top);
+    [
+        AddressRange {
+            start: 0,
+            end: LOW_END,
+        },
+        AddressRange {
+            start: BIOS_START,
+            end: BIOS_END,
+        },
+        AddressRange {
+            start: top - HIGH_BYTES,
+            end: top,
+        },
+    ]
+}
+
+/// Holds the memory of a guest: its top, its fill byte, and a byte for each address of RAM.
 #[derive(Drop)]
 pub struct GuestMemory {
     top: u32,
     fill: u8,
     low: Vec<u8>,
+    bios: Vec<u8>,
     high: Vec<u8>,
 }
 
 impl Model for GuestMemory {
-    ghost use Rattle.guest_memory.specs.Memory.{Memory, IsMemory};
+    ghost use Rattle.std.specs.Prelude.{[], ◌∷◌};
+    ghost use Rattle.vt_bytes.specs.Memory.{Memory, IsMemory};
 
     ghost Value = { Memory };
 
-    ghost view = { λ m. record { top = m.top; fill = m.fill; low = m.low.items; high = m.high.items } };
+    ghost view = { λ m. record { top = m.top; fill = m.fill; parts = m.low.items ∷ m.bios.items ∷ m.high.items ∷ [] } };
 
-    ghost invariant = { λ m. IsMemory (record { top = m.top; fill = m.fill; low = m.low.items; high = m.high.items }) };
+    ghost invariant = { λ m. IsMemory (record { top = m.top; fill = m.fill; parts = m.low.items ∷ m.bios.items ∷ m.high.items ∷ [] }) };
 }
 
 impl GuestMemory {
     /// Makes the memory of a guest whose RAM ends at the address `top`, and sets each byte of RAM to `fill`. `top` must be a
-    /// multiple of 1 MiB, from 64 MiB to 3 GiB. Both windows, 33 MiB in all, come from `alloc`. It fails with `OutOfMemory`
-    /// only where `alloc` has no room for both windows.
+    /// multiple of 1 MiB, from 64 MiB to 3 GiB. All of RAM, 32 MiB and 768 KiB, comes from `alloc`. It fails with `OutOfMemory`
+    /// only where `alloc` has no room for it.
     pub fn begin(alloc: Global, top: u32, fill: u8) -> Result<GuestMemory, OutOfMemory>
         requires { IsTop top }
         ensures top { IfOk result (λ memory. memory.top ≡ top) }
@@ -47,15 +76,16 @@ impl GuestMemory {
         Ok(GuestMemory {
             top,
             fill,
-            low: window_of(alloc, LOW_BYTES, fill)?,
-            high: window_of(alloc, HIGH_BYTES, fill)?,
+            low: filled(alloc, LOW_END, fill)?,
+            bios: filled(alloc, BIOS_END - BIOS_START, fill)?,
+            high: filled(alloc, HIGH_BYTES, fill)?,
         })
     }
 
     /// Returns the address past the last byte of RAM. It is a multiple of 1 MiB, from 64 MiB to 3 GiB.
     pub fn top(&self) -> u32
         ensures value { result ≡ self.now.top }
-        ensures lawful { IsTop self.now.top }
+        ensures lawful { IsMemory self.now }
     {
         self.top
     }
@@ -67,14 +97,12 @@ impl GuestMemory {
         self.fill
     }
 
-    /// Tells whether the guest address `address` is RAM: it lies in one of the windows, and not in 0xA0000 to 0xDFFFF.
+    /// Tells whether the guest address `address` is RAM: it lies in one of the ranges of `ram_ranges`.
     pub fn is_ram(&self, address: u64) -> bool
         ensures { IsTrue result ↔ IsRam self.now.top address }
     {
-        let high = u64::from(self.top) - HIGH_BYTES as u64;
-        address < HOLE_START
-            || (HOLE_END <= address && address < LOW_BYTES as u64)
-            || (high <= address && address < u64::from(self.top))
+        let [low, bios, high] = ram_ranges(self.top);
+        low.contains(address) || bios.contains(address) || high.contains(address)
     }
 
     /// Returns the byte at the guest address `address`, which must be RAM.
@@ -82,98 +110,76 @@ impl GuestMemory {
         requires { IsRam self.now.top address }
         ensures { result ≡ at self.now address }
     {
-        if address < LOW_BYTES as u64 {
-            self.low[address as usize]
-        } else {
-            self.high[self.place_in_high(address)]
-        }
+        self.window(address, 1)[0]
     }
 
     /// Writes `byte` at the guest address `address`, which must be RAM. Each other byte stays.
     pub fn write(&mut self, address: u64, byte: u8)
         requires { IsRam self.old.top address }
-        ensures { Puts self.old self.new address (byte ∷ []) }
+        ensures after { self.new ≡ with_bytes self.old address (byte ∷ []) }
+        ensures lawful { IsMemory self.old }
     {
-        if address < LOW_BYTES as u64 {
-            self.low[address as usize] = byte;
-        } else {
-            let place = self.place_in_high(address);
-            self.high[place] = byte;
-        }
+        self.window_mut(address, 1)[0] = byte;
     }
 
-    /// Writes `bytes` at the guest address `address`. Each of those addresses must be RAM, and each other byte stays. Where
-    /// `bytes` is empty, `address` may be any number and nothing changes.
-    pub fn copy_in(&mut self, address: u64, bytes: &[u8])
-        requires { IsRamRange self.old.top address (length bytes.now) }
-        ensures { Puts self.old self.new address bytes.now }
+    /// Lends the `len` bytes from the guest address `address` on, which must be RAM. All of them must lie in one frame of 4,096
+    /// bytes.
+    pub fn window(&self, address: u64, len: u32) -> &[u8]
+        requires ram { IsRam self.now.top address }
+        requires frame { address % 4096 + len ≤ 4096 }
+        ensures value { result.now ≡ bytes_at self.now address len }
+        ensures len { length result.now ≡ len }
     {
-        if bytes.is_empty() {
-            return;
-        }
-        if address < LOW_BYTES as u64 {
+        if address < LOW_END {
             let place = address as usize;
-            self.low[place..place + bytes.len()].copy_from_slice(bytes);
+            &self.low[place..place + len as usize]
+        } else if address < BIOS_END {
+            let place = (address - BIOS_START) as usize;
+            &self.bios[place..place + len as usize]
         } else {
             let place = self.place_in_high(address);
-            self.high[place..place + bytes.len()].copy_from_slice(bytes);
+            &self.high[place..place + len as usize]
         }
     }
 
-    /// Returns the sum, modulo 256, of the `len` bytes from the guest address `address` on. Each of those addresses must be
-    /// RAM.
-    pub fn sum_range(&self, address: u64, len: u32) -> u8
-        requires { IsRamRange self.now.top address len }
-        ensures { result ≡ byte_sum (bytes_at self.now address len) }
+    /// Lends the `len` bytes from the guest address `address` on, to be changed. `address` must be RAM, and all of them must lie
+    /// in one frame of 4,096 bytes. What the borrower leaves there is what the memory then holds, and each other byte stays.
+    pub fn window_mut(&mut self, address: u64, len: u32) -> &mut [u8]
+        requires ram { IsRam self.old.top address }
+        requires frame { address % 4096 + len ≤ 4096 }
+        ensures* lends { sem 𝓛 (Lends the_row (Array u8 0) self.entry result (with_bytes self.old address)) }
+        ensures value { result.now ≡ bytes_at self.old address len }
+        ensures len { length result.now ≡ len }
+        ensures lawful { IsMemory self.old }
     {
-        byte_sum(self.bytes_at(address, len as usize))
-    }
-
-    /// Lends the `len` bytes from the guest address `address` on. Each of those addresses must be RAM. Where `len` is 0,
-    /// `address` may be any number.
-    pub fn bytes_at(&self, address: u64, len: usize) -> &[u8]
-        requires { IsRamRange self.now.top address len }
-        ensures { result.now ≡ bytes_at self.now address len }
-    {
-        if len == 0 {
-            return &[];
-        }
-        if address < LOW_BYTES as u64 {
+        if address < LOW_END {
             let place = address as usize;
-            &self.low[place..place + len]
+            self.low.slice_mut(place..place + len as usize)
+        } else if address < BIOS_END {
+            let place = (address - BIOS_START) as usize;
+            self.bios.slice_mut(place..place + len as usize)
         } else {
             let place = self.place_in_high(address);
-            &self.high[place..place + len]
+            self.high.slice_mut(place..place + len as usize)
         }
     }
 
-    // The little-endian number of `size` bytes at an address.
-    pub(crate) fn number_at(&self, address: u64, size: u8) -> u64
-        requires some { 1 ≤ size }
-        requires size { size ≤ 8 }
-        requires ram { IsRamRange self.now.top address size }
-        ensures { result ≡ le (bytes_at self.now address size) }
-    {
-        let size = usize::from(size);
-        get_le(self.bytes_at(address, size), 0, size)
-    }
-
-    // Where the upper window has the byte of an address past the lower one.
+    // Where the range below the top has the byte of an address past 1 MiB.
     fn place_in_high(&self, address: u64) -> usize
-        requires past_low { 0x100000 ≤ address }
+        requires past_bios { 0x100000 ≤ address }
         requires ram { IsRam self.now.top address }
         ensures place { result + high_start self.now.top ≡ address }
         ensures within { result < 0x2000000 }
     {
-        let high = u64::from(self.top) - HIGH_BYTES as u64;
-        (address - high) as usize
+        let start = u64::from(self.top) - HIGH_BYTES;
+        (address - start) as usize
     }
 }
 
-// A window in which every byte is the fill byte.
-fn window_of(alloc: Global, len: usize, fill: u8) -> Result<Vec<u8>, OutOfMemory>
-    ensures len { IfOk result (λ window. length window.items ≡ len) }
-    ensures filled { IfOk result (λ window. (i : ℕ) → i < len → slice_index window.items i ≡ fill) }
+// So many fill bytes.
+fn filled(alloc: Global, len: u64, fill: u8) -> Result<Vec<u8>, OutOfMemory>
+    ensures len { IfOk result (λ bytes. length bytes.items ≡ len) }
+    ensures filled { IfOk result (λ bytes. (i : ℕ) → i < len → slice_index bytes.items i ≡ fill) }
 {
-    Ok(vec![in alloc; fill; len]?)
+    Ok(vec![in alloc; fill; len as usize]?)
 }

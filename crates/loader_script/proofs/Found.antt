@@ -1,5 +1,5 @@
 -- The file that has a name, and where it is placed.
-use Rattle.std.proofs.Common.{◌≡◌, ℕ, suc, ◌+◌, ◌^◌, ◌<◌, inl, inr, true, false, cond, ltb, not, List, [], ◌∷◌, length, get_or, Option, Some, None, arith}
+use Rattle.std.proofs.Common.{◌≡◌, ℕ, suc, ◌+◌, ◌^◌, ◌≤◌, inl, inr, true, false, cond, ltb, not, List, [], ◌∷◌, length, get_or, Option, Some, None, arith}
 use Rattle.std.proofs.Common.{refl, ap, sym, ◌∙◌}
 use Rattle.std.specs.List.{position_or_len}
 use Rattle.std.specs.Str.{bytes_eq}
@@ -62,7 +62,7 @@ ends_low_rest first files (Some place) places low = low.1
 
 -- and the first, where it is placed
 ends_low_first : (first : FileInfo) (files : List FileInfo) (at : Option ℕ) (places : List (Option ℕ)) (file : FileInfo) (place : ℕ) → first ≡ file
-    → at ≡ Some place → EndLow (first ∷ files) (at ∷ places) → place + file.size < 2 ^ 32
+    → at ≡ Some place → EndLow (first ∷ files) (at ∷ places) → place + file.size ≤ 2 ^ 32
 ends_low_first first files None places file place is there low = absurd (none-some place there)
 ends_low_first first files (Some other) places file place is there low =
     let same : other ≡ place = same_Some other place there in
@@ -71,11 +71,11 @@ ends_low_first first files (Some other) places file place is there low =
 
 -- a file that is found at a place ends low
 pub found_ends_low : (files : List FileInfo) (places : List (Option ℕ)) (name : List ℕ) (file : FileInfo) (place : ℕ) → EndLow files places
-    → IsFound files places name file (Some place) → place + file.size < 2 ^ 32
+    → IsFound files places name file (Some place) → place + file.size ≤ 2 ^ 32
 found_ends_low [] places name file place low found = absurd (none-some file found.named)
 found_ends_low (first ∷ files) [] name file place low found = absurd (none-some place found.placed)
 found_ends_low (first ∷ files) (at ∷ places) name file place low found =
-    elim (cases_Bool (bytes_eq first.name name)) as (λ _. place + file.size < 2 ^ 32) [
+    elim (cases_Bool (bytes_eq first.name name)) as (λ _. place + file.size ≤ 2 ^ 32) [
       | inl same ↦
           let is : first ≡ file = same_Some first file (sym (cond-true _ _ _ same) ∙ found.named) in
           let there : at ≡ Some place = sym (cond-true _ _ _ same) ∙ found.placed in

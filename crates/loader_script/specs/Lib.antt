@@ -1,4 +1,10 @@
 pub mod Spelling
 pub mod Refusal
+pub mod Run
+pub mod Conditions
+pub mod Left
 pub use Rattle.vt_outside.specs.Name
+pub use Rattle.vt_outside.specs.Placement
 pub use Rattle.vt_bytes.specs.Numbers
+pub use Rattle.vt_bytes.specs.Parts
+pub use Rattle.vt_bytes.specs.Memory

@@ -1,5 +1,5 @@
 -- Why a command is refused: the first cause that applies, in the order of the causes.
-use Rattle.std.specs.Prelude.{◌≡◌, ℕ, ◌+◌, ◌^◌, ◌<◌, Bool, true, false, not, ◌&&◌, ◌||◌, List, [], ◌∷◌, Option, Some, None, is_some, unwrap_or, find, nat_lt}
+use Rattle.std.specs.Prelude.{◌≡◌, ℕ, ◌+◌, ◌^◌, ◌≤◌, Bool, true, false, not, ◌&&◌, ◌||◌, List, [], ◌∷◌, Option, Some, None, is_some, unwrap_or, find, nat_lt}
 use Rattle.std.specs.Prelude.{nat_le, ◌==◌, if◌then◌else◌}
 use Rattle.std.specs.List.{AllByRecursion}
 use Rattle.std.specs.Option.{option_map_or}
@@ -64,12 +64,12 @@ abbrev pub AreDistinct : List FileInfo → Type 0
 AreDistinct [] = Unit {0}
 AreDistinct (file ∷ files) = AllByRecursion (λ (other : FileInfo). bytes_eq other.name file.name ≡ false) files × AreDistinct files
 
--- each placed file ends below 2 ^ 32
+-- each placed file ends at or below 4 GiB
 abbrev pub EndLow : List FileInfo → List (Option ℕ) → Type 0
 EndLow [] places = Unit {0}
 EndLow (file ∷ files) [] = Unit {0}
 EndLow (file ∷ files) (None ∷ places) = EndLow files places
-EndLow (file ∷ files) (Some place ∷ places) = (place + file.size < 2 ^ 32) × EndLow files places
+EndLow (file ∷ files) (Some place ∷ places) = (place + file.size ≤ 2 ^ 32) × EndLow files places
 
 -- a file has the name, and stands at that place or at none
 pub record IsFound (files : List FileInfo) (places : List (Option ℕ)) (name : List ℕ) (file : FileInfo) (place : Option ℕ) : Type 0 where

@@ -1,7 +1,10 @@
 //! Laws over the definitions, each the contract of a function that does nothing.
 
-ghost use Rattle.std.specs.Prelude.{◌≡◌, ◌*◌, List, length};
+ghost use Rattle.std.specs.Prelude.{◌≡◌, ℕ, suc, ◌*◌, ◌↔◌, List, length, slice_get, Some, None};
 ghost use Rattle.std.specs.List.{flat_map, AllByRecursion};
+ghost use Rattle.loader_script.specs.Run.{File, Progress, End, Done, Command, NoRoom, cause_of, carried_out, run, after_first};
+ghost use Rattle.loader_script.specs.Conditions.{CanCarryOut};
+ghost use Rattle.loader_script.specs.declared.refusing.Cause.{Cause};
 ghost use Rattle.loader_script.specs.Spelling.{entry_of, entries_of, entry_bytes, Fits, IsReadAgain};
 ghost use Rattle.loader_script.specs.declared.entry.Entry.{Entry};
 
@@ -23,4 +26,40 @@ pub fn written_script_is_read()
         → entries_of (length script) (flat_map entry_bytes script) ≡ script }
     ensures size { (script : List Entry) → AllByRecursion Fits script
         → length (flat_map entry_bytes script) ≡ 128 * length script }
+{}
+
+/// States that a command isn't refused exactly where its conditions hold.
+pub fn commands_are_refused_by_their_conditions()
+    ensures { (entry : Entry) (p : Progress) → (cause_of entry p ≡ None) ↔ CanCarryOut entry p }
+{}
+
+/// States that for given files, commands and places there is one end of a run.
+pub fn one_end()
+    ensures { (files : List File) (script : List Entry) (places : List ℕ) (a b : End × Progress)
+        → run files script places ≡ a → run files script places ≡ b → a ≡ b }
+{}
+
+/// States that each command of a run that ends as Done isn't refused, and is carried out in its turn.
+pub fn done_runs_carry_out_each_command()
+    ensures { (files : List File) (script : List Entry) (places : List ℕ) (end : Progress) (index : ℕ) (entry : Entry)
+        → run files script places ≡ (Done, end) → slice_get script index ≡ Some entry
+        → (cause_of entry (after_first index files script places) ≡ None)
+        × (carried_out entry (after_first index files script places) ≡ Some (after_first (suc index) files script places)) }
+{}
+
+/// States that a run that ends at a command is refused there for the first cause, and that the command changes nothing.
+pub fn refused_commands_change_nothing()
+    ensures { (files : List File) (script : List Entry) (places : List ℕ) (index : ℕ) (cause : Cause)
+        → (run files script places).0 ≡ Command index cause
+        → (entry : Entry) × (slice_get script index ≡ Some entry) × (cause_of entry (after_first index files script places) ≡ Some cause)
+        × ((run files script places).1 ≡ after_first index files script places) }
+{}
+
+/// States that a run that finds no room stops at a command that isn't refused but finds no place, and that it changes nothing.
+pub fn commands_without_room_change_nothing()
+    ensures { (files : List File) (script : List Entry) (places : List ℕ) (index : ℕ)
+        → (run files script places).0 ≡ NoRoom index
+        → (entry : Entry) × (slice_get script index ≡ Some entry) × (cause_of entry (after_first index files script places) ≡ None)
+        × (carried_out entry (after_first index files script places) ≡ None)
+        × ((run files script places).1 ≡ after_first index files script places) }
 {}

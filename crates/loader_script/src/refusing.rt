@@ -46,7 +46,7 @@ pub struct FileInfo {
 }
 
 /// Returns the first cause to refuse `entry`, or `None`. `files` lists the files of the directory, no two with one name.
-/// `placed[i]` is the address of `files[i]`, if it was allocated, and the file must then end below 2^32; both lists must have
+/// `placed[i]` is the address of `files[i]`, if it was allocated, and the file must then end at or below 2^32; both lists must have
 /// one length. It takes no memory. Whether the sum of an `AddPointer` fits in its field depends on what the memory holds, and
 /// isn't tested here. For a `WritePointer` it is, with `TooFar` as the cause.
 pub fn refusal(entry: &Entry, files: &[FileInfo], placed: &[Option<u64>]) -> Option<Cause>

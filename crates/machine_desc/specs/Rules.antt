@@ -1,6 +1,6 @@
 -- The rules that an accepted machine keeps.
-use Rattle.std.specs.Prelude.{◌≡◌, ℕ, ◌-◌, ◌%◌, ◌^◌, Bool, true, not, ◌&&◌, ◌||◌, List, [], ◌∷◌, ◌++◌, length, Option, Some, None, IfSome, ◌<◌}
-use Rattle.std.specs.Prelude.{is_some, nat_le, ◌==◌, slice_index, if◌then◌else◌}
+use Rattle.std.specs.Prelude.{◌≡◌, ℕ, ◌-◌, ◌%◌, ◌^◌, Bool, true, false, not, ◌&&◌, ◌||◌, List, [], ◌∷◌, ◌++◌, length, Option, Some, None, IfSome, ◌<◌}
+use Rattle.std.specs.Prelude.{is_some, nat_le, ◌==◌, slice_get, if◌then◌else◌}
 use Rattle.std.specs.List.{list_all}
 use Rattle.std.specs.Option.{option_map_or}
 use Rattle.vt_outside.specs.Name.{is_printable}
@@ -30,9 +30,13 @@ acpi_texts (Some acpi) = acpi.oem_id ∷ acpi.oem_table_id ∷ []
 abbrev pub texts_of : Machine → List (List ℕ)
 texts_of m = system_texts m.system ++ acpi_texts m.acpi
 
+-- the last byte of a text, where it has one, is a space
+abbrev pub ends_in_space : List ℕ → Bool
+ends_in_space text = option_map_or (λ byte. byte == 0x20) (slice_get text (length text - 1)) false
+
 -- at most so many bytes, the last of which is no space
 abbrev pub is_padded_text : ℕ → List ℕ → Bool
-is_padded_text size text = nat_le (length text) size && not (slice_index text (length text - 1) == 0x20)
+is_padded_text size text = nat_le (length text) size && not (ends_in_space text)
 
 -- the identifiers of the ACPI tables fit their fields
 abbrev pub breach_of_acpi : Option Acpi → Option ℕ

@@ -1,10 +1,10 @@
 -- What the rules say of an accepted machine's ACPI tables.
-use Rattle.std.proofs.Common.{◌≡◌, ℕ, ◌-◌, ◌≤◌, Bool, true, false, List, Some, None, nat_le, length, not, ◌==◌, slice_index}
+use Rattle.std.proofs.Common.{◌≡◌, ℕ, ◌≤◌, Bool, true, false, List, Some, None, nat_le, length, not}
 use Rattle.std.proofs.Common.{if◌then◌else◌, refl, ap, sym, ◌∙◌}
 use Rattle.std.proofs.lemmas.Bool.{and_parts, leb-true}
 use Rattle.machine_desc.specs.declared.machine.Machine.{Machine}
 use Rattle.machine_desc.specs.declared.machine.Acpi.{Acpi}
-use Rattle.machine_desc.specs.Rules.{is_padded_text, only_at, breach_of_acpi, breach_of, breaches, IsAccepted}
+use Rattle.machine_desc.specs.Rules.{ends_in_space, is_padded_text, only_at, breach_of_acpi, breach_of, breaches, IsAccepted}
 use Rattle.machine_desc.proofs.Kept.{each_is_kept}
 use Rattle.table_model.specs.Header.{FitsHead}
 
@@ -27,7 +27,7 @@ accepted_padded m acpi accepted is =
 
 short : (size : ℕ) (text : List ℕ) → is_padded_text size text ≡ true → length text ≤ size
 short size text is =
-    leb-true (length text) size (and_parts (nat_le (length text) size) (not (slice_index text (length text - 1) == 0x20)) is).0
+    leb-true (length text) size (and_parts (nat_le (length text) size) (not (ends_in_space text)) is).0
 
 -- and fit the fields of a header
 pub accepted_fits : (m : Machine) (acpi : Acpi) → IsAccepted m → m.acpi ≡ Some acpi → FitsHead acpi

@@ -1,7 +1,8 @@
 pub mod AcceptedAcpi
 pub mod Choices
 pub mod OneTable
-pub mod OneHpet
+pub mod Known
+pub mod OneLayout
 pub mod HeldTables
 pub mod Xsdt
 pub mod OneRsdp

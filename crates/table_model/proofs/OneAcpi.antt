@@ -1,34 +1,31 @@
 -- A view shows one set of ACPI tables.
-use Rattle.std.proofs.Common.{◌≡◌, ℕ, List, [], ◌∷◌, ◌++◌, refl, ap, sym, ◌∙◌, subst}
-use Rattle.std.specs.Str.{bytes_eq}
+use Rattle.std.proofs.Common.{◌≡◌, ℕ, List, [], ◌∷◌, ◌++◌, is_some, refl, ap, sym, ◌∙◌, subst}
 use Rattle.vt_bytes.specs.View.{View}
 use Rattle.table_model.specs.declared.acpi.AcpiTables.{AcpiTables}
 use Rattle.table_model.specs.declared.acpi.OtherTable.{OtherTable}
 use Rattle.table_model.specs.declared.acpi.Table.{Table}
 use Rattle.table_model.specs.declared.acpi.Table.TheVariants.{Hpet}
-use Rattle.table_model.specs.Acpi.{IsAt, IsOther, Adds, AddsOther, Finds, Walks, no_tables, ShowsAcpi}
-use Rattle.table_model.specs.Hpet.{hpet_signature}
+use Rattle.table_model.specs.Acpi.{kind_of, IsAt, IsOther, Adds, AddsOther, Finds, Walks, no_tables, ShowsAcpi}
 use Rattle.table_model.specs.Xsdt.{IsXsdt}
 use Rattle.table_model.specs.Rsdp.{IsRsdp, HasRsdp}
 use Rattle.table_model.proofs.Choices.{IsOne, one_where, one_least}
 use Rattle.table_model.proofs.OneTable.{one_table}
-use Rattle.table_model.proofs.OneHpet.{one_hpet}
+use Rattle.table_model.proofs.OneLayout.{one_at}
 use Rattle.table_model.proofs.Xsdt.{one_xsdt}
 use Rattle.table_model.proofs.OneRsdp.{one_rsdp}
 
 -- with one table more there is one set
-one_adds : (table : Table) (before : AcpiTables) → IsOne (Adds table before)
-one_adds (Hpet t) before a b is also = is.1 ∙ sym also.1
+one_adds : (view : View) (table : Table) (before : AcpiTables) → IsOne (Adds view table before)
+one_adds view (Hpet t) before a b is also = is.1 ∙ sym also.1
 
--- a table of one kind is found at an address
-abbrev FindsOne : {T : Type 0} → (T → Table) → View → ℕ → AcpiTables → AcpiTables → Type 0
-FindsOne {T} table_of view address before after = (t : T) × IsAt view address (table_of t) × Adds (table_of t) before after
+-- a table of a known signature is found at an address
+abbrev pub FindsKnown : View → ℕ → AcpiTables → AcpiTables → Type 0
+FindsKnown view address before after = (t : Table) × IsAt view address t × Adds view t before after
 
-one_of_kind : {T : Type 0} (table_of : T → Table) (view : View) (address : ℕ) (before : AcpiTables)
-    → IsOne (λ t. IsAt view address (table_of t)) → IsOne (FindsOne table_of view address before)
-one_of_kind table_of view address before one a b (t, stands, adds) (u, also, more) =
-    let same : t ≡ u = one t u stands also in
-    one_adds (table_of u) before a b (subst (λ x. Adds (table_of x) before a) same adds) more
+one_of_known : (view : View) (address : ℕ) (before : AcpiTables) → IsOne (FindsKnown view address before)
+one_of_known view address before a b (t, stands, adds) (u, also, more) =
+    let same : t ≡ u = one_at view address t u stands also in
+    one_adds view u before a b (subst (λ x. Adds view x before a) same adds) more
 
 -- the table of another signature that stands at an address
 other_from : List ℕ → ℕ → OtherTable
@@ -40,7 +37,7 @@ one_other view address t u is also =
     let same = one_table view address t.signature u.signature t.length u.length is.0 also.0 [] [] is.1 also.1 (λ totals. refl) in
     ap (λ signature. other_from signature t.length) same.signatures ∙ ap (other_from u.signature) same.totals
 
-abbrev FindsOther : View → ℕ → AcpiTables → AcpiTables → Type 0
+abbrev pub FindsOther : View → ℕ → AcpiTables → AcpiTables → Type 0
 FindsOther view address before after = (t : OtherTable) × IsOther view address t × AddsOther t before after
 
 one_of_others : (view : View) (address : ℕ) (before : AcpiTables) → IsOne (FindsOther view address before)
@@ -51,11 +48,11 @@ one_of_others view address before a b (t, stands, adds) (u, also, more) =
     one_of_added : (t u : OtherTable) (before a b : AcpiTables) → t ≡ u → AddsOther t before a → AddsOther u before b → a ≡ b
     one_of_added t u before a b same adds more = adds ∙ ap (λ (x : OtherTable). record before { others = before.others ++ x ∷ [] }) same ∙ sym more
 
--- the signature at an address decides which kind of table is found there
+-- the signature at an address decides which of them
 one_found : (signature : List ℕ) (view : View) (address : ℕ) (before : AcpiTables) → IsOne (Finds signature view address before)
 one_found signature view address before =
-    one_where (bytes_eq signature hpet_signature) (FindsOne Hpet view address before) (FindsOther view address before)
-    (one_of_kind Hpet view address before (one_hpet view address)) (one_of_others view address before)
+    one_where (is_some (kind_of signature)) (FindsKnown view address before) (FindsOther view address before)
+    (one_of_known view address before) (one_of_others view address before)
 
 -- one set of tables stands at addresses
 one_walk : (view : View) (addresses : List ℕ) (before : AcpiTables) → IsOne (Walks view addresses before)

@@ -1,6 +1,6 @@
 -- Two accepted machines with one inventory are the same.
 use Rattle.std.proofs.Common.{◌≡◌, ℕ, zero, suc, ◌-◌, ◌*◌, ◌^◌, ◌<◌, Bool, true, false, not, ◌||◌}
-use Rattle.std.proofs.Common.{List, [], ◌∷◌, ◌++◌, length, replicate, reverse, slice_index}
+use Rattle.std.proofs.Common.{List, [], ◌∷◌, ◌++◌, length, replicate, reverse, slice_get}
 use Rattle.std.proofs.Common.{Option, Some, None, IfSome, nat_le, is_some, ◌==◌, arith, refl, ap, sym, ◌∙◌}
 use Rattle.std.proofs.lemmas.Bool.{and_parts}
 use Rattle.std.proofs.lemmas.Bool.Decides.{nat_tests}
@@ -14,8 +14,9 @@ use Rattle.machine_desc.specs.declared.machine.Machine.{Machine}
 use Rattle.machine_desc.specs.declared.machine.System.{System as SystemPart}
 use Rattle.machine_desc.specs.declared.machine.Acpi.{Acpi}
 use Rattle.machine_desc.specs.declared.machine.Hpet.{Hpet}
-use Rattle.machine_desc.specs.Rules.{only_at, is_own_uuid, is_padded_text, breaches, IsAccepted, HasFitting}
+use Rattle.machine_desc.specs.Rules.{only_at, is_own_uuid, ends_in_space, is_padded_text, breaches, IsAccepted, HasFitting}
 use Rattle.machine_desc.proofs.Kept.{each_is_kept}
+use Rattle.machine_desc.proofs.SameSystem.{same_system as same_parts}
 use Rattle.table_model.specs.declared.hpet.HpetTable.{HpetTable}
 use Rattle.table_model.specs.declared.acpi.AcpiTables.{AcpiTables}
 use Rattle.table_model.specs.declared.system_information.SystemInfo.{SystemInfo}
@@ -31,16 +32,16 @@ use Rattle.table_model.specs.Smbios.{structures_of, smbios_of}
 use Rattle.table_model.specs.Inventory.{inventory_of}
 use Rattle.table_model.proofs.AcceptedAcpi.{accepted_padded}
 
--- the last byte of a text is no space
+-- the last byte of a text, where it has one, is no space
 abbrev NoSpace : List ℕ → Type 0
-NoSpace text = slice_index text (length text - 1) ≡ 0x20 → ⊥
+NoSpace text = slice_get text (length text - 1) ≡ Some 0x20 → ⊥
 
 -- the last byte of a longer text
 last_of_more : (first next : ℕ) (text : List ℕ)
-    → slice_index (first ∷ next ∷ text) (length (first ∷ next ∷ text) - 1) ≡ slice_index (next ∷ text) (length (next ∷ text) - 1)
+    → slice_get (first ∷ next ∷ text) (length (first ∷ next ∷ text) - 1) ≡ slice_get (next ∷ text) (length (next ∷ text) - 1)
 last_of_more first next text =
     let place : length (first ∷ next ∷ text) - 1 ≡ suc (length (next ∷ text) - 1) = omega arith in
-    ap (slice_index (first ∷ next ∷ text)) place
+    ap (slice_get (first ∷ next ∷ text)) place
 
 no_space_behind : (first : ℕ) (text : List ℕ) → NoSpace (first ∷ text) → NoSpace text
 no_space_behind first [] none = λ is. absurd (cc)
@@ -65,11 +66,9 @@ one_padded (a ∷ s) (b ∷ t) j k s_none t_none same =
 
 no_space : (size : ℕ) (text : List ℕ) → is_padded_text size text ≡ true → NoSpace text
 no_space size text is ends =
-    let parts = and_parts (nat_le (length text) size) (not (slice_index text (length text - 1) == 0x20)) is in
-    space_is_no_other (slice_index text (length text - 1)) parts.1 ends
-  where
-    space_is_no_other : (byte : ℕ) → not (byte == 0x20) ≡ true → byte ≡ 0x20 → ⊥
-    space_is_no_other byte other is = grind (arith, nat_tests)
+    let parts = and_parts (nat_le (length text) size) (not (ends_in_space text)) is in
+    let space : ends_in_space text ≡ true = ap (λ last. option_map_or (λ byte. byte == 0x20) last false) ends in
+    absurd (cc)
 
 one_text : (size : ℕ) (s t : List ℕ) → is_padded_text size s ≡ true → is_padded_text size t ≡ true → padded size s ≡ padded size t → s ≡ t
 one_text size s t is also same = one_padded s t (size - length s) (size - length t) (no_space size s is) (no_space size t also) same
@@ -116,22 +115,6 @@ only_none index false none = absurd (cc)
 own_uuid : (m : Machine) → IsAccepted m → option_map_or is_own_uuid m.system.uuid true ≡ true
 own_uuid m accepted = only_none 0 (option_map_or is_own_uuid m.system.uuid true) (each_is_kept 4 (breaches m) accepted)
 
--- the system of these parts
-system_from : List ℕ → List ℕ → List ℕ → List ℕ → List ℕ → List ℕ → Option ℕ → SystemPart
-system_from manufacturer product version serial sku family uuid = record {
-  manufacturer = manufacturer;
-  product = product;
-  version = version;
-  serial = serial;
-  sku = sku;
-  family = family;
-  uuid = uuid;
-}
-
-system_from-parts : (s : SystemPart) → system_from s.manufacturer s.product s.version s.serial s.sku s.family s.uuid ≡ s
-unfolding system_from
-system_from-parts s = refl
-
 -- its first structure
 abbrev system_structure : SystemPart → Structure
 system_structure s = record { handle = 0x0100; body = System (info_of s) }
@@ -158,29 +141,20 @@ same_system a b a_fits b_fits a_accepted b_accepted same =
     let uuid : a.system.uuid ≡ b.system.uuid =
     one_uuid a.system.uuid b.system.uuid a_fits b_fits (own_uuid a a_accepted) (own_uuid b b_accepted) (ap (λ (i : SystemInfo). i.uuid) infos) in
     same_parts a.system b.system manufacturer product version serial sku family uuid
-  where
-    same_parts : (s t : SystemPart) → s.manufacturer ≡ t.manufacturer → s.product ≡ t.product → s.version ≡ t.version → s.serial ≡ t.serial
-        → s.sku ≡ t.sku → s.family ≡ t.family → s.uuid ≡ t.uuid → s ≡ t
-    same_parts s t manufacturer product version serial sku family uuid =
-        let parts : system_from s.manufacturer s.product s.version s.serial s.sku s.family s.uuid
-        ≡ system_from t.manufacturer t.product t.version t.serial t.sku t.family t.uuid = cc in
-        sym (system_from-parts s) ∙ parts ∙ system_from-parts t
+
+-- the same tables are of the same parts, where each part is got back from its table
+same_part : {Part T : Type 0} (of others : Part → T) (back : T → Part) → ((part : Part) → back (of part) ≡ part)
+    → ((part : Part) → back (others part) ≡ part) → (g h : Option Part) → option_map of g ≡ option_map others h → g ≡ h
+same_part of others back is also None None same = refl
+same_part of others back is also None (Some h) same = absurd (cc)
+same_part of others back is also (Some g) None same = absurd (cc)
+same_part of others back is also (Some g) (Some h) same =
+    let tables : of g ≡ others h = cc in
+    ap Some (sym (is g) ∙ ap back tables ∙ also h)
 
 -- the HPET of a table
-hpet_in : HpetTable → Hpet
+abbrev hpet_in : HpetTable → Hpet
 hpet_in t = record { address = t.address.address; block_id = t.block_id; number = t.number; min_tick = t.min_tick }
-
-hpet_in-of : (acpi : Acpi) (hpet : Hpet) → hpet_in (hpet_of acpi hpet) ≡ hpet
-unfolding hpet_in
-hpet_in-of acpi hpet = refl
-
-same_hpet : (x y : Acpi) (g h : Option Hpet) → option_map (hpet_of x) g ≡ option_map (hpet_of y) h → g ≡ h
-same_hpet x y None None same = refl
-same_hpet x y None (Some h) same = absurd (cc)
-same_hpet x y (Some g) None same = absurd (cc)
-same_hpet x y (Some g) (Some h) same =
-    let tables : hpet_of x g ≡ hpet_of y h = cc in
-    ap Some (sym (hpet_in-of x g) ∙ ap hpet_in tables ∙ hpet_in-of y h)
 
 -- an accepted machine without ACPI tables has no HPET
 no_hpet : (m : Machine) → IsAccepted m → m.acpi ≡ None → m.hpet ≡ None
@@ -217,7 +191,7 @@ same_tables a b (Some x) (Some y) a_has b_has a_accepted b_accepted same =
     one_text 8 x.oem_table_id y.oem_table_id is.oem_table_id also.oem_table_id (ap (λ (t : AcpiTables). t.xsdt.oem_table_id) tables) in
     record {
       acpi = ap Some (ap (λ text. acpi_from text x.oem_table_id) oem_id ∙ ap (acpi_from y.oem_id) oem_table_id);
-      hpet = same_hpet x y a.hpet b.hpet (ap (λ (t : AcpiTables). t.hpet) tables);
+      hpet = same_part (hpet_of x) (hpet_of y) hpet_in (λ hpet. refl) (λ hpet. refl) a.hpet b.hpet (ap (λ (t : AcpiTables). t.hpet) tables);
     }
 
 -- the machine of these parts

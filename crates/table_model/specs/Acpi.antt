@@ -1,59 +1,67 @@
 -- The ACPI tables that a view shows, from its RSDP on (ACPI 6.5, chapter 5).
-use Rattle.std.specs.Prelude.{◌≡◌, ℕ, ◌<◌, List, [], ◌∷◌, ◌++◌, Option, Some, None, option_map}
+use Rattle.std.specs.Prelude.{◌≡◌, ℕ, ◌<◌, List, [], ◌∷◌, ◌++◌, Option, Some, None, option_map, is_some}
+use Rattle.std.specs.List.{find}
 use Rattle.std.specs.Str.{bytes_eq}
 use Rattle.vt_bytes.specs.View.{View, bytes_in}
 use Rattle.vt_layout.specs.declared.row.Row.{Row}
 use Rattle.machine_desc.specs.declared.machine.Machine.{Machine}
 use Rattle.machine_desc.specs.declared.machine.Acpi.{Acpi}
 use Rattle.table_model.specs.declared.header.Head.{Head}
-use Rattle.table_model.specs.declared.hpet.HpetTable.{HpetTable}
 use Rattle.table_model.specs.declared.acpi.AcpiTables.{AcpiTables}
 use Rattle.table_model.specs.declared.acpi.OtherTable.{OtherTable}
 use Rattle.table_model.specs.declared.acpi.Table.{Table}
 use Rattle.table_model.specs.declared.acpi.Table.TheVariants.{Hpet}
 use Rattle.table_model.specs.Choice.{Where}
-use Rattle.table_model.specs.Header.{IsTable, table_rows, head_of, padded}
-use Rattle.table_model.specs.Hpet.{hpet_signature, hpet_body, hpet_of}
+use Rattle.table_model.specs.Header.{IsTable, head_of, padded}
+use Rattle.table_model.specs.Kinds.{Kind, TableLayout, table_of, layout_rows, linked_layout, IsLayoutAt}
+use Rattle.table_model.specs.Hpet.{hpet_kind, hpet_layout, hpet_of}
 use Rattle.table_model.specs.Xsdt.{IsXsdt}
 use Rattle.table_model.specs.Rsdp.{IsRsdp, HasRsdp}
 
--- a table of a known signature: its signature, its header, and the rows behind it
-abbrev pub signature_of : Table → List ℕ
-signature_of (Hpet t) = hpet_signature
+-- the kinds of tables that are known, each of another signature
+abbrev pub kinds : List Kind
+kinds = hpet_kind ∷ []
 
-abbrev pub header_of : Table → Head
-header_of (Hpet t) = t.head
+-- the kind of a signature, where it is known
+abbrev pub kind_of : List ℕ → Option Kind
+kind_of signature = find (λ (kind : Kind). bytes_eq signature kind.signature) kinds
 
-abbrev pub body_of : Table → List Row
-body_of (Hpet t) = hpet_body t
+abbrev pub layout_of : Table → TableLayout
+layout_of (Hpet t) = hpet_layout t
 
--- its rows as they are written
+-- What is kept by a table that can be written, beyond that its values fit their rows: that its entries are of known types, that a list
+-- has as many elements as the table says. Nothing of a table with one list of fields.
+abbrev pub IsWritable : Table → Type 0
+IsWritable (Hpet t) = Unit {0}
+
+-- the rows of a table as they are written
 abbrev pub rows_of : Table → List Row
-rows_of table = table_rows (signature_of table) (header_of table) (body_of table)
+rows_of table = layout_rows (layout_of table)
 
 -- a table that leads elsewhere by pointers, with its targets' places added, where each file stands at its place
 abbrev pub linked_table : (List ℕ → ℕ) → Table → Table
-linked_table place_of (Hpet t) = Hpet t
+linked_table place_of table = table_of (linked_layout place_of (layout_of table))
 
--- the table stands at an address, with its least length or a greater one
+-- the table stands at an address
 abbrev pub IsAt : View → ℕ → Table → Type 0
-IsAt view address table = (total : ℕ) × IsTable view address (signature_of table) (header_of table) total (body_of table)
+IsAt view address table = IsLayoutAt view address (layout_of table)
 
 -- a table of another signature stands at an address
 abbrev pub IsOther : View → ℕ → OtherTable → Type 0
 IsOther view address t = (head : Head) × IsTable view address t.signature head t.length []
 
--- what was found with one table more, which is none of a kind that was found before
-abbrev pub Adds : Table → AcpiTables → AcpiTables → Type 0
-Adds (Hpet t) before after = (before.hpet ≡ None) × (after ≡ record before { hpet = Some t })
+-- What was found with one table more, which is none of a kind that was found before. A table that leads elsewhere is added with
+-- what the view shows there.
+abbrev pub Adds : View → Table → AcpiTables → AcpiTables → Type 0
+Adds view (Hpet t) before after = (before.hpet ≡ None) × (after ≡ record before { hpet = Some t })
 
 abbrev pub AddsOther : OtherTable → AcpiTables → AcpiTables → Type 0
 AddsOther t before after = after ≡ record before { others = before.others ++ t ∷ [] }
 
--- The table at an address is added to what was found, by the relation that its signature names.
+-- The table at an address is added to what was found, as one of its signature's kind, or as one of another signature.
 abbrev pub Finds : List ℕ → View → ℕ → AcpiTables → AcpiTables → Type 0
 Finds signature view address before after =
-    Where (bytes_eq signature hpet_signature) ((t : HpetTable) × IsAt view address (Hpet t) × Adds (Hpet t) before after)
+    Where (is_some (kind_of signature)) ((t : Table) × IsAt view address t × Adds view t before after)
     ((t : OtherTable) × IsOther view address t × AddsOther t before after)
 
 -- The tables at the addresses are added one after the other.

@@ -1,5 +1,5 @@
 -- The HPET table (IA-PC HPET 1.0a, 3.2.4). The address of its registers is a Generic Address Structure (ACPI 6.5, 5.2.3.2).
-use Rattle.std.specs.Prelude.{ℕ, List, [], ◌∷◌, codes}
+use Rattle.std.specs.Prelude.{List, [], ◌∷◌, codes, None}
 use Rattle.vt_layout.specs.declared.row.Row.{Row}
 use Rattle.vt_layout.specs.declared.row.Row.TheVariants.{Number, Reserved}
 use Rattle.vt_layout.specs.Rows.{number}
@@ -7,10 +7,9 @@ use Rattle.machine_desc.specs.declared.machine.Acpi.{Acpi}
 use Rattle.machine_desc.specs.declared.machine.Hpet.{Hpet}
 use Rattle.table_model.specs.declared.header.Head.{Head}
 use Rattle.table_model.specs.declared.hpet.HpetTable.{HpetTable}
+use Rattle.table_model.specs.declared.acpi.Table.TheVariants.{Hpet as HpetVariant}
 use Rattle.table_model.specs.Header.{head_of}
-
-abbrev pub hpet_signature : List ℕ
-hpet_signature = codes "HPET"
+use Rattle.table_model.specs.Kinds.{Kind, TableLayout, shape_without_entries}
 
 -- the rows behind its header
 abbrev pub hpet_body : HpetTable → List Row
@@ -27,6 +26,17 @@ hpet_of_rows head body = record {
   number = number 6 body;
   min_tick = number 7 body;
 }
+
+abbrev pub hpet_kind : Kind
+hpet_kind = record {
+  signature = codes "HPET";
+  shape = shape_without_entries hpet_body hpet_of_rows;
+  types = None;
+  table = λ head body entries. HpetVariant (hpet_of_rows head body);
+}
+
+abbrev pub hpet_layout : HpetTable → TableLayout
+hpet_layout t = record { kind = hpet_kind; head = t.head; body = hpet_body t; entries = [] }
 
 -- a machine's table: its registers are in memory, 64 bits wide
 abbrev pub hpet_of : Acpi → Hpet → HpetTable

@@ -1,5 +1,6 @@
 pub mod Choice
 pub mod Header
+pub mod Kinds
 pub mod Hpet
 pub mod Xsdt
 pub mod Rsdp
@@ -14,4 +15,5 @@ pub use Rattle.vt_bytes.specs.Numbers
 pub use Rattle.vt_bytes.specs.View
 pub use Rattle.vt_layout.specs.Rows
 pub use Rattle.vt_layout.specs.Shown
+pub use Rattle.vt_layout.specs.Entries
 pub use Rattle.machine_desc.specs.Rules

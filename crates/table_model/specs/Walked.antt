@@ -12,6 +12,6 @@ AreAt view (address ∷ addresses) (table ∷ tables) = IsAt view address table 
 AreAt view addresses tables = ⊥
 
 -- the tables are added one after the other
-abbrev pub AddAll : List Table → AcpiTables → AcpiTables → Type 0
-AddAll [] before after = after ≡ before
-AddAll (table ∷ tables) before after = (between : AcpiTables) × Adds table before between × AddAll tables between after
+abbrev pub AddAll : View → List Table → AcpiTables → AcpiTables → Type 0
+AddAll view [] before after = after ≡ before
+AddAll view (table ∷ tables) before after = (between : AcpiTables) × Adds view table before between × AddAll view tables between after

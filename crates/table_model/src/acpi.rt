@@ -1,4 +1,4 @@
-ghost use Rattle.std.specs.Prelude.{◌≡◌, ◌++◌, IfOk, OnOk};
+ghost use Rattle.std.specs.Prelude.{◌≡◌, IfOk};
 ghost use Rattle.table_model.specs.Header.{FitsHead};
 ghost use Rattle.table_model.specs.Acpi.{acpi_of, tables_of};
 

@@ -16,7 +16,7 @@ ghost use Rattle.table_model.specs.declared.acpi.Table.{Table};
 ghost use Rattle.table_model.specs.declared.system_information.SystemInfo.{SystemInfo};
 ghost use Rattle.table_model.specs.declared.inventory.Inventory.{Inventory};
 ghost use Rattle.table_model.specs.Header.{head_of, padded};
-ghost use Rattle.table_model.specs.Acpi.{IsAt, rows_of, linked_table, Walks, no_tables, tables_of, acpi_of};
+ghost use Rattle.table_model.specs.Acpi.{IsAt, IsWritable, rows_of, linked_table, Walks, no_tables, tables_of, acpi_of};
 ghost use Rattle.table_model.specs.Walked.{AreAt, AddAll};
 ghost use Rattle.table_model.specs.Xsdt.{IsXsdt, xsdt_rows, given};
 ghost use Rattle.table_model.specs.Strings.{HasNoNul, AreStrings, AreNamed, numbers_from, strings_of};
@@ -34,22 +34,33 @@ pub fn no_two_machines_are_alike()
     ensures { (a b : Machine) → HasFitting a → HasFitting b → IsAccepted a → IsAccepted b → inventory_of a ≡ inventory_of b → a ≡ b }
 {}
 
+/// States that at most one table of a known kind stands at an address.
+pub fn one_table_stands_at_an_address()
+    ensures { (view : View) (address : ℕ) (a b : Table) → IsAt view address a → IsAt view address b → a ≡ b }
+{}
+
 /// States that, where each table stands at its address, a walk over the addresses adds the tables.
 pub fn tables_at_their_addresses_are_walked()
     ensures { (view : View) (addresses : List ℕ) (tables : List Table) (before after : AcpiTables)
-        → AreAt view addresses tables → AddAll tables before after → Walks view addresses before after }
+        → AreAt view addresses tables → AddAll view tables before after → Walks view addresses before after }
 {}
 
 /// States that the tables that a machine's XSDT names, wherever their pointers lead, are its tables.
 pub fn tables_of_a_machine_are_added()
-    ensures { (place_of : List ℕ → ℕ) (machine : Machine) (acpi : Acpi)
-        → AddAll (map (linked_table place_of) (tables_of machine acpi)) (no_tables (padded 6 acpi.oem_id) (head_of acpi 1)) (acpi_of machine acpi) }
+    ensures { (view : View) (place_of : List ℕ → ℕ) (machine : Machine) (acpi : Acpi)
+        → AddAll view (map (linked_table place_of) (tables_of machine acpi)) (no_tables (padded 6 acpi.oem_id) (head_of acpi 1)) (acpi_of machine acpi) }
 {}
 
-/// States that a table that a view holds as it was written stands there, its pointers with their targets' places added.
+/// States that the tables that a machine's XSDT names can be written.
+pub fn tables_of_a_machine_are_writable()
+    ensures { (machine : Machine) (acpi : Acpi) → AllByRecursion IsWritable (tables_of machine acpi) }
+{}
+
+/// States that a table that can be written, and that a view holds as it was written, stands there, its pointers with their targets'
+/// places added.
 pub fn held_table_is_there()
     ensures { (view : View) (place_of : List ℕ → ℕ) (address : ℕ) (table : Table)
-        → AllByRecursion IsRow (rows_of table) → LayoutHeld view place_of address (rows_of table)
+        → IsWritable table → AllByRecursion IsRow (rows_of table) → LayoutHeld view place_of address (rows_of table)
         → IsAt view address (linked_table place_of table) }
 {}
 

@@ -1,4 +1,5 @@
-//! Tests of the files of a device: containers both ways, what is refused as one, the directory, and files by name and by selector.
+//! Tests of the files of a device: containers both ways and up to the largest, what is refused as one, the directory, and files by name
+//! and by selector.
 #![tactic(auto)]
 
 #[cfg(test)]
@@ -7,5 +8,7 @@ mod containers;
 mod images;
 #[cfg(test)]
 mod items;
+#[cfg(test)]
+mod limits;
 #[cfg(test)]
 mod refusals;

@@ -1,7 +1,7 @@
 //! Layouts as rows, and the bytes that they are written as, which were made by hand.
 
 use std::test::Fail;
-use vt_layout::{Row, ShortBytes, put_rows, size_of};
+use vt_layout::{Row, ShortBytes, entry_head, put_rows, size_of};
 use vt_outside::{Bytes, Name};
 
 #[test]
@@ -46,5 +46,16 @@ fn rows_with_pointers(rt: HostRuntime) -> Result<(), Fail> {
         bytes.as_slice(),
         b"\x05\x10\0\0\0\0\0\0\0\x02\x01\0\0".as_slice()
     );
+    Ok(())
+}
+
+// The entry of processor 1's local APIC in a MADT (ACPI 6.5, 5.2.12.2): its APIC has the id 2, and it is enabled.
+#[test]
+fn rows_of_an_entry(rt: HostRuntime) -> Result<(), Fail> {
+    let body = [Row::Number(1, 1), Row::Number(1, 2), Row::Number(4, 1)];
+    let mut bytes = Bytes::new(rt.alloc());
+    put_rows(&mut bytes, &entry_head(0, &body))?;
+    put_rows(&mut bytes, &body)?;
+    assert_eq!(rt; bytes.as_slice(), b"\0\x08\x01\x02\x01\0\0\0".as_slice());
     Ok(())
 }

@@ -3,7 +3,7 @@ use Rattle.std.specs.Prelude.{ℕ, List, [], ◌∷◌, codes}
 use Rattle.loader_script.specs.declared.entry.Entry.{Entry}
 use Rattle.loader_script.specs.declared.entry.Entry.TheVariants.{Allocate, AddPointer, AddChecksum, Skipped}
 use Rattle.vmtables.specs.declared.files.FileBytes.{FileBytes}
-use Rattle.vmtables.specs.ScriptRun.{Placed}
+use Rattle.loader_script.specs.Run.{Placed}
 
 -- 64 MiB
 abbrev pub small_top : ℕ

@@ -1,7 +1,9 @@
-//! Tests of a load through the calls of a world: other files, by another script than `boot`'s.
+//! Tests of a load through the calls of a world, of other files by another script than `boot`'s; and of the zones of memory.
 #![tactic(auto)]
 
 #[cfg(test)]
 mod loads;
 #[cfg(test)]
 mod small;
+#[cfg(test)]
+mod zones;

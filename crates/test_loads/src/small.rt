@@ -1,7 +1,8 @@
 //! A small load: its files, its script, and its run.
 
-ghost use Rattle.std.specs.Prelude.{◌≡◌, true, IfOk, IsSomeAnd};
-ghost use Rattle.vmtables.specs.ScriptRun.{IsLeft};
+ghost use Rattle.std.specs.Prelude.{◌≡◌, true, IfOk, IfSome, IsSomeAnd};
+ghost use Rattle.vt_bytes.specs.Memory.{at};
+ghost use Rattle.loader_script.specs.Left.{IsLeft};
 ghost use Rattle.vmtables.specs.World.{IsBegun};
 ghost use Rattle.test_loads.specs.SmallLoad.{small_top, small_fill, holder_name, target_name, small_files, small_script, small_placed};
 
@@ -24,7 +25,7 @@ pub(crate) fn begin_small(alloc: Global, world: &mut World) -> Result<(), OutOfM
 pub(crate) fn load_small(world: &mut World)
     requires { IsSomeAnd world.old (λ w. IsBegun w small_files small_script small_top small_fill) }
     ensures done { IsSomeAnd world.new (λ w. w.done ≡ true) }
-    ensures left { IsSomeAnd world.new (λ w. IsLeft w.memory small_placed) }
+    ensures left { IfSome world.old (λ old. IsSomeAnd world.new (λ w. IsLeft w.memory small_placed (at old.memory))) }
 {
     world.load();
 }

@@ -1,10 +1,11 @@
 //! Guest memory, address by address and in ranges.
 
-ghost use Rattle.std.specs.Prelude.{◌≡◌, ◌+◌, ◌≤◌, ◌⊎◌};
+ghost use Rattle.std.specs.Prelude.{◌≡◌, ◌≤◌, ◌⊎◌, length};
 
-use guest_memory::{GuestMemory, TooFar};
+use guest_memory::{FRAME_BYTES, GuestMemory, TooFar, ram_ranges};
 use std::process::Abort;
 use std::test::Fail;
+use vt_bytes::AddressRange;
 
 // Addresses on both sides of each border, and whether each is RAM where the top is 64 MiB.
 const ADDRESSES: [(u64, bool); 14] = [
@@ -52,6 +53,26 @@ fn holds(rt: &impl Abort, memory: &GuestMemory, address: u64, byte: u8) {
     assert_eq!(rt; memory.read(address), byte, "at {address}");
 }
 
+#[test]
+fn the_ram_map(rt: HostRuntime) {
+    are_ranges(&rt, ram_ranges(0x400_0000), 0x200_0000, 0x400_0000);
+    are_ranges(&rt, ram_ranges(0xC000_0000), 0xBE00_0000, 0xC000_0000);
+}
+
+// The two ranges below 1 MiB, and the one that ends at the top.
+fn are_ranges(rt: &impl Abort, ranges: [AddressRange; 3], start: u64, end: u64) {
+    let [low, bios, high] = ranges;
+    is_range(rt, low, 0, 0xA_0000);
+    is_range(rt, bios, 0xE_0000, 0x10_0000);
+    is_range(rt, high, start, end);
+}
+
+fn is_range(rt: &impl Abort, range: AddressRange, start: u64, end: u64) {
+    assert_eq!(rt; range, AddressRange { start, end });
+    assert!(rt; range.contains(start));
+    assert!(rt; !range.contains(end));
+}
+
 // What the ranges of memory hold once bytes were put there and numbers were added.
 const LEFT: [(u64, u8); 14] = [
     (0xFFD, 0),
@@ -75,7 +96,7 @@ fn ranges_of_memory(rt: HostRuntime) -> Result<(), Fail> {
     let mut memory = GuestMemory::begin(rt.alloc(), 0x400_0000, 0)?;
     put_ranges(&mut memory);
     are_sums(&rt, &memory);
-    are_ranges(&rt, &memory);
+    are_windows(&rt, &memory);
     add_numbers(&rt, &mut memory);
     add_long_numbers(&rt, &mut memory);
     for (address, byte) in LEFT {
@@ -102,12 +123,58 @@ fn are_sums(rt: &impl Abort, memory: &GuestMemory)
     assert_eq!(rt; memory.sum_range(0, 0), 0);
 }
 
-fn are_ranges(rt: &impl Abort, memory: &GuestMemory)
+// Each window is in one frame: to the frame's end, from its start, and none at all.
+fn are_windows(rt: &impl Abort, memory: &GuestMemory)
     requires { memory.now.top ≡ 0x4000000 }
 {
-    assert_eq!(rt; memory.bytes_at(0xFFD, 4), [0, 0xFF, 2, 3].as_slice());
-    assert_eq!(rt; memory.bytes_at(0x3FF_FFFD, 3), [0, 6, 7].as_slice());
-    assert_eq!(rt; memory.bytes_at(u64::MAX, 0), [].as_slice());
+    assert_eq!(rt; FRAME_BYTES, 4096);
+    assert_eq!(rt; memory.window(0xFFD, 3), [0, 0xFF, 2].as_slice());
+    assert_eq!(rt; memory.window(0x1000, 4), [3, 4, 5, 0].as_slice());
+    assert_eq!(rt; memory.window(0x3FF_FFFD, 3), [0, 6, 7].as_slice());
+    assert_eq!(rt; memory.window(0x1000, 0), [].as_slice());
+}
+
+// What the frames of memory hold once bytes were put over three ends of frames, and others at the ends of RAM's ranges.
+const IN_FRAMES: [(u64, u8); 11] = [
+    (0x7FEF, 0),
+    (0x7FF0, 9),
+    (0x8FFF, 9),
+    (0x9000, 9),
+    (0xA317, 9),
+    (0xA318, 0),
+    (0x9_FFFE, 0),
+    (0x9_FFFF, 3),
+    (0xE_0000, 4),
+    (0xF_FFFE, 5),
+    (0xF_FFFF, 6),
+];
+
+#[test]
+fn frames_of_memory(rt: HostRuntime) -> Result<(), Fail> {
+    let mut memory = GuestMemory::begin(rt.alloc(), 0x400_0000, 0)?;
+    let bytes = vec![in rt.alloc(); 9; 9000]?;
+    put_frames(&rt, &mut memory, bytes.as_slice());
+    change_windows(&rt, &mut memory);
+    for (address, byte) in IN_FRAMES {
+        holds(&rt, &memory, address, byte);
+    }
+    Ok(())
+}
+
+fn put_frames(rt: &impl Abort, memory: &mut GuestMemory, bytes: &[u8])
+    requires { length bytes.now ≡ 9000 }
+{
+    memory.copy_in(0x7FF0, bytes);
+    assert_eq!(rt; memory.sum_range(0x7FF0, 9000), 104);
+    assert_eq!(rt; memory.sum_range(0x7FEF, 9002), 104);
+    assert_eq!(rt; memory.sum_range(0x9000, 4096), 0);
+}
+
+fn change_windows(rt: &impl Abort, memory: &mut GuestMemory) {
+    memory.window_mut(0x9_FFFE, 2)[1] = 3;
+    memory.window_mut(0xE_0000, 4096)[0] = 4;
+    memory.window_mut(0xF_FFFE, 2).copy_from_slice(&[5, 6]);
+    assert_eq!(rt; memory.window(0xF_FFFD, 3), [0, 5, 6].as_slice());
 }
 
 // Adds to numbers of one byte and of two that overlap.

@@ -12,4 +12,6 @@ mod memory_streams;
 #[cfg(test)]
 mod names;
 #[cfg(test)]
+mod std_faults;
+#[cfg(test)]
 mod std_streams;

@@ -56,6 +56,22 @@ impl Write for ShakyWriter {
     }
 }
 
+// A writer that takes two bytes a call.
+#[derive(Drop)]
+struct ShortWriter {
+    taken: Vec<u8>,
+}
+
+impl Write for ShortWriter {
+    fn write(&mut self, buf: &[u8]) -> io::Result<usize> {
+        self.taken.write(&buf[..buf.len().min(2)])
+    }
+
+    fn flush(&mut self) -> io::Result<()> {
+        Ok(())
+    }
+}
+
 #[test]
 fn readers_of_std(rt: HostRuntime) {
     let mut into = [0; 4];
@@ -101,4 +117,16 @@ fn writers_of_std_that_fail(rt: HostRuntime) {
     flushes(&rt, &mut sink, Ok(()));
     flushes(&rt, &mut sink, Err(Failed));
     assert_eq!(rt; writer.taken.as_slice(), b"abef".as_slice());
+}
+
+#[test]
+fn writers_of_std_that_take_two_bytes(rt: HostRuntime) {
+    let mut writer = ShortWriter {
+        taken: Vec::new(rt.alloc()),
+    };
+    let mut sink = WriteSink::new(&mut writer);
+    writes(&rt, &mut sink, b"abcde", Ok(2));
+    writes(&rt, &mut sink, b"cde", Ok(2));
+    writes(&rt, &mut sink, b"e", Ok(1));
+    assert_eq!(rt; writer.taken.as_slice(), b"abcde".as_slice());
 }

@@ -1,8 +1,11 @@
-//! Tests of tables: the inventory of a machine, ACPI tables as files with holes, and SMBIOS structures as bytes. Public calls once.
+//! Tests of tables: the inventory of a machine, ACPI tables as files with holes, and SMBIOS structures as bytes. Public calls
+//! once, and with texts of as many bytes as one may have.
 #![tactic(auto)]
 
 #[cfg(test)]
 mod files;
+#[cfg(test)]
+mod longest;
 #[cfg(test)]
 mod records;
 #[cfg(test)]

@@ -21,8 +21,7 @@ use Rattle.blob_holes.specs.declared.hole.PointerHole.{PointerHole}
 use Rattle.blob_holes.specs.declared.hole.SumHole.{SumHole}
 use Rattle.blob_holes.specs.Blob.{BlobState, IsBlob, next_place}
 use Rattle.blob_holes.specs.Grown.{Extends, IsLinkable}
-use Rattle.blob_holes.specs.Held.{WhereHeld}
-use Rattle.acpi_fixed.specs.Tables.{tables_name, table_pointer, with_table, with_rsdp}
+use Rattle.acpi_fixed.specs.Tables.{tables_name, table_pointer, with_table, with_rsdp, IsTablePut, IsXsdtPut, IsRsdpPut}
 use Rattle.vmtables.specs.Image.{AcpiImage, whole, with_tables, places_in, xsdt_place, acpi_files}
 use Rattle.vmtables.specs.AcpiHeld.{most_bytes, AreAppended, IsTablesFile, IsAcpiImage}
 
@@ -89,30 +88,21 @@ map_more : {A B : Type 0} (f : A → B) (xs : List A) (x : A) → map f (xs ++ x
 map_more f [] x = refl
 map_more f (y ∷ xs) x = ap (λ ys. f y ∷ ys) (map_more f xs x)
 
--- what the call that appends a table says
-pub record TableAppended (old new : BlobState) (table : Table) (place : ℕ) : Type 0 where
-  pub place_is : place ≡ next_place 16 old
-  pub file_is : new ≡ with_table old table
-  pub size_is : length new.bytes ≡ next_place 16 old + size (rows_of table)
-  pub grown : Extends old new
-  pub linkable : IsLinkable old → IsLinkable new
-  pub shown : WhereHeld new (λ view address place_of. IsAt view (address + next_place 16 old) (linked_table place_of table))
-
 -- one more was appended
 pub one_more_appended : (tables : List Table) (places : List ℕ) (old new : BlobState) (table : Table) (place : ℕ) → AreAppended tables places old
-    → TableAppended old new table place → AreAppended (tables ++ table ∷ []) (places ++ place ∷ []) new
-one_more_appended tables places old new table place before one =
+    → place ≡ next_place 16 old → IsTablePut old new table → AreAppended (tables ++ table ∷ []) (places ++ place ∷ []) new
+one_more_appended tables places old new table place before place_is one =
     let next : next_place 16 old ≡ next_place 16 (with_tables (whole []) tables) = ap (next_place 16) before.file_is in
     let near : next_place 16 old ≤ length old.bytes + 16 = omega arith in
     record {
-      file_is = one.file_is ∙ ap (λ b. with_table b table) before.file_is ∙ sym (with_tables-more (whole []) tables table);
-      places_are = ap (λ those. those ++ place ∷ []) before.places_are ∙ ap (λ p. places_in (whole []) tables ++ p ∷ []) (one.place_is ∙ next)
+      file_is = one.appended.file_is ∙ ap (λ b. with_table b table) before.file_is ∙ sym (with_tables-more (whole []) tables table);
+      places_are = ap (λ those. those ++ place ∷ []) before.places_are ∙ ap (λ p. places_in (whole []) tables ++ p ∷ []) (place_is ∙ next)
           ∙ sym (places_in-more (whole []) tables table);
-      linkable = one.linkable before.linkable;
-      few = omega (arith, before.few, one.size_is, near, most_bytes-more tables table, length-append places (place ∷ []));
+      linkable = one.appended.linkable before.linkable;
+      few = omega (arith, before.few, one.appended.size_is, near, most_bytes-more tables table, length-append places (place ∷ []));
       stand = λ later view address place_of grown held.
-          let there = before.stand later view address place_of (extends_twice old new later one.grown grown) held in
-          let here = subst (λ p. IsAt view (address + p) (linked_table place_of table)) (sym one.place_is) (one.shown later view address place_of grown held) in
+          let there = before.stand later view address place_of (extends_twice old new later one.appended.grown grown) held in
+          let here = subst (λ p. IsAt view (address + p) (linked_table place_of table)) (sym place_is) (one.shown later view address place_of grown held) in
           subst (λ addresses. AreAt view addresses (map (linked_table place_of) (tables ++ table ∷ []))) (sym (map_more (λ p. address + p) places place))
           (subst (AreAt view (map (λ p. address + p) places ++ (address + place) ∷ [])) (sym (map_more (linked_table place_of) tables table))
           (stand_more view (map (λ p. address + p) places) (map (linked_table place_of) tables) (address + place) (linked_table place_of table) there here));
@@ -127,24 +117,16 @@ all_given address (place ∷ places) above =
     ap (λ zero_place. cond (not zero_place) ((place + address) ∷ given (map (λ p. p + address) places)) (given (map (λ p. p + address) places))) some
     ∙ ap (λ p. p ∷ given (map (λ q. q + address) places)) turned ∙ ap (λ ps. (address + place) ∷ ps) (all_given address places above)
 
--- what the call that appends the XSDT says
-pub record XsdtAppended (old new : BlobState) (head : Head) (places : List ℕ) : Type 0 where
-  pub size_is : length new.bytes ≡ next_place 16 old + (36 + 8 * length places)
-  pub grown : Extends old new
-  pub linkable : IsLinkable old → IsLinkable new
-  pub shown : WhereHeld new (λ view address place_of.
-      IsXsdt view (address + next_place 16 old) head (given (map (λ place. place + place_of tables_name) places)))
-
 -- the XSDT behind its tables names them
 pub tables_named : (tables : List Table) (places : List ℕ) (old new : BlobState) (head : Head) → AreAppended tables places old
-    → XsdtAppended old new head places → IsTablesFile head tables new
-tables_named tables places old new head before xsdt =
+    → length new.bytes ≡ next_place 16 old + (36 + 8 * length places) → IsXsdtPut old new head places → IsTablesFile head tables new
+tables_named tables places old new head before size_is xsdt =
     let near : next_place 16 old ≤ length old.bytes + 16 = omega arith in
     record {
-      linkable = xsdt.linkable before.linkable;
-      some = omega (arith, xsdt.size_is);
-      few = omega (arith, before.few, xsdt.size_is, near);
-      behind = omega (arith, xsdt.size_is, ap (next_place 16) before.file_is);
+      linkable = xsdt.appended.linkable before.linkable;
+      some = omega (arith, size_is);
+      few = omega (arith, before.few, size_is, near);
+      behind = omega (arith, size_is, ap (next_place 16) before.file_is);
       held = λ view address place_of held there above.
           let place : address + next_place 16 old ≡ xsdt_place tables + address =
           ap (λ b. address + next_place 16 b) before.file_is ∙ omega arith in
@@ -154,7 +136,7 @@ tables_named tables places old new head before xsdt =
             addresses = map (λ p. address + p) places;
             listed = subst (λ a. IsXsdt view a head (map (λ p. address + p) places)) place
                 (subst (IsXsdt view (address + next_place 16 old) head) named (xsdt.shown new view address place_of (extends_self new) held));
-            stand = before.stand new view address place_of xsdt.grown held;
+            stand = before.stand new view address place_of xsdt.appended.grown held;
           };
     }
 
@@ -169,43 +151,34 @@ file_from blob bytes pointers sums its_bytes its_pointers its_sums =
     ap (λ (b : List ℕ). blob_with b pointers sums) its_bytes ∙ ap (λ (p : List PointerHole). blob_with blob.bytes p sums) its_pointers
     ∙ ap (λ (s : List SumHole). blob_with blob.bytes blob.pointers s) its_sums
 
--- what the call that appends the RSDP says
-pub record RsdpAppended (old new : BlobState) (oem_id : List ℕ) (xsdt : ℕ) : Type 0 where
-  pub empty : old ≡ whole []
-  pub file_is : new ≡ with_rsdp old oem_id xsdt
-  pub size_is : length new.bytes ≡ next_place 16 old + 36
-  pub linkable : IsLinkable old → IsLinkable new
-  pub held : WhereHeld new (λ view address place_of.
-      LayoutHeld view place_of (address + next_place 16 old) (rsdp_rows oem_id (table_pointer xsdt)))
-
 -- both files are those of the tables, and all is known of them
 pub image_known : (acpi : Acpi) (tables : List Table) (empty rsdp file : BlobState) (xsdt : ℕ) → xsdt ≡ xsdt_place tables
-    → RsdpAppended empty rsdp (padded 6 acpi.oem_id) xsdt → IsBlob rsdp → IsBlob file → file ≡ (acpi_files acpi tables).tables
+    → empty ≡ whole [] → IsRsdpPut empty rsdp (padded 6 acpi.oem_id) xsdt → IsBlob rsdp → IsBlob file → file ≡ (acpi_files acpi tables).tables
     → IsTablesFile (head_of acpi 1) tables file → IsAcpiImage acpi tables (record { rsdp = rsdp; tables = file })
-image_known acpi tables empty rsdp file xsdt place appended rsdp_blob tables_blob file_is known =
-    let first : next_place 16 empty ≡ 0 = ap (next_place 16) appended.empty in
+image_known acpi tables empty rsdp file xsdt place empty_is put rsdp_blob tables_blob file_is known =
+    let first : next_place 16 empty ≡ 0 = ap (next_place 16) empty_is in
     record {
       tables_file = known;
       tables_blob = tables_blob;
       rsdp_blob = rsdp_blob;
-      rsdp_linkable = appended.linkable (subst IsLinkable (sym appended.empty) empty_linkable);
-      rsdp_size = appended.size_is ∙ ap (λ n. n + 36) first;
+      rsdp_linkable = put.appended.linkable (subst IsLinkable (sym empty_is) empty_linkable);
+      rsdp_size = put.appended.size_is ∙ ap (λ n. n + 36) first;
       rsdp_held = λ view address place_of holds.
           let here : address + next_place 16 empty ≡ address = omega arith in
           subst (λ x. LayoutHeld view place_of address (rsdp_rows (padded 6 acpi.oem_id) (table_pointer x))) place
           (subst (λ a. LayoutHeld view place_of a (rsdp_rows (padded 6 acpi.oem_id) (table_pointer xsdt))) here
-          (appended.held rsdp view address place_of (extends_self rsdp) holds));
+          (put.appended.held rsdp view address place_of (extends_self rsdp) holds));
     }
 
 abbrev pub image_with : BlobState → BlobState → AcpiImage
 image_with rsdp tables = record { rsdp = rsdp; tables = tables }
 
 pub files_are : (acpi : Acpi) (tables : List Table) (empty rsdp file : BlobState) (xsdt : ℕ) → xsdt ≡ xsdt_place tables
-    → RsdpAppended empty rsdp (padded 6 acpi.oem_id) xsdt → file ≡ (acpi_files acpi tables).tables
+    → empty ≡ whole [] → IsRsdpPut empty rsdp (padded 6 acpi.oem_id) xsdt → file ≡ (acpi_files acpi tables).tables
     → image_with rsdp file ≡ acpi_files acpi tables
-files_are acpi tables empty rsdp file xsdt place appended file_is =
+files_are acpi tables empty rsdp file xsdt place empty_is put file_is =
     let its_rsdp : rsdp ≡ (acpi_files acpi tables).rsdp =
-    appended.file_is ∙ ap (λ b. with_rsdp b (padded 6 acpi.oem_id) xsdt) appended.empty ∙ ap (with_rsdp (whole []) (padded 6 acpi.oem_id)) place in
+    put.appended.file_is ∙ ap (λ b. with_rsdp b (padded 6 acpi.oem_id) xsdt) empty_is ∙ ap (with_rsdp (whole []) (padded 6 acpi.oem_id)) place in
     ap (λ b. image_with b file) its_rsdp ∙ ap (image_with (acpi_files acpi tables).rsdp) file_is
 
 -- the first tables have no more bytes than all
@@ -215,36 +188,19 @@ most_bytes-take [] (suc k) = omega arith
 most_bytes-take (table ∷ tables) zero = omega arith
 most_bytes-take (table ∷ tables) (suc k) = let rest = most_bytes-take tables k in omega arith
 
--- what the call that appends the XSDT says, where it answers Ok
+-- the same of the answer of the call that appends it
 pub xsdt_appended : (r : Result ℕ OutOfMemory) (tables : List Table) (places seen : List ℕ) (old new : BlobState) (head : Head) → seen ≡ places
-    → AreAppended tables places old → OnOk r (length new.bytes ≡ next_place 16 old + (36 + 8 * length seen)) → OnOk r (Extends old new)
-    → OnOk r (IsLinkable old → IsLinkable new)
-    → OnOk r (WhereHeld new (λ view address place_of. IsXsdt view (address + next_place 16 old) head
-    (given (map (λ place. place + place_of tables_name) seen))))
+    → AreAppended tables places old → OnOk r (length new.bytes ≡ next_place 16 old + (36 + 8 * length seen)) → OnOk r (IsXsdtPut old new head seen)
     → OnOk r (IsTablesFile head tables new)
-xsdt_appended (Err fault) tables places seen old new head same before size_is grown linkable shown = tt
-xsdt_appended (Ok place) tables places seen old new head same before size_is grown linkable shown =
-    tables_named tables seen old new head (subst (λ those. AreAppended tables those old) (sym same) before)
-    (record { size_is = size_is; grown = grown; linkable = linkable; shown = shown })
-
--- what the call that appends the RSDP says, clause by clause, of the maker's id
-pub rsdp_appended : (old new : BlobState) (seen oem_id : List ℕ) (xsdt : ℕ) → seen ≡ oem_id → old ≡ whole [] → new ≡ with_rsdp old seen xsdt
-    → length new.bytes ≡ next_place 16 old + 36 → (IsLinkable old → IsLinkable new)
-    → WhereHeld new (λ view address place_of. LayoutHeld view place_of (address + next_place 16 old) (rsdp_rows seen (table_pointer xsdt)))
-    → RsdpAppended old new oem_id xsdt
-rsdp_appended old new seen oem_id xsdt same empty file_is size_is linkable held =
-    subst (λ id. RsdpAppended old new id xsdt) same
-    (record { empty = empty; file_is = file_is; size_is = size_is; linkable = linkable; held = held })
+xsdt_appended (Err fault) tables places seen old new head same before size_is put = tt
+xsdt_appended (Ok place) tables places seen old new head same before size_is put =
+    tables_named tables seen old new head (subst (λ those. AreAppended tables those old) (sym same) before) size_is put
 
 -- one more of a list of tables was appended
 pub next_appended : (tables : List Table) (k : ℕ) (other : Table) (places after : List ℕ) (old new : BlobState) (place : ℕ) → k < length tables
     → AreAppended (take k tables) places old → after ≡ places ++ place ∷ [] → place ≡ next_place 16 old
-    → new ≡ with_table old (get_or tables k other) → length new.bytes ≡ next_place 16 old + size (rows_of (get_or tables k other)) → Extends old new
-    → (IsLinkable old → IsLinkable new)
-    → WhereHeld new (λ view address place_of. IsAt view (address + next_place 16 old) (linked_table place_of (get_or tables k other)))
-    → AreAppended (take (k + 1) tables) after new
-next_appended tables k other places after old new place within before after_is place_is file_is size_is grown linkable shown =
+    → IsTablePut old new (get_or tables k other) → AreAppended (take (k + 1) tables) after new
+next_appended tables k other places after old new place within before after_is place_is put =
     subst (λ some. AreAppended some after new) (sym (take_more tables k other within))
     (subst (λ those. AreAppended (take k tables ++ get_or tables k other ∷ []) those new) (sym after_is)
-    (one_more_appended (take k tables) places old new (get_or tables k other) place before
-    (record { place_is = place_is; file_is = file_is; size_is = size_is; grown = grown; linkable = linkable; shown = shown })))
+    (one_more_appended (take k tables) places old new (get_or tables k other) place before place_is put))

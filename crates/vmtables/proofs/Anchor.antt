@@ -1,5 +1,5 @@
 -- The anchor of a machine's structures as a file with holes.
-use Rattle.std.proofs.Common.{◌≡◌, ℕ, ◌^◌, ◌<◌, inl, inr, List, length, refl, arith}
+use Rattle.std.proofs.Common.{◌≡◌, ℕ, ◌<◌, inl, inr, List, length, refl, arith}
 use Rattle.vt_layout.specs.Rows.{places_end}
 use Rattle.vt_bytes.specs.Numbers.{le}
 use Rattle.vt_bytes.specs.Parts.{part}

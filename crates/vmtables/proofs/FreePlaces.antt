@@ -2,8 +2,7 @@
 use Rattle.std.proofs.Common.{◌≡◌, ℕ, ◌+◌, ◌%◌, ◌<◌, ◌≤◌, inl, inr, List, [], ◌∷◌, zero, suc, map, Contains, arith, subst}
 use Rattle.std.specs.List.{AllByRecursion}
 use Rattle.vmtables.specs.declared.placing.PlacedFile.{PlacedFile}
-use Rattle.vmtables.specs.Places.{Apart, IsFree}
-use Rattle.vmtables.specs.declared.placing.Range.{Range}
+use Rattle.vt_outside.specs.Placement.{Range, Apart, IsFree}
 use Rattle.vmtables.specs.FilesInMemory.{placed_range, Meets}
 use Rattle.vmtables.proofs.Multiples.{next_is_least}
 

@@ -3,8 +3,8 @@ use Rattle.std.proofs.Common.{◌≡◌, ℕ, ◌+◌, ◌-◌, ◌*◌, ◌<◌
 use Rattle.std.proofs.Common.{length-append}
 use Rattle.std.proofs.lemmas.List.{length-replicate}
 use Rattle.vt_layout.specs.Shown.{LayoutHeld}
-use Rattle.guest_memory.specs.Memory.{Memory, IsRamRange, at, seen}
-use Rattle.guest_memory.proofs.Seen.{holds-seen}
+use Rattle.vt_bytes.specs.Memory.{Memory, IsRamRange, at, seen}
+use Rattle.vt_bytes.proofs.Seen.{holds-seen}
 use Rattle.machine_desc.specs.declared.machine.Machine.{Machine}
 use Rattle.machine_desc.specs.declared.machine.Acpi.{Acpi}
 use Rattle.machine_desc.specs.Rules.{IsAccepted}
@@ -19,7 +19,7 @@ use Rattle.blob_holes.specs.Held.{HoldsFilled}
 use Rattle.acpi_fixed.specs.Tables.{table_pointer}
 use Rattle.vmtables.specs.Image.{AcpiImage, anchor_blob, structures_file, acpi_files, xsdt_place}
 use Rattle.vmtables.specs.AcpiHeld.{HoldsTables, IsAcpiImage, most_bytes}
-use Rattle.vmtables.specs.ScriptRun.{IsLeft}
+use Rattle.loader_script.specs.Left.{IsLeft}
 use Rattle.vmtables.proofs.Accepted.{Lawful, lawful}
 use Rattle.vmtables.proofs.Anchor.{length-anchor, anchor_kept, anchor_linkable}
 use Rattle.vmtables.proofs.Linked.{place_in, place_in-low, linked, length-linked}
@@ -36,7 +36,7 @@ length-padded count text short = omega (arith, length-append text (replicate (co
 -- a range of the high zone is RAM
 high_ram : (top mib place size : ℕ) → top ≡ mib * 0x100000 → 64 ≤ mib → mib * 0x100000 - 0x1000000 ≤ place → place + size ≤ mib * 0x100000
     → IsRamRange top place size
-high_ram top mib place size is least from within = λ i below. inr (inr (omega arith, omega arith))
+high_ram top mib place size is least from within = λ i below. inr (inr (inl (omega arith, omega arith)))
 
 -- a range of the F segment is RAM
 segment_ram : (top place size : ℕ) → 0xF0000 ≤ place → place + size ≤ 0x100000 → IsRamRange top place size
@@ -44,7 +44,8 @@ segment_ram top place size from within = λ i below. inr (inl (omega arith, omeg
 
 -- without ACPI tables
 pub two_shown : (d : Machine) (m : Memory) → IsAccepted d → AreStructures (structures_file d) (structures_of d.system) → m.top ≡ d.top_mib * 0x100000
-    → m.fill ≡ 0 → IsLeft m (two_left d) → Shows m.top (seen m) (record { top = d.top_mib * 0x100000; smbios = Some (smbios_of d.system); acpi = None })
+    → m.fill ≡ 0 → IsLeft m (two_left d) (λ _. m.fill)
+    → Shows m.top (seen m) (record { top = d.top_mib * 0x100000; smbios = Some (smbios_of d.system); acpi = None })
 two_shown d m accepted read top zeros left =
     let bounds : Lawful d = lawful d accepted in
     let few : length (structures_file d) ≤ 1000 = (structures_size d accepted).1 in
@@ -76,7 +77,7 @@ two_shown d m accepted read top zeros left =
 pub four_shown : (d : Machine) (m : Memory) (acpi : Acpi) → IsAccepted d → AreStructures (structures_file d) (structures_of d.system) → FitsHead acpi
     → most_bytes (tables_of d acpi) ≤ 2000
     → IsAcpiImage acpi (tables_of d acpi) (acpi_files acpi (tables_of d acpi)) → m.top ≡ d.top_mib * 0x100000 → m.fill ≡ 0
-    → IsLeft m (four_left d (acpi_files acpi (tables_of d acpi)))
+    → IsLeft m (four_left d (acpi_files acpi (tables_of d acpi))) (λ _. m.fill)
     → Shows m.top (seen m) (record { top = d.top_mib * 0x100000; smbios = Some (smbios_of d.system); acpi = Some (acpi_of d acpi) })
 four_shown d m acpi accepted read fits most is top zeros left =
     let files : AcpiImage = acpi_files acpi (tables_of d acpi) in
@@ -124,6 +125,6 @@ four_shown d m acpi accepted read fits most is top zeros left =
         least = none_below m others;
         addresses = held.addresses;
         listed = held.listed;
-        tables = walked (seen m) held.addresses (map (linked_table place_of) (tables_of d acpi)) _ _ held.stand (machine_added place_of d acpi);
+        tables = walked (seen m) held.addresses (map (linked_table place_of) (tables_of d acpi)) _ _ held.stand (machine_added (seen m) place_of d acpi);
       };
     }

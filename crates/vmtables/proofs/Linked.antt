@@ -1,5 +1,5 @@
 -- The files of an image once they are linked.
-use Rattle.std.proofs.Common.{◌≡◌, ℕ, ◌^◌, ◌<◌, List, [], ◌∷◌, length, true, false, cond, Some, ◌∙◌, arith}
+use Rattle.std.proofs.Common.{◌≡◌, ℕ, ◌<◌, List, [], ◌∷◌, length, true, false, cond, Some, ◌∙◌, arith}
 use Rattle.std.specs.List.{AllByRecursion}
 use Rattle.std.specs.Option.{option_map_or}
 use Rattle.std.specs.Str.{bytes_eq}
@@ -10,7 +10,7 @@ use Rattle.blob_holes.specs.Grown.{IsLinkable}
 use Rattle.blob_holes.proofs.Fill.{filled}
 use Rattle.blob_holes.proofs.Pointers.{length-with_pointers}
 use Rattle.blob_holes.proofs.Sums.{length-with_sums}
-use Rattle.vmtables.specs.ScriptRun.{Placed, placed_of}
+use Rattle.loader_script.specs.Run.{Placed, placed_of, place_of}
 
 -- where the file of a name stands, and 0 where there is none
 abbrev pub place_in : List Placed → List ℕ → ℕ

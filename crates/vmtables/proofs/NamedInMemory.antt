@@ -1,11 +1,11 @@
 -- The placed file that has a name, with its bytes in memory.
 use Rattle.std.proofs.Common.{◌≡◌, ℕ, List, Some, IsSome, IsNone, option_map, ap, subst, ◌∙◌}
 use Rattle.std.specs.Str.{bytes_eq}
-use Rattle.guest_memory.specs.Memory.{Memory}
+use Rattle.vt_bytes.specs.Memory.{Memory}
 use Rattle.vmtables.specs.declared.placing.PlacedFile.{PlacedFile}
-use Rattle.vmtables.specs.ScriptRun.{Placed, placed_of}
+use Rattle.loader_script.specs.Run.{Placed, placed_of}
 use Rattle.vmtables.specs.FilesInMemory.{placed_named, placed_in, files_in}
-use Rattle.vmtables.proofs.Named.{find-map, IsSome-before_map, IsNone-before_map}
+use Rattle.loader_script.proofs.Named.{find-map, IsSome-before_map, IsNone-before_map}
 
 -- it is the one that has the name without its bytes
 named_in : (m : Memory) (placed : List PlacedFile) (name : List ℕ) → placed_of (files_in m placed) name ≡ option_map (placed_in m) (placed_named placed name)

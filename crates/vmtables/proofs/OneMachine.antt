@@ -5,6 +5,7 @@ use Rattle.toml.specs.Data.{Data, Members, string, integer, table}
 use Rattle.uuid.specs.Text.{parsed}
 use Rattle.machine_desc.specs.declared.machine.Machine.{Machine}
 use Rattle.machine_desc.specs.declared.machine.System.{System}
+use Rattle.machine_desc.proofs.SameSystem.{same_system}
 use Rattle.machine_desc.specs.declared.machine.Acpi.{Acpi}
 use Rattle.machine_desc.specs.declared.machine.Hpet.{Hpet}
 use Rattle.vmtables.specs.Reads.{IsSystemTable, IsAcpiTable, IsHpetTable, IsRootTable, Reads}
@@ -42,31 +43,6 @@ one_part IsPart one (Some value) p q (inside, v, is, some, part) (other, w, also
     let same_table : inside ≡ other = cc in
     let same : v ≡ w = one other v w (rw same_table at part) part_too in
     cc
-
--- the system of these parts
-system_of : List ℕ → List ℕ → List ℕ → List ℕ → List ℕ → List ℕ → Option ℕ → System
-system_of manufacturer product version serial sku family uuid = record {
-  manufacturer = manufacturer;
-  product = product;
-  version = version;
-  serial = serial;
-  sku = sku;
-  family = family;
-  uuid = uuid;
-}
-
-system_of-parts : (s : System) → system_of s.manufacturer s.product s.version s.serial s.sku s.family s.uuid ≡ s
-unfolding system_of
-system_of-parts s = refl
-
--- systems with the same parts are the same
-same_system : (a b : System) → a.manufacturer ≡ b.manufacturer → a.product ≡ b.product → a.version ≡ b.version → a.serial ≡ b.serial → a.sku ≡ b.sku
-    → a.family ≡ b.family
-    → a.uuid ≡ b.uuid → a ≡ b
-same_system a b manufacturer product version serial sku family uuid =
-    let same_parts : system_of a.manufacturer a.product a.version a.serial a.sku a.family a.uuid
-    ≡ system_of b.manufacturer b.product b.version b.serial b.sku b.family b.uuid = cc in
-    sym (system_of-parts a) ∙ same_parts ∙ system_of-parts b
 
 -- the machine of these parts
 machine_of : ℕ → System → Option Acpi → Option Hpet → Machine

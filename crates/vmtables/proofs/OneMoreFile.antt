@@ -5,11 +5,12 @@ use Rattle.std.specs.Str.{bytes_eq}
 use Rattle.std.proofs.lemmas.Bool.Decides.{not_from_Decides}
 use Rattle.std.proofs.lemmas.List.{map_push}
 use Rattle.std.proofs.lemmas.Slice.Eq.{bytes_eq-Decides}
-use Rattle.guest_memory.specs.Memory.{Memory, IsRam, IsRamRange, bytes_at, Puts}
+use Rattle.vt_bytes.specs.Memory.{Memory, IsRam, IsRamRange, bytes_at, Puts}
 use Rattle.vmtables.specs.declared.placing.PlacedFile.{PlacedFile}
-use Rattle.vmtables.specs.Places.{Apart}
-use Rattle.vmtables.specs.ScriptRun.{Placed}
-use Rattle.vmtables.specs.FilesInMemory.{placed_range, EndsLow, placed_in, files_in, AreApart, ArePlaced, IsBeside, IsLoading, IsStep}
+use Rattle.vt_outside.specs.Placement.{Apart}
+use Rattle.loader_script.specs.Run.{Placed}
+use Rattle.vmtables.specs.declared.files.FileBytes.{FileBytes}
+use Rattle.vmtables.specs.FilesInMemory.{placed_range, EndsLow, placed_in, files_in, AreApart, ArePlaced, IsOfSize, IsBeside, IsLoading, IsStep}
 use Rattle.vmtables.proofs.Writes.{stays}
 
 -- what holds of each element and of one more
@@ -75,18 +76,22 @@ files_pushed old new placed p bytes puts size all fresh =
     (ap (λ held. record { name = p.name; place = p.place; bytes = held }) held)
 
 -- and the load goes on
-pub step_pushed : (old new : Memory) (placed : List PlacedFile) (p : PlacedFile) (bytes : List ℕ) → IsLoading old placed → Puts old new p.place bytes
-    → p.size ≡ length bytes → IsNew old.top placed p → IsStep old new (placed ++ p ∷ [])
-step_pushed old new placed p bytes loading puts size fresh = record {
-  top = puts.top;
-  fill = puts.fill;
-  loading = record {
-    files = subst (λ top. ArePlaced top (placed ++ p ∷ [])) (sym puts.top) (ArePlaced-push old.top placed p loading.files fresh);
+pub step_pushed : (old new : Memory) (files : List FileBytes) (placed : List PlacedFile) (p : PlacedFile) (bytes : List ℕ)
+    → IsLoading old.top files placed → Puts old new p.place bytes → p.size ≡ length bytes → IsNew old.top placed p → IsOfSize files p
+    → IsStep old new files placed (placed ++ p ∷ [])
+step_pushed old new files placed p bytes loading puts size fresh sized = record {
+  stays = record {
+    top = puts.top;
+    fill = puts.fill;
     others = λ a ram beside.
         let ram_before : IsRam old.top a = subst (λ top. IsRam top a) puts.top ram in
         let parts = all_before_push (IsBeside a) placed p beside in
         let outside : (a < p.place) ⊎ (p.place + length bytes ≤ a) =
         elim parts.1 as (λ _. (a < p.place) ⊎ (p.place + length bytes ≤ a)) [ inl before ↦ inl before | inr after ↦ inr (omega arith) ] in
-        puts.elsewhere a ram_before outside ∙ loading.others a ram_before parts.0 ∙ sym puts.fill;
+        (parts.0, puts.elsewhere a ram_before outside);
+  };
+  loading = record {
+    apart = subst (λ top. ArePlaced top (placed ++ p ∷ [])) (sym puts.top) (ArePlaced-push old.top placed p loading.apart fresh);
+    sizes = all_push (IsOfSize files) placed p loading.sizes sized;
   };
 }

@@ -1,61 +1,80 @@
--- A dump, part by part: the first line, RAM below 0xA0000, from 0xE0000 on, and below the top, and the last line.
-use Rattle.std.proofs.Common.{◌≡◌, ℕ, ◌-◌, List, [], ◌∷◌, ◌++◌, Option, ap, subst, ◌∙◌}
+-- A dump, part by part: the first line, the lines of the ranges of RAM, and the last line.
+use Rattle.std.proofs.Common.{◌≡◌, ℕ, ◌+◌, ◌<◌, List, [], ◌∷◌, ◌++◌, Option, length, take, drop, get_or, ap, subst, sym, ◌∙◌}
+use Rattle.std.proofs.lemmas.Grind.{flat_map-append}
+use Rattle.std.proofs.lemmas.List.{append-nil, take_more, take-append-drop}
 use Rattle.std.specs.Prelude.{codes}
-use Rattle.guest_memory.specs.Memory.{Memory, high_start}
-use Rattle.vmtables.specs.Dump.{dump, header_line, last_line, rows_text}
+use Rattle.vt_bytes.specs.declared.memory.AddressRange.{AddressRange}
+use Rattle.vt_bytes.specs.Memory.{Memory, ram_ranges}
+use Rattle.vmtables.specs.Dump.{dump, header_line, last_line, range_text, ranges_text}
 use Rattle.vmtables.specs.Output.{Took, TookFront}
-use Rattle.vmtables.proofs.Taken.{took_then, front_then, front_more}
+use Rattle.vmtables.proofs.Taken.{behind-nothing, took_then, front_then, front_more}
 
 -- the first line, as the code writes it
 pub header_is : (m : Memory) (top fill : ℕ) (text : List ℕ) → text ≡ header_line top fill → top ≡ m.top → fill ≡ m.fill → text ≡ header_line m.top m.fill
 header_is m top fill text written same_top same_fill =
     written ∙ ap (λ (t : ℕ). header_line t fill) same_top ∙ ap (header_line m.top) same_fill
 
--- the lines below the top, from the address that the code computes
-pub high_is : (m : Memory) (top : ℕ) → top ≡ m.top → rows_text m (top - 0x2000000) 0x200000 ≡ rows_text m (high_start m.top) 0x200000
-high_is m top same = ap (λ (t : ℕ). rows_text m (t - 0x2000000) 0x200000) same
+-- the lines of some of the ranges, and then of those after them
+ranges_text-append : (m : Memory) (front back : List AddressRange) → ranges_text m (front ++ back) ≡ ranges_text m front ++ ranges_text m back
+unfolding ranges_text
+ranges_text-append m front back = flat_map-append (range_text m) front back
 
--- the first line and the lines of RAM below 0xA0000
-abbrev pub up_to_low : Memory → List ℕ
-up_to_low m = header_line m.top m.fill ++ rows_text m 0 0xA000
+ranges_text-more : (m : Memory) (ranges : List AddressRange) (k : ℕ) (other : AddressRange) → k < length ranges
+    → ranges_text m (take (k + 1) ranges) ≡ ranges_text m (take k ranges) ++ range_text m (get_or ranges k other)
+unfolding ranges_text
+ranges_text-more m ranges k other below =
+    ap (ranges_text m) (take_more ranges k other below) ∙ ranges_text-append m (take k ranges) (get_or ranges k other ∷ [])
+    ∙ ap (λ (lines : List ℕ). ranges_text m (take k ranges) ++ lines) (append-nil (range_text m (get_or ranges k other)))
 
--- and those from 0xE0000 on
-abbrev pub up_to_bios : Memory → List ℕ
-up_to_bios m = up_to_low m ++ rows_text m 0xE0000 0x2000
+-- the sink took the lines of no range
+pub ranges_none : (before : Option (List ℕ)) (m : Memory) → Took before before (ranges_text m [])
+unfolding ranges_text
+ranges_none before m = behind-nothing before
 
--- and those below the top
-abbrev pub up_to_high : Memory → List ℕ
-up_to_high m = up_to_bios m ++ rows_text m (high_start m.top) 0x200000
+-- the sink took the lines of one more range
+pub ranges_more : (before now after : Option (List ℕ)) (m : Memory) (ranges : List AddressRange) (k : ℕ) (other : AddressRange) → k < length ranges
+    → Took before now (ranges_text m (take k ranges)) → Took now after (range_text m (get_or ranges k other))
+    → Took before after (ranges_text m (take (k + 1) ranges))
+ranges_more before now after m ranges k other below so_far took =
+    subst (Took before after) (sym (ranges_text-more m ranges k other below))
+    (took_then before now after (ranges_text m (take k ranges)) (range_text m (get_or ranges k other)) so_far took)
+
+-- the sink took a front of the lines of one more range, and so of all of them
+pub ranges_failed : (before now after : Option (List ℕ)) (m : Memory) (ranges : List AddressRange) (k : ℕ) (other : AddressRange) → k < length ranges
+    → Took before now (ranges_text m (take k ranges)) → TookFront now after (range_text m (get_or ranges k other))
+    → TookFront before after (ranges_text m ranges)
+ranges_failed before now after m ranges k other below so_far took =
+    let whole : ranges_text m ranges ≡ (ranges_text m (take k ranges) ++ range_text m (get_or ranges k other)) ++ ranges_text m (drop (k + 1) ranges) =
+    ap (ranges_text m) (sym (take-append-drop (k + 1) ranges)) ∙ ranges_text-append m (take (k + 1) ranges) (drop (k + 1) ranges)
+    ∙ ap (λ (lines : List ℕ). lines ++ ranges_text m (drop (k + 1) ranges)) (ranges_text-more m ranges k other below) in
+    subst (TookFront before after) (sym whole)
+    (front_more before after (ranges_text m (take k ranges) ++ range_text m (get_or ranges k other)) (ranges_text m (drop (k + 1) ranges))
+    (front_then before now after (ranges_text m (take k ranges)) (range_text m (get_or ranges k other)) so_far took))
+
+-- the first line and the lines of RAM
+abbrev pub up_to_last : Memory → List ℕ
+up_to_last m = header_line m.top m.fill ++ ranges_text m (ram_ranges m.top)
 
 -- the sink took all of it
-pub all_taken : (before now after : Option (List ℕ)) (m : Memory) → Took before now (up_to_high m) → Took now after (codes "end" ++ 10 ∷ [])
+pub all_taken : (before now after : Option (List ℕ)) (m : Memory) → Took before now (up_to_last m) → Took now after (codes "end" ++ 10 ∷ [])
     → Took before after (dump m)
 unfolding dump last_line
-all_taken before now after m high took = took_then before now after (up_to_high m) last_line high took
+all_taken before now after m lines took = took_then before now after (up_to_last m) last_line lines took
 
 -- the sink took a front of all of it
-pub last_failed : (before now after : Option (List ℕ)) (m : Memory) → Took before now (up_to_high m) → TookFront now after (codes "end" ++ 10 ∷ [])
+pub last_failed : (before now after : Option (List ℕ)) (m : Memory) → Took before now (up_to_last m) → TookFront now after (codes "end" ++ 10 ∷ [])
     → TookFront before after (dump m)
 unfolding dump last_line
-last_failed before now after m high took = front_then before now after (up_to_high m) last_line high took
+last_failed before now after m lines took = front_then before now after (up_to_last m) last_line lines took
 
 -- a front of what comes before the last line
-pub high_failed : (before after : Option (List ℕ)) (m : Memory) → TookFront before after (up_to_high m) → TookFront before after (dump m)
+pub lines_failed : (before after : Option (List ℕ)) (m : Memory) → TookFront before after (up_to_last m) → TookFront before after (dump m)
 unfolding dump
-high_failed before after m took = front_more before after (up_to_high m) last_line took
-
--- a front of what comes before the lines below the top
-pub bios_failed : (before after : Option (List ℕ)) (m : Memory) → TookFront before after (up_to_bios m) → TookFront before after (dump m)
-bios_failed before after m took =
-    high_failed before after m (front_more before after (up_to_bios m) (rows_text m (high_start m.top) 0x200000) took)
-
--- a front of what comes before the lines from 0xE0000 on
-pub low_failed : (before after : Option (List ℕ)) (m : Memory) → TookFront before after (up_to_low m) → TookFront before after (dump m)
-low_failed before after m took =
-    bios_failed before after m (front_more before after (up_to_low m) (rows_text m 0xE0000 0x2000) took)
+lines_failed before after m took = front_more before after (up_to_last m) last_line took
 
 -- a front of the first line
 pub header_failed : (before after : Option (List ℕ)) (m : Memory) (text : List ℕ) → text ≡ header_line m.top m.fill → TookFront before after text
     → TookFront before after (dump m)
 header_failed before after m text header took =
-    low_failed before after m (front_more before after (header_line m.top m.fill) (rows_text m 0 0xA000) (subst (TookFront before after) header took))
+    lines_failed before after m
+    (front_more before after (header_line m.top m.fill) (ranges_text m (ram_ranges m.top)) (subst (TookFront before after) header took))

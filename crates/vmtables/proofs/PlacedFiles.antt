@@ -5,11 +5,11 @@ use Rattle.std.specs.Str.{bytes_eq}
 use Rattle.std.proofs.lemmas.Bool.{cases_Bool, cond-true, cond-false}
 use Rattle.std.proofs.lemmas.Option.{same_Some, none-some}
 use Rattle.vt_bytes.specs.Parts.{put_at}
-use Rattle.guest_memory.specs.Memory.{Memory, IsRam, IsRamRange, bytes_at, Puts}
+use Rattle.vt_bytes.specs.Memory.{Memory, IsRam, IsRamRange, bytes_at, Puts}
 use Rattle.vmtables.specs.declared.placing.PlacedFile.{PlacedFile}
-use Rattle.vmtables.specs.ScriptRun.{Placed, with_bytes}
-use Rattle.vmtables.specs.FilesInMemory.{EndsLow, placed_named, placed_in, files_in, AreApart, ArePlaced, IsBeside, IsLoading, IsStep}
-use Rattle.vmtables.proofs.Named.{same_name, other_name, of_found}
+use Rattle.loader_script.specs.Run.{Placed, placed_with}
+use Rattle.vmtables.specs.FilesInMemory.{EndsLow, placed_named, placed_in, files_in, AreApart, ArePlaced, IsBeside, Stays}
+use Rattle.loader_script.proofs.Named.{same_name, other_name, of_found}
 use Rattle.vmtables.proofs.Writes.{stays, written}
 
 -- a write of bytes at an offset of a placed file, inside the file
@@ -46,7 +46,7 @@ other_stays old new p q offset bytes write ram apart =
 -- the files after the written one stay, and have other names
 others_stay : (old new : Memory) (p : PlacedFile) (offset : ℕ) (bytes : List ℕ) (name held : List ℕ) (placed : List PlacedFile)
     → IsWrite old new p offset bytes → p.name ≡ name → AllByRecursion (AreApart p) placed → ArePlaced old.top placed
-    → files_in new placed ≡ with_bytes (files_in old placed) name held
+    → files_in new placed ≡ placed_with (files_in old placed) name held
 others_stay old new p offset bytes name held [] write named apart placed = refl
 others_stay old new p offset bytes name held (q ∷ files) write named apart placed =
     let other : bytes_eq q.name name ≡ false = other_name q.name name (λ same. apart.0.names (named ∙ sym same)) in
@@ -57,7 +57,7 @@ others_stay old new p offset bytes name held (q ∷ files) write named apart pla
 -- the written file, and those after it
 first_written : (old new : Memory) (p : PlacedFile) (offset : ℕ) (bytes : List ℕ) (name : List ℕ) (files : List PlacedFile)
     → IsWrite old new p offset bytes → bytes_eq p.name name ≡ true → ArePlaced old.top (p ∷ files)
-    → files_in new (p ∷ files) ≡ with_bytes (files_in old (p ∷ files)) name (put_at (bytes_at old p.place p.size) offset bytes)
+    → files_in new (p ∷ files) ≡ placed_with (files_in old (p ∷ files)) name (put_at (bytes_at old p.place p.size) offset bytes)
 first_written old new p offset bytes name files write named placed =
     ap₂ (λ (x : Placed) (xs : List Placed). x ∷ xs)
     (ap (λ held. record { name = p.name; place = p.place; bytes = held })
@@ -67,15 +67,15 @@ first_written old new p offset bytes name files write named placed =
 -- a write inside the file of a name gives that file other bytes
 pub file_written : (old new : Memory) (placed : List PlacedFile) (name : List ℕ) (p : PlacedFile) (offset : ℕ) (bytes : List ℕ)
     → placed_named placed name ≡ Some p → ArePlaced old.top placed → IsWrite old new p offset bytes
-    → files_in new placed ≡ with_bytes (files_in old placed) name (put_at (bytes_at old p.place p.size) offset bytes)
+    → files_in new placed ≡ placed_with (files_in old placed) name (put_at (bytes_at old p.place p.size) offset bytes)
 file_written old new [] name p offset bytes found placed write = absurd (none-some p found)
 file_written old new (q ∷ files) name p offset bytes found placed write =
     elim (cases_Bool (bytes_eq q.name name)) as (λ _. files_in new (q ∷ files)
-    ≡ with_bytes (files_in old (q ∷ files)) name (put_at (bytes_at old p.place p.size) offset bytes)) [
+    ≡ placed_with (files_in old (q ∷ files)) name (put_at (bytes_at old p.place p.size) offset bytes)) [
       | inl named ↦
           let is : q ≡ p = same_Some q p (sym (cond-true _ _ _ named) ∙ found) in
           subst (λ (r : PlacedFile). IsWrite old new r offset bytes → files_in new (q ∷ files)
-          ≡ with_bytes (files_in old (q ∷ files)) name (put_at (bytes_at old r.place r.size) offset bytes)) is
+          ≡ placed_with (files_in old (q ∷ files)) name (put_at (bytes_at old r.place r.size) offset bytes)) is
           (λ write. first_written old new q offset bytes name files write named placed) write
       | inr other ↦
           let later : placed_named files name ≡ Some p = sym (cond-false _ _ _ other) ∙ found in
@@ -87,20 +87,17 @@ file_written old new (q ∷ files) name p offset bytes found placed write =
           (file_written old new files name p offset bytes later placed.3 write)
     ]
 
--- and the load goes on
-pub step_written : (old new : Memory) (placed : List PlacedFile) (name : List ℕ) (p : PlacedFile) (offset : ℕ) (bytes : List ℕ)
-    → IsLoading old placed → placed_named placed name ≡ Some p → IsWrite old new p offset bytes → IsStep old new placed
-step_written old new placed name p offset bytes loading found write = record {
+-- other bytes stay
+pub stays_written : (old new : Memory) (placed : List PlacedFile) (name : List ℕ) (p : PlacedFile) (offset : ℕ) (bytes : List ℕ)
+    → placed_named placed name ≡ Some p → IsWrite old new p offset bytes → Stays old new placed placed
+stays_written old new placed name p offset bytes found write = record {
   top = write.puts.top;
   fill = write.puts.fill;
-  loading = record {
-    files = subst (λ top. ArePlaced top placed) (sym write.puts.top) loading.files;
-    others = λ a ram beside.
-        let ram_before : IsRam old.top a = subst (λ top. IsRam top a) write.puts.top ram in
-        let within = write.within in
-        let outside : (a < p.place + offset) ⊎ (p.place + offset + length bytes ≤ a) =
-        elim (of_found (IsBeside a) (λ (q : PlacedFile). bytes_eq q.name name) placed p found beside) as (λ _. (a < p.place + offset)
-        ⊎ (p.place + offset + length bytes ≤ a)) [ inl before ↦ inl (omega arith) | inr after ↦ inr (omega arith) ] in
-        write.puts.elsewhere a ram_before outside ∙ loading.others a ram_before beside ∙ sym write.puts.fill;
-  };
+  others = λ a ram beside.
+      let ram_before : IsRam old.top a = subst (λ top. IsRam top a) write.puts.top ram in
+      let within = write.within in
+      let outside : (a < p.place + offset) ⊎ (p.place + offset + length bytes ≤ a) =
+      elim (of_found (IsBeside a) (λ (q : PlacedFile). bytes_eq q.name name) placed p found beside) as (λ _. (a < p.place + offset)
+      ⊎ (p.place + offset + length bytes ≤ a)) [ inl before ↦ inl (omega arith) | inr after ↦ inr (omega arith) ] in
+      (beside, write.puts.elsewhere a ram_before outside);
 }

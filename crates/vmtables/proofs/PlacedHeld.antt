@@ -1,8 +1,8 @@
 -- Files that a load has left in memory, with their holes filled.
-use Rattle.std.proofs.Common.{◌≡◌, ℕ, ◌^◌, ◌<◌, List, length, sym, subst}
+use Rattle.std.proofs.Common.{◌≡◌, ℕ, ◌<◌, List, length, sym, subst}
 use Rattle.vt_layout.specs.Rows.{places_end}
-use Rattle.guest_memory.specs.Memory.{Memory, IsRamRange, bytes_at, seen}
-use Rattle.guest_memory.proofs.Seen.{holds-seen}
+use Rattle.vt_bytes.specs.Memory.{Memory, IsRamRange, bytes_at, seen}
+use Rattle.vt_bytes.proofs.Seen.{holds-seen}
 use Rattle.blob_holes.specs.Blob.{BlobState, IsBlob}
 use Rattle.blob_holes.specs.Grown.{IsLinkable}
 use Rattle.blob_holes.specs.Held.{HoldsFilled}

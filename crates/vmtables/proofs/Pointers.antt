@@ -1,18 +1,19 @@
 -- A number of a placed file that gets a place added.
-use Rattle.std.proofs.Common.{◌≡◌, ℕ, ◌+◌, ◌^◌, ◌<◌, ◌≤◌, List, take, drop, Some, IsSome, Result, Ok, Err, IsOk, IsErr, OnOk, arith, refl, ap, subst, sym, ◌∙◌}
+use Rattle.std.proofs.Common.{◌≡◌, ℕ, ◌+◌, ◌^◌, ◌<◌, ◌≤◌, List, length, Some, Result, Ok, Err, IsOk, IsErr, OnOk, arith, refl, ap, subst, sym, ◌∙◌}
+use Rattle.std.proofs.lemmas.Option.{same_Some}
 use Rattle.std.proofs.lemmas.Result.{IfOk-at_ok}
 use Rattle.vt_bytes.specs.Numbers.{le, le_bytes}
-use Rattle.guest_memory.specs.Memory.{Memory, IsRamRange, bytes_at, Puts}
+use Rattle.vt_bytes.specs.Memory.{Memory, IsRamRange, bytes_at, Puts}
 use Rattle.vmtables.specs.declared.placing.PlacedFile.{PlacedFile}
-use Rattle.vmtables.specs.ScriptRun.{pointed, with_bytes}
-use Rattle.vmtables.specs.FilesInMemory.{placed_named, placed_in, files_in, IsLoading, IsStep}
+use Rattle.loader_script.specs.Run.{Placed, placed_with, with_pointer}
+use Rattle.vmtables.specs.FilesInMemory.{placed_named, placed_in, files_in, ArePlaced, Stays, CanPoint}
 use Rattle.vmtables.proofs.NamedInMemory.{found_in}
-use Rattle.guest_memory.proofs.Bytes.{length-bytes_at, part-bytes_at}
+use Rattle.vt_bytes.proofs.Bytes.{length-bytes_at, part-bytes_at}
 use Rattle.vt_bytes.proofs.Numbers.{length-le_bytes}
-use Rattle.vt_bytes.specs.Parts.{put_at}
+use Rattle.vt_bytes.specs.Parts.{part, put_at}
 use Rattle.vmtables.proofs.Writes.{ram_part}
-use Rattle.vmtables.proofs.PlacedFiles.{IsWrite, found_is_placed, file_written, step_written}
-use Rattle.vmtables.proofs.Commands.{IsAddPointer, IsAddPointer-from}
+use Rattle.vmtables.proofs.PlacedFiles.{IsWrite, found_is_placed, file_written, stays_written}
+use Rattle.vmtables.proofs.ScriptSteps.{sum_of, with_pointer-is}
 
 -- a result that is no error is a value
 pub IsOk-from : {A E : Type 0} (r : Result A E) → (IsErr r → ⊥) → IsOk r
@@ -23,37 +24,32 @@ IsOk-from (Err e) no_error = absurd (no_error refl)
 pub OnOk-at_ok : {A E : Type 0} (P : Type 0) (r : Result A E) (x : A) → r ≡ Ok x → OnOk r P → P
 OnOk-at_ok P r x is said = IfOk-at_ok (λ _. P) is said
 
--- the files of a lawful AddPointer, as they are placed
+-- the files of a pointer that can be added, as they are placed
 pub record IsPointer (m : Memory) (placed : List PlacedFile) (dest src : List ℕ) (offset size : ℕ) (p s : PlacedFile) : Type 0 where
-  pub loading : IsLoading m placed
+  pub apart : ArePlaced m.top placed
   pub dest_is : placed_named placed dest ≡ Some p
   pub src_is : placed_named placed src ≡ Some s
-  pub lawful : IsSome (pointed (files_in m placed) dest src offset size)
-
--- what the command says of them
-said : (m : Memory) (placed : List PlacedFile) (dest src : List ℕ) (offset size : ℕ) (p s : PlacedFile) → IsPointer m placed dest src offset size p s
-    → IsAddPointer (files_in m placed) dest src offset size (placed_in m p) (placed_in m s)
-said m placed dest src offset size p s pointer =
-    IsAddPointer-from (files_in m placed) dest src offset size (placed_in m p) (placed_in m s) (found_in m placed dest p pointer.dest_is)
-    (found_in m placed src s pointer.src_is) pointer.lawful
+  pub can : CanPoint (files_in m placed) dest src offset size
 
 -- the number is in its file
 number_within : (m : Memory) (placed : List PlacedFile) (dest src : List ℕ) (offset size : ℕ) (p s : PlacedFile)
     → IsPointer m placed dest src offset size p s → offset + size ≤ p.size
 number_within m placed dest src offset size p s pointer =
-    omega (arith, (said m placed dest src offset size p s pointer).within, length-bytes_at m p.place p.size)
+    let is : pointer.can.d ≡ placed_in m p =
+    same_Some pointer.can.d (placed_in m p) (sym pointer.can.found ∙ found_in m placed dest p pointer.dest_is) in
+    omega (arith, subst (λ (d : Placed). offset + size ≤ length d.bytes) is pointer.can.within, length-bytes_at m p.place p.size)
 
 -- and in RAM
 pub pointer_ram : (m : Memory) (placed : List PlacedFile) (dest src : List ℕ) (offset size field : ℕ) (p s : PlacedFile) → field ≡ p.place + offset
     → IsPointer m placed dest src offset size p s → IsRamRange m.top field size
 pointer_ram m placed dest src offset size field p s field_is pointer =
     subst (λ a. IsRamRange m.top a size) (sym field_is)
-    (ram_part m.top p.place p.size offset size (found_is_placed m.top placed dest p pointer.dest_is pointer.loading.files).0
+    (ram_part m.top p.place p.size offset size (found_is_placed m.top placed dest p pointer.dest_is pointer.apart).0
     (number_within m placed dest src offset size p s pointer))
 
 -- the number's bytes, in its file and in memory
 number_bytes : (m : Memory) (placed : List PlacedFile) (dest src : List ℕ) (offset size field : ℕ) (p s : PlacedFile) → field ≡ p.place + offset
-    → IsPointer m placed dest src offset size p s → take size (drop offset (bytes_at m p.place p.size)) ≡ bytes_at m field size
+    → IsPointer m placed dest src offset size p s → part (bytes_at m p.place p.size) offset size ≡ bytes_at m field size
 number_bytes m placed dest src offset size field p s field_is pointer =
     part-bytes_at m p.place p.size offset size (number_within m placed dest src offset size p s pointer) ∙ ap (λ a. bytes_at m a size) (sym field_is)
 
@@ -62,33 +58,35 @@ pub pointer_fits : (m : Memory) (placed : List PlacedFile) (dest src : List ℕ)
     → IsPointer m placed dest src offset size p s → le (bytes_at m field size) + s.place < 256 ^ size
 pointer_fits m placed dest src offset size field p s field_is pointer =
     subst (λ bytes. le bytes + s.place < 256 ^ size) (number_bytes m placed dest src offset size field p s field_is pointer)
-    (said m placed dest src offset size p s pointer).fits
+    (subst (λ n. n < 256 ^ size) (sum_of (files_in m placed) dest src offset size (placed_in m p) (placed_in m s)
+    (found_in m placed dest p pointer.dest_is) (found_in m placed src s pointer.src_is)) pointer.can.fits)
 
 -- the write of the sum is one in the file
-pointer_write : (m new : Memory) (placed : List PlacedFile) (dest src : List ℕ) (offset size field : ℕ) (p s : PlacedFile) → field ≡ p.place + offset
-    → IsPointer m placed dest src offset size p s → Puts m new field (le_bytes size (le (bytes_at m field size) + s.place))
+pub pointer_write : (m new : Memory) (placed : List PlacedFile) (dest src : List ℕ) (offset size field : ℕ) (p s : PlacedFile)
+    → field ≡ p.place + offset → IsPointer m placed dest src offset size p s
+    → Puts m new field (le_bytes size (le (bytes_at m field size) + s.place))
     → IsWrite m new p offset (le_bytes size (le (bytes_at m field size) + s.place))
 pointer_write m new placed dest src offset size field p s field_is pointer puts = record {
   puts = subst (λ a. Puts m new a (le_bytes size (le (bytes_at m field size) + s.place))) field_is puts;
   within = omega (arith, number_within m placed dest src offset size p s pointer, length-le_bytes size (le (bytes_at m field size) + s.place));
 }
 
--- and gives the file that the command gives
+-- and gives the files that the command gives
 pub pointer_after : (m new : Memory) (placed : List PlacedFile) (dest src : List ℕ) (offset size field : ℕ) (p s : PlacedFile)
     → field ≡ p.place + offset → IsPointer m placed dest src offset size p s
-    → Puts m new field (le_bytes size (le (bytes_at m field size) + s.place)) → pointed (files_in m placed) dest src offset size ≡ Some (files_in new placed)
+    → Puts m new field (le_bytes size (le (bytes_at m field size) + s.place)) → files_in new placed ≡ with_pointer dest src offset size (files_in m placed)
 pointer_after m new placed dest src offset size field p s field_is pointer puts =
     let write = pointer_write m new placed dest src offset size field p s field_is pointer puts in
-    (said m placed dest src offset size p s pointer).is
-    ∙ ap (λ bytes. Some (with_bytes (files_in m placed) dest (put_at (bytes_at m p.place p.size) offset (le_bytes size (le bytes + s.place)))))
-    (number_bytes m placed dest src offset size field p s field_is pointer)
-    ∙ ap (λ files. Some files) (sym (file_written m new placed dest p offset (le_bytes size (le (bytes_at m field size) + s.place)) pointer.dest_is
-    pointer.loading.files write))
+    file_written m new placed dest p offset (le_bytes size (le (bytes_at m field size) + s.place)) pointer.dest_is pointer.apart write
+    ∙ ap (λ bytes. placed_with (files_in m placed) dest (put_at (bytes_at m p.place p.size) offset (le_bytes size (le bytes + s.place))))
+    (sym (number_bytes m placed dest src offset size field p s field_is pointer))
+    ∙ sym (with_pointer-is (files_in m placed) dest src offset size (placed_in m p) (placed_in m s) (found_in m placed dest p pointer.dest_is)
+    (found_in m placed src s pointer.src_is))
 
--- and the load goes on
-pub pointer_step : (m new : Memory) (placed : List PlacedFile) (dest src : List ℕ) (offset size field : ℕ) (p s : PlacedFile)
+-- other bytes stay
+pub pointer_stays : (m new : Memory) (placed : List PlacedFile) (dest src : List ℕ) (offset size field : ℕ) (p s : PlacedFile)
     → field ≡ p.place + offset → IsPointer m placed dest src offset size p s
-    → Puts m new field (le_bytes size (le (bytes_at m field size) + s.place)) → IsStep m new placed
-pointer_step m new placed dest src offset size field p s field_is pointer puts =
-    step_written m new placed dest p offset (le_bytes size (le (bytes_at m field size) + s.place)) pointer.loading pointer.dest_is
+    → Puts m new field (le_bytes size (le (bytes_at m field size) + s.place)) → Stays m new placed placed
+pointer_stays m new placed dest src offset size field p s field_is pointer puts =
+    stays_written m new placed dest p offset (le_bytes size (le (bytes_at m field size) + s.place)) pointer.dest_is
     (pointer_write m new placed dest src offset size field p s field_is pointer puts)

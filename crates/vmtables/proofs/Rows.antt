@@ -3,7 +3,7 @@ use Rattle.std.proofs.Common.{◌≡◌, ◌==◌, ℕ, zero, suc, ◌+◌, ◌*
 use Rattle.std.proofs.lemmas.Grind.{flat_map-append}
 use Rattle.std.proofs.lemmas.List.{append-nil}
 use Rattle.std.specs.List.{flat_map, list_all, range_with_len}
-use Rattle.guest_memory.specs.Memory.{Memory, IsRam, IsRamRange, bytes_at}
+use Rattle.vt_bytes.specs.Memory.{Memory, IsRam, IsRamRange, bytes_at}
 use Rattle.vmtables.specs.Dump.{row_line, row_text, rows_text}
 use Rattle.vmtables.specs.Output.{Took, TookFront}
 use Rattle.vmtables.proofs.Taken.{behind-nothing, took_then, front_then, front_more}
@@ -44,11 +44,9 @@ rows_text-front m start k count within =
     let whole : count ≡ k + (count - k) = omega arith in
     (flat_map (line_at m start) (range_with_len k (count - k)), ap (rows_text m start) whole ∙ rows_text-split m start k (count - k))
 
--- the bytes of one of the rows are RAM
-pub row_ram : (top start count k : ℕ) → IsRamRange top start (16 * count) → k < count → IsRamRange top (start + 16 * k) 16
-row_ram top start count k ram below i within =
-    let place : start + (16 * k + i) ≡ start + 16 * k + i = omega arith in
-    subst (IsRam top) place (ram (16 * k + i) (omega arith))
+-- each of the rows begins in RAM
+pub row_ram : (top start count k : ℕ) → IsRamRange top start (16 * count) → k < count → IsRam top (start + 16 * k)
+row_ram top start count k ram below = ram (16 * k) (omega arith)
 
 -- a row of fill bytes has no line
 pub line_at-filled : (m : Memory) (start k fill : ℕ) (row : List ℕ) (filled : Bool) → row ≡ bytes_at m (start + 16 * k) 16 → fill ≡ m.fill

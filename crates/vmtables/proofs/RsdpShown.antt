@@ -8,8 +8,8 @@ use Rattle.vt_bytes.proofs.FirstByte.{first-byte, low-byte}
 use Rattle.vt_layout.specs.declared.row.Row.TheVariants.{Number}
 use Rattle.vt_layout.specs.Shown.{LayoutHeld, LayoutShown}
 use Rattle.vt_layout.proofs.Shows.{shown_rows}
-use Rattle.guest_memory.specs.Memory.{Memory, at, seen}
-use Rattle.guest_memory.proofs.Seen.{at-seen}
+use Rattle.vt_bytes.specs.Memory.{Memory, at, seen}
+use Rattle.vt_bytes.proofs.Seen.{at-seen}
 use Rattle.table_model.specs.Rsdp.{rsdp_rows, IsRsdp, HasRsdp}
 use Rattle.table_model.specs.Anchor.{HasAnchor}
 use Rattle.acpi_fixed.specs.Tables.{tables_name, table_pointer}

@@ -17,7 +17,7 @@ use Rattle.blob_holes.specs.Blob.{BlobState, aligned}
 use Rattle.blob_holes.specs.Rows.{pointer_of, pointer_holes}
 use Rattle.acpi_fixed.specs.Tables.{tables_name, table_pointer, with_table}
 use Rattle.vmtables.specs.Image.{whole, with_tables, places_in, acpi_files}
-use Rattle.vmtables.specs.ScriptRun.{Placed}
+use Rattle.loader_script.specs.Run.{Placed}
 use Rattle.vmtables.proofs.Linking.{place_at, AreTargets}
 
 -- a row that leads to the file of the tables, where it leads to a file

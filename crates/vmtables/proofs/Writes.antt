@@ -1,8 +1,8 @@
 -- What a write to memory does to the bytes of a range.
 use Rattle.std.proofs.Common.{◌≡◌, ℕ, ◌+◌, ◌-◌, ◌<◌, ◌≤◌, ◌⊎◌, inl, inr, List, ◌++◌, length, take, drop, arith, ap, subst, sym, ◌∙◌, append_assoc}
 use Rattle.vt_bytes.specs.Parts.{put_at}
-use Rattle.guest_memory.specs.Memory.{Memory, IsRam, IsRamRange, bytes_at, Puts}
-use Rattle.guest_memory.proofs.Bytes.{take-bytes_at, drop-bytes_at, bytes_at-same, bytes_at-parts}
+use Rattle.vt_bytes.specs.Memory.{Memory, IsRam, IsRamRange, bytes_at, Puts}
+use Rattle.vt_bytes.proofs.Bytes.{take-bytes_at, drop-bytes_at, bytes_at-same, bytes_at-parts}
 
 -- a part of a range of RAM is one
 pub ram_part : (top a n k len : ℕ) → IsRamRange top a n → k + len ≤ n → IsRamRange top (a + k) len

@@ -1,17 +1,17 @@
--- The status that a fault gives.
+-- The fault of a call that the fault of a part gives.
 use Rattle.std.specs.Prelude.{◌≡◌}
 use Rattle.vmtables.specs.declared.input.InputFault.{InputFault}
 use Rattle.vmtables.specs.declared.input.InputFault.TheVariants as input
 use Rattle.vmtables.specs.declared.description.DescriptionFault.{DescriptionFault}
 use Rattle.vmtables.specs.declared.description.DescriptionFault.TheVariants as description
-use Rattle.vmtables.specs.declared.status.Status.{Status}
-use Rattle.vmtables.specs.declared.status.Status.TheVariants.{ReadFault, DescriptionRefused, OutOfMemory, InputTooLong}
+use Rattle.vmtables.specs.declared.fault.Fault.{Fault}
+use Rattle.vmtables.specs.declared.fault.Fault.TheVariants.{ReadFault, DescriptionRefused, OutOfMemory, InputTooLong}
 
-abbrev pub IsInputStatus : InputFault → Status → Type 0
-IsInputStatus input.Failed status = status ≡ ReadFault
-IsInputStatus input.TooLong status = status ≡ InputTooLong
-IsInputStatus input.OutOfMemory status = status ≡ OutOfMemory
+abbrev pub IsOfInput : InputFault → Fault → Type 0
+IsOfInput input.Failed fault = fault ≡ ReadFault
+IsOfInput input.TooLong fault = fault ≡ InputTooLong
+IsOfInput input.OutOfMemory fault = fault ≡ OutOfMemory
 
-abbrev pub IsDescriptionStatus : DescriptionFault → Status → Type 0
-IsDescriptionStatus description.Refused status = status ≡ DescriptionRefused
-IsDescriptionStatus description.OutOfMemory status = status ≡ OutOfMemory
+abbrev pub IsOfDescription : DescriptionFault → Fault → Type 0
+IsOfDescription description.Refused fault = fault ≡ DescriptionRefused
+IsOfDescription description.OutOfMemory fault = fault ≡ OutOfMemory

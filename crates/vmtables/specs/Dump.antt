@@ -1,9 +1,10 @@
 -- The text of a memory: its top and fill byte, and a line for each 16 bytes of RAM that aren't all the fill byte.
-use Rattle.std.specs.Prelude.{ℕ, ◌+◌, ◌*◌, List, [], ◌∷◌, ◌++◌, codes, ◌==◌, if◌then◌else◌}
+use Rattle.std.specs.Prelude.{ℕ, ◌+◌, ◌-◌, ◌*◌, ◌/◌, List, [], ◌∷◌, ◌++◌, codes, ◌==◌, if◌then◌else◌}
 use Rattle.std.specs.List.{flat_map, list_all, range_with_len}
 use Rattle.std.specs.Int.{w32, to_be_bytes}
 use Rattle.hex.specs.Hex.{encode_lower}
-use Rattle.guest_memory.specs.Memory.{Memory, bytes_at, high_start}
+use Rattle.vt_bytes.specs.declared.memory.AddressRange.{AddressRange}
+use Rattle.vt_bytes.specs.Memory.{Memory, bytes_at, ram_ranges}
 
 -- an address or a top in 8 digits, lower-case hexadecimal as all digits of a dump
 abbrev pub digits_of_address : ℕ → List ℕ
@@ -30,8 +31,14 @@ unfoldable pub rows_text : Memory → ℕ → ℕ → List ℕ
 rows_text m start count =
     flat_map (λ k. row_line m.fill (start + 16 * k) (bytes_at m (start + 16 * k) 16)) (range_with_len 0 count)
 
--- all of it: RAM below 0xA0000, from 0xE0000 to 0xFFFFF, and the 32 MiB below the top
+-- the lines of a range of RAM
+abbrev pub range_text : Memory → AddressRange → List ℕ
+range_text m range = rows_text m range.start ((range.end - range.start) / 16)
+
+-- the lines of ranges of RAM, one after the other
+unfoldable pub ranges_text : Memory → List AddressRange → List ℕ
+ranges_text m ranges = flat_map (range_text m) ranges
+
+-- all of it
 unfoldable pub dump : Memory → List ℕ
-dump m =
-    header_line m.top m.fill ++ rows_text m 0 0xA000 ++ rows_text m 0xE0000 0x2000 ++ rows_text m (high_start m.top) 0x200000
-    ++ last_line
+dump m = header_line m.top m.fill ++ ranges_text m (ram_ranges m.top) ++ last_line

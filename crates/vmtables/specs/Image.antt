@@ -18,6 +18,8 @@ use Rattle.table_model.specs.Anchor.{anchor_rows, anchor_of}
 use Rattle.table_model.specs.Smbios.{structures_of}
 use Rattle.vt_layout.specs.declared.row.Row.TheVariants.{Pointer}
 use Rattle.vmtables.specs.declared.files.FileBytes.{FileBytes}
+use Rattle.vmtables.specs.declared.zones.Zone.TheVariants.{High, Fseg}
+use Rattle.vmtables.specs.Places.{number_of_zone}
 
 abbrev pub anchor_name : List ℕ
 anchor_name = codes "etc/smbios/smbios-anchor"
@@ -100,10 +102,10 @@ acpi_tables_first (Some acpi) = record { name = acpi_tables_name; blob = acpi.ta
 -- The tables of each kind go to high memory, and what leads to them to the F segment, where a guest looks for it.
 abbrev pub acpi_allocations : Option AcpiImage → List Entry
 acpi_allocations None = []
-acpi_allocations (Some acpi) = Allocate acpi_tables_name 64 1 ∷ Allocate rsdp_name 16 2 ∷ []
+acpi_allocations (Some acpi) = Allocate acpi_tables_name 64 (number_of_zone High) ∷ Allocate rsdp_name 16 (number_of_zone Fseg) ∷ []
 
 abbrev pub smbios_allocations : List Entry
-smbios_allocations = Allocate structures_name 16 1 ∷ Allocate anchor_name 16 2 ∷ []
+smbios_allocations = Allocate structures_name 16 (number_of_zone High) ∷ Allocate anchor_name 16 (number_of_zone Fseg) ∷ []
 
 -- the command that fills a pointer's field, and the one that fills a sum's byte
 abbrev pub add_pointer : List ℕ → PointerHole → Entry

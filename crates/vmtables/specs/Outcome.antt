@@ -1,17 +1,32 @@
--- What the top call says on `say`, and how long its input may be.
-use Rattle.std.specs.Prelude.{ℕ, ◌-◌, List, [], ◌++◌, ◌∷◌, length, codes, Option, Some}
+-- How the top call ends: the status and the line of each fault, the numbers of statuses, and how long an input may be.
+use Rattle.std.specs.Prelude.{ℕ, ◌-◌, List, [], ◌++◌, ◌∷◌, length, codes, Option, Some, Result, Ok, Err}
+use Rattle.vmtables.specs.declared.fault.Fault.{Fault}
+use Rattle.vmtables.specs.declared.fault.Fault.TheVariants as fault
 use Rattle.vmtables.specs.declared.status.Status.{Status}
 use Rattle.vmtables.specs.declared.status.Status.TheVariants as status
 
--- the line of a status, which ends in a line feed; nothing for Ok
-abbrev pub line_of : Status → List ℕ
-line_of status.Ok = []
-line_of status.ReadFault = codes "read fault" ++ 10 ∷ []
-line_of status.Usage = codes "usage: vmtables build, load, decode, boot, lint or gen" ++ 10 ∷ []
-line_of status.DescriptionRefused = codes "description refused" ++ 10 ∷ []
-line_of status.WriteFault = codes "write fault" ++ 10 ∷ []
-line_of status.OutOfMemory = codes "out of memory" ++ 10 ∷ []
-line_of status.InputTooLong = codes "input too long" ++ 10 ∷ []
+-- the status of a call that a fault ended
+abbrev pub status_of_fault : Fault → Status
+status_of_fault fault.ReadFault = status.ReadFault
+status_of_fault fault.Usage = status.Usage
+status_of_fault fault.DescriptionRefused = status.DescriptionRefused
+status_of_fault fault.WriteFault = status.WriteFault
+status_of_fault fault.OutOfMemory = status.OutOfMemory
+status_of_fault fault.InputTooLong = status.InputTooLong
+
+-- the status of a call that ended so
+abbrev pub status_of : Result (Unit {0}) Fault → Status
+status_of (Ok done) = status.Ok
+status_of (Err fault) = status_of_fault fault
+
+-- the line of a fault, which ends in a line feed
+abbrev pub line_of : Fault → List ℕ
+line_of fault.ReadFault = codes "read fault" ++ 10 ∷ []
+line_of fault.Usage = codes "usage: vmtables build, load, decode, boot, lint or gen" ++ 10 ∷ []
+line_of fault.DescriptionRefused = codes "description refused" ++ 10 ∷ []
+line_of fault.WriteFault = codes "write fault" ++ 10 ∷ []
+line_of fault.OutOfMemory = codes "out of memory" ++ 10 ∷ []
+line_of fault.InputTooLong = codes "input too long" ++ 10 ∷ []
 
 -- the number of a status, with which a process ends
 abbrev pub number_of : Status → ℕ

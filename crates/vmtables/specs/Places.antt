@@ -1,23 +1,29 @@
--- Zones of memory, and the places that files take there.
-use Rattle.std.specs.Prelude.{◌≡◌, ℕ, zero, suc, ◌+◌, ◌-◌, ◌*◌, ◌≤◌, ◌⊎◌, List}
-use Rattle.std.specs.List.{AllByRecursion}
-use Rattle.vmtables.specs.declared.placing.Range.{Range}
+-- Zones of memory, and the least free place in one.
+use Rattle.std.specs.Prelude.{ℕ, zero, suc, ◌≤◌, List}
+use Rattle.vt_outside.specs.Placement.{Range, high_zone, f_segment, IsFree}
+use Rattle.vmtables.specs.declared.zones.Zone.{Zone}
+use Rattle.vmtables.specs.declared.zones.Zone.TheVariants.{High, Fseg}
+use Rattle.vmtables.specs.declared.zones.Zones.{Zones}
 
--- The zone of a number: 1 is High, the 16 MiB that end at the top, and 2 is the F segment, 0xF0000 to 0xFFFFF.
-abbrev pub zone_of : ℕ → ℕ → Range
-zone_of top (suc zero) = record { start = top - 0x1000000; end = top }
-zone_of top _ = record { start = 0xF0000; end = 0x100000 }
+-- the addresses of a zone below a top
+abbrev pub zone_range : ℕ → Zone → Range
+zone_range top High = high_zone top
+zone_range top Fseg = f_segment
 
--- two ranges have no address in common
-abbrev pub Apart : Range → Range → Type 0
-Apart a b = (a.end ≤ b.start) ⊎ (b.end ≤ a.start)
+-- the addresses that zones give
+abbrev pub range_in : Zones → Zone → Range
+range_in zones High = record { start = zones.high_start; end = zones.high_end }
+range_in zones Fseg = record { start = zones.fseg_start; end = zones.fseg_end }
 
--- A place that may be given to a file: it is aligned, in its zone, and apart from each range that is handed out.
-pub record IsFree (zone : Range) (handed : List Range) (size align place : ℕ) : Type 0 where
-  pub aligned : (factor : ℕ) × (place ≡ factor * align)
-  pub from : zone.start ≤ place
-  pub within : place + size ≤ zone.end
-  pub apart : AllByRecursion (Apart (record { start = place; end = place + size })) handed
+-- the zone of the number in an Allocate: 1 is High, and 2 is the F segment
+abbrev pub zone_numbered : ℕ → Zone
+zone_numbered (suc zero) = High
+zone_numbered _ = Fseg
+
+-- the number of a zone in an Allocate
+abbrev pub number_of_zone : Zone → ℕ
+number_of_zone High = 1
+number_of_zone Fseg = 2
 
 -- the least place that is free
 pub record IsLeastFree (zone : Range) (handed : List Range) (size align place : ℕ) : Type 0 where

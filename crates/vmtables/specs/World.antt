@@ -1,7 +1,7 @@
 -- The world of a load: a guest's memory, and the files and the script that a firmware loads.
 use Rattle.std.specs.Prelude.{◌≡◌, ℕ, Bool, false, List, Option, Some, None, if◌then◌else◌}
 use Rattle.loader_script.specs.declared.entry.Entry.{Entry}
-use Rattle.guest_memory.specs.Memory.{Memory, IsRam, at}
+use Rattle.vt_bytes.specs.Memory.{Memory, IsRam, at}
 use Rattle.vmtables.specs.declared.files.FileBytes.{FileBytes}
 use Rattle.vmtables.specs.declared.state.State.{State}
 use Rattle.vmtables.specs.declared.state.State.TheVariants.{Idle, Running, Done}

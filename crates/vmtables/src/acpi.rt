@@ -1,7 +1,8 @@
 ghost use Rattle.std.specs.Prelude.{◌≡◌, ◌≤◌, [], IfSome, IfOk, OnOk};
+ghost use Rattle.std.specs.List.{AllByRecursion};
 ghost use Rattle.machine_desc.specs.Rules.{IsAccepted};
 ghost use Rattle.table_model.specs.Header.{FitsHead, head_of};
-ghost use Rattle.table_model.specs.Acpi.{tables_of};
+ghost use Rattle.table_model.specs.Acpi.{IsWritable, tables_of};
 ghost use Rattle.acpi_fixed.specs.Tables.{with_xsdt};
 ghost use Rattle.vmtables.specs.Image.{whole, acpi_image, acpi_files, with_tables, places_in, xsdt_place};
 ghost use Rattle.vmtables.specs.AcpiHeld.{IsAcpiImage, IsTablesFile, AreAppended, most_bytes};
@@ -52,6 +53,7 @@ pub(crate) fn build_acpi(alloc: Global, machine: &Machine) -> Result<Option<Acpi
 // The files of `tables`, made by the maker `acpi`.
 fn files_of(alloc: Global, acpi: &Acpi, tables: &[Table]) -> Result<AcpiFiles, OutOfMemory>
     requires fits { FitsHead acpi.now }
+    requires writable { AllByRecursion IsWritable tables.now }
     requires few { most_bytes tables.now ≤ 2000 }
     ensures files { IfOk result (λ files. files ≡ acpi_files acpi.now tables.now) }
     ensures held { OnOk result (IsAcpiImage acpi.now tables.now (acpi_files acpi.now tables.now)) }
@@ -75,6 +77,7 @@ fn append_tables(
     tables: &[Table],
 ) -> Result<u32, OutOfMemory>
     requires empty { file.old ≡ whole [] }
+    requires writable { AllByRecursion IsWritable tables.now }
     requires few { most_bytes tables.now ≤ 2000 }
     ensures place { IfOk result (λ place. place ≡ xsdt_place tables.now) }
     ensures file { OnOk result (file.new ≡ with_xsdt (with_tables (whole []) tables.now) head.now (places_in (whole []) tables.now)) }
@@ -87,6 +90,7 @@ fn append_tables(
 // Appends `tables` to an empty file, and gives their places.
 fn append_each(alloc: Global, file: &mut Blob, tables: &[Table]) -> Result<List<u32>, OutOfMemory>
     requires empty { file.old ≡ whole [] }
+    requires writable { AllByRecursion IsWritable tables.now }
     requires few { most_bytes tables.now ≤ 2000 }
     ensures { IfOk result (λ places. AreAppended tables.now places file.new) }
 {

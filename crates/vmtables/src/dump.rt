@@ -1,13 +1,13 @@
-ghost use Rattle.std.specs.Prelude.{◌≡◌, ◌+◌, ◌*◌, ◌==◌, length, OnOk, OnErr};
+ghost use Rattle.std.specs.Prelude.{◌≡◌, ◌+◌, ◌*◌, ◌%◌, ◌==◌, length, OnOk, OnErr};
 ghost use Rattle.std.specs.List.{list_all};
 ghost use Rattle.vt_outside.specs.Stream.{Rose};
-ghost use Rattle.guest_memory.specs.Memory.{IsTop, IsRamRange, bytes_at};
-ghost use Rattle.vmtables.specs.Dump.{dump, header_line, row_text, rows_text};
+ghost use Rattle.vt_bytes.specs.Memory.{IsTop, IsRamRange, ram_ranges};
+ghost use Rattle.vmtables.specs.Dump.{dump, header_line, ranges_text, row_text, rows_text};
 ghost use Rattle.hex.specs.Hex.{encode_lower};
 ghost use Rattle.vmtables.specs.Output.{Took, TookFront};
 
 use crate::output::write_all;
-use guest_memory::GuestMemory;
+use guest_memory::{GuestMemory, ram_ranges};
 use vt_outside::{Failed, Sink};
 
 // How many bytes of RAM a line tells.
@@ -24,12 +24,24 @@ pub(crate) fn dump_to<K: Sink>(memory: &GuestMemory, out: &mut K) -> Result<(), 
     ensures failed { OnErr result (Rose (K.faults out.old) (K.faults out.new)) }
     ensures sound { OnOk result (K.faults out.new ≡ K.faults out.old) }
 {
-    let top = u64::from(memory.top());
     write_all(out, &header(memory.top(), memory.fill()))?;
-    dump_rows(memory, out, 0, 0xA000)?;
-    dump_rows(memory, out, 0xE_0000, 0x2000)?;
-    dump_rows(memory, out, top - 0x200_0000, 0x20_0000)?;
+    dump_ranges(memory, out)?;
     write_all(out, b"end\n")
+}
+
+// Writes the lines of each range of RAM.
+fn dump_ranges<K: Sink>(memory: &GuestMemory, out: &mut K) -> Result<(), Failed>
+    ensures ok { OnOk result (Took (K.taken out.old) (K.taken out.new) (ranges_text memory.now (ram_ranges memory.now.top))) }
+    ensures front { OnErr result (TookFront (K.taken out.old) (K.taken out.new) (ranges_text memory.now (ram_ranges memory.now.top))) }
+    ensures unflushed { K.flushed out.new ≡ K.flushed out.old }
+
+    ensures failed { OnErr result (Rose (K.faults out.old) (K.faults out.new)) }
+    ensures sound { OnOk result (K.faults out.new ≡ K.faults out.old) }
+{
+    for range in ram_ranges(memory.top()) {
+        dump_rows(memory, out, range.start, (range.end - range.start) / ROW)?;
+    }
+    Ok(())
 }
 
 // Writes the lines of so many rows from an address on.
@@ -41,6 +53,7 @@ fn dump_rows<K: Sink>(
 ) -> Result<(), Failed>
     requires lawful { IsTop memory.now.top }
     requires ram { IsRamRange memory.now.top start (16 * count) }
+    requires aligned { start % 16 ≡ 0 }
     ensures ok { OnOk result (Took (K.taken out.old) (K.taken out.new) (rows_text memory.now start count)) }
     ensures front { OnErr result (TookFront (K.taken out.old) (K.taken out.new) (rows_text memory.now start count)) }
     ensures unflushed { K.flushed out.new ≡ K.flushed out.old }
@@ -51,7 +64,7 @@ fn dump_rows<K: Sink>(
     let fill = memory.fill();
     for k in 0..count {
         let address = start + ROW * k;
-        let row = memory.bytes_at(address, ROW as usize);
+        let row = memory.window(address, ROW as u32);
         if !is_filled(row, fill) {
             write_all(out, &line(address as u32, row))?;
         }

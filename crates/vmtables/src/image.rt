@@ -1,6 +1,6 @@
-ghost use Rattle.std.specs.Prelude.{◌≡◌, ◌*◌, ◌∷◌, ◌++◌, [], List as ListOf, IfOk, OnOk, map};
+ghost use Rattle.std.specs.Prelude.{◌≡◌, ℕ, ◌*◌, ◌∷◌, ◌++◌, [], List as ListOf, IfOk, OnOk, map};
 ghost use Rattle.machine_desc.specs.Rules.{IsAccepted};
-ghost use Rattle.guest_memory.specs.Memory.{Memory, seen};
+ghost use Rattle.vt_bytes.specs.Memory.{Memory, seen};
 ghost use Rattle.table_model.specs.Inventory.{Shows, inventory_of};
 ghost use Rattle.vmtables.specs.Image.{
   acpi_allocations,
@@ -18,22 +18,21 @@ ghost use Rattle.vmtables.specs.Image.{
   smbios_allocations,
   smbios_by_name,
 };
-ghost use Rattle.vmtables.specs.ScriptRun.{Placed, Runs, IsLeft};
+ghost use Rattle.loader_script.specs.Run.{Placed};
+ghost use Rattle.loader_script.specs.Left.{IsLeft};
+ghost use Rattle.vmtables.specs.Places.{number_of_zone};
+ghost use Rattle.vmtables.specs.LowRun.{IsLowRun};
 
 use crate::acpi::{AcpiFiles, build_acpi};
 use crate::files::FileBytes;
 use crate::names::{acpi_tables_name, anchor_name, rsdp_name, structures_name};
 use crate::smbios::{SmbiosFiles, smbios_files_of};
+use crate::zones::Zone;
 use blob_holes::Parts;
 use loader_script::Entry;
 use machine_desc::Machine;
 use std::alloc::Global;
 use vt_outside::{List, Name, OutOfMemory};
-
-// The zones of an Allocate.
-const HIGH: u8 = 1;
-
-const F_SEGMENT: u8 = 2;
 
 /// The files of a machine, and the script that loads them.
 #[derive(Drop)]
@@ -50,11 +49,11 @@ pub(crate) fn image_of(alloc: Global, machine: &Machine) -> Result<Image, OutOfM
     ensures script { IfOk result (λ image. image.script ≡ image_script machine.now) }
 
     // The script runs, and what it leaves in zeroed memory shows the machine.
-    ensures runs { OnOk result ((after : ListOf Placed)
-        × Runs (machine.now.top_mib * 0x100000) (image_files machine.now) (image_script machine.now) [] after) }
-    ensures shown { OnOk result ((after : ListOf Placed) (m : Memory)
-        → Runs (machine.now.top_mib * 0x100000) (image_files machine.now) (image_script machine.now) [] after
-        → m.top ≡ machine.now.top_mib * 0x100000 → m.fill ≡ 0 → IsLeft m after → Shows m.top (seen m) (inventory_of machine.now)) }
+    ensures runs { OnOk result ((places : ListOf ℕ) × (after : ListOf Placed)
+        × IsLowRun (machine.now.top_mib * 0x100000) (image_files machine.now) (image_script machine.now) places after) }
+    ensures shown { OnOk result ((places : ListOf ℕ) (after : ListOf Placed) (m : Memory)
+        → IsLowRun (machine.now.top_mib * 0x100000) (image_files machine.now) (image_script machine.now) places after
+        → m.top ≡ machine.now.top_mib * 0x100000 → m.fill ≡ 0 → IsLeft m after (λ _. m.fill) → Shows m.top (seen m) (inventory_of machine.now)) }
 {
     let acpi = build_acpi(alloc, machine)?;
     let smbios = smbios_files_of(alloc, machine)?;
@@ -153,11 +152,11 @@ fn push_allocations(script: &mut List<Entry>, acpi: &Option<AcpiFiles>) -> Resul
     ensures { OnOk result (script.new ≡ script.old ++ (acpi_allocations acpi.now ++ smbios_allocations)) }
 {
     if acpi.is_some() {
-        script.push(allocate(acpi_tables_name(), 64, HIGH))?;
-        script.push(allocate(rsdp_name(), 16, F_SEGMENT))?;
+        script.push(allocate(acpi_tables_name(), 64, Zone::High))?;
+        script.push(allocate(rsdp_name(), 16, Zone::Fseg))?;
     }
-    script.push(allocate(structures_name(), 16, HIGH))?;
-    script.push(allocate(anchor_name(), 16, F_SEGMENT))
+    script.push(allocate(structures_name(), 16, Zone::High))?;
+    script.push(allocate(anchor_name(), 16, Zone::Fseg))
 }
 
 fn push_all_pointers(
@@ -221,8 +220,12 @@ fn push_checksums(script: &mut List<Entry>, file: Name, parts: &Parts) -> Result
     Ok(())
 }
 
-fn allocate(file: Name, align: u32, zone: u8) -> Entry
-    ensures { result ≡ Entry.Allocate file align zone }
+fn allocate(file: Name, align: u32, zone: Zone) -> Entry
+    ensures { result ≡ Entry.Allocate file align (number_of_zone zone) }
 {
-    Entry::Allocate { file, align, zone }
+    Entry::Allocate {
+        file,
+        align,
+        zone: zone.number(),
+    }
 }

@@ -1,4 +1,4 @@
-ghost use Rattle.std.specs.Prelude.{◌≡◌, ◌≢◌, ℕ, ◌<◌, ◌≤◌, ◌↔◌, [], length, Err, IfOk, OnOk, IfSome};
+ghost use Rattle.std.specs.Prelude.{◌≡◌, ◌≢◌, ◌<◌, ◌≤◌, ◌↔◌, [], length, Err, IfOk, OnOk, IfSome};
 ghost use Rattle.vt_outside.specs.Stream.{Rose, in_front};
 ghost use Rattle.vmtables.specs.Outcome.{input_limit, given_count};
 

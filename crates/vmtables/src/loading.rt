@@ -1,29 +1,45 @@
-ghost use Rattle.std.specs.Prelude.{◌≡◌, ℕ, ◌<◌, ◌≤◌, ◌+◌, List as ListOf, length, Some, IsSome, vec_len, vec_capacity};
-ghost use Rattle.loader_script.specs.declared.entry.Entry.TheVariants.{Allocate};
-ghost use Rattle.vmtables.specs.ScriptRun.{Placed, Runs, IsLowPlace, carried_out, allocated, pointed, summed, bytes_of};
-ghost use Rattle.vmtables.specs.FilesInMemory.{files_in, placed_named, IsLoading, IsStep};
+ghost use Rattle.std.specs.Prelude.{◌≡◌, ℕ, ◌<◌, ◌≤◌, ◌+◌, ◌++◌, ◌∷◌, [], true, List as ListOf, length, map, Some, None, IsSome, vec_len, vec_capacity};
+ghost use Rattle.std.specs.Int.{is_power_of_two};
+ghost use Rattle.vt_bytes.specs.Memory.{at};
+ghost use Rattle.loader_script.specs.Run.{File, Placed, Progress, file_of, placed_of, bytes_of, with_pointer, with_sum, cause_of, carried_out};
+ghost use Rattle.loader_script.specs.Left.{range_of, IsLeft};
+ghost use Rattle.vmtables.specs.Places.{zone_range, IsLeastFree};
+ghost use Rattle.vmtables.specs.LowRun.{read_only, IsLow, IsLowRun};
+ghost use Rattle.vmtables.specs.FilesInMemory.{
+  files_in,
+  progress_in,
+  placed_named,
+  ArePlaced,
+  IsLoading,
+  IsStep,
+  Stays,
+  CanPoint,
+  CanSum,
+};
 
 use crate::files::FileBytes;
-use crate::placing::{PlacedFile, least_free, zone_of};
+use crate::placing::{PlacedFile, least_free};
+use crate::zones::{Zone, zones_of};
 use guest_memory::GuestMemory;
 use loader_script::Entry;
 use vt_outside::Name;
 
 /// Carries out the commands of `script` on `memory`, one after the other; none of them is refused. `files` are the files that a
-/// command can place. `placed` are the files that stand in `memory` already; it has room for one more for each command, and
-/// gets each file that is placed. It takes no memory.
+/// command can place, and each gets the least free place of its zone. `placed` is empty, has room for a file for each command,
+/// and gets each file that is placed. It takes no memory.
 pub(crate) fn run_script(
     memory: &mut GuestMemory,
     files: &[FileBytes],
     script: &[Entry],
     placed: &mut Vec<PlacedFile>,
 )
-    requires loading { IsLoading memory.old placed.old.items }
+    requires none { placed.old.items ≡ [] }
     requires room { vec_len placed.old + length script.now ≤ vec_capacity placed.old }
-    requires runs { (after : ListOf Placed) × Runs memory.old.top files.now script.now (files_in memory.old placed.old.items) after }
-    ensures after { (after : ListOf Placed) → Runs memory.old.top files.now script.now (files_in memory.old placed.old.items) after
-        → files_in memory.new placed.new.items ≡ after }
-    ensures step { IsStep memory.old memory.new placed.new.items }
+    requires runs { (places : ListOf ℕ) × (after : ListOf Placed) × IsLowRun memory.old.top files.now script.now places after }
+    ensures left { (places : ListOf ℕ) (after : ListOf Placed) → IsLowRun memory.old.top files.now script.now places after
+        → IsLeft memory.new after (at memory.old) }
+    ensures top { memory.new.top ≡ memory.old.top }
+    ensures fill { memory.new.fill ≡ memory.old.fill }
 {
     for entry in script {
         carry_out(memory, files, entry, placed);
@@ -37,19 +53,21 @@ fn carry_out(
     entry: &Entry,
     placed: &mut Vec<PlacedFile>,
 )
-    requires loading { IsLoading memory.old placed.old.items }
+    requires loading { IsLoading memory.old.top files.now placed.old.items }
     requires room { vec_len placed.old < vec_capacity placed.old }
-    requires lawful { (place : ℕ) × IsLowPlace memory.old.top files.now (files_in memory.old placed.old.items) entry.now place
-        × IsSome (carried_out files.now entry.now place (files_in memory.old placed.old.items)) }
-    ensures after { (place : ℕ) → IsLowPlace memory.old.top files.now (files_in memory.old placed.old.items) entry.now place
-        → carried_out files.now entry.now place (files_in memory.old placed.old.items) ≡ Some (files_in memory.new placed.new.items) }
-    ensures step { IsStep memory.old memory.new placed.new.items }
+    requires lawful { (places : ListOf ℕ) × IsLow memory.old.top entry.now (progress_in memory.old files.now placed.old.items places)
+        × (cause_of entry.now (progress_in memory.old files.now placed.old.items places) ≡ None) }
+    ensures after { (places : ListOf ℕ) (next : Progress)
+        → IsLow memory.old.top entry.now (progress_in memory.old files.now placed.old.items places)
+        → carried_out entry.now (progress_in memory.old files.now placed.old.items places) ≡ Some next
+        → next ≡ progress_in memory.new files.now placed.new.items next.places }
+    ensures step { IsStep memory.old memory.new files.now placed.old.items placed.new.items }
     ensures len { vec_len placed.new ≤ vec_len placed.old + 1 }
     ensures capacity { vec_capacity placed.new ≡ vec_capacity placed.old }
 {
     match entry {
         Entry::Allocate { file, align, zone } => {
-            allocate(memory, files, file, *align, *zone, placed);
+            allocate(memory, files, file, *align, Zone::numbered(*zone), placed);
         }
         Entry::AddPointer {
             dest,
@@ -63,6 +81,7 @@ fn carry_out(
             start,
             length,
         } => add_checksum(memory, placed.as_slice(), file, *offset, *start, *length),
+        // No file of a load may be written by a guest.
         Entry::WritePointer { .. } | Entry::Misnamed(_) => unreachable!(),
         Entry::Skipped(_) => {}
     }
@@ -74,22 +93,28 @@ fn allocate(
     files: &[FileBytes],
     name: &Name,
     align: u32,
-    zone: u8,
+    zone: Zone,
     placed: &mut Vec<PlacedFile>,
 )
-    requires loading { IsLoading memory.old placed.old.items }
+    requires loading { IsLoading memory.old.top files.now placed.old.items }
     requires room { vec_len placed.old < vec_capacity placed.old }
-    requires lawful { (place : ℕ) × IsLowPlace memory.old.top files.now (files_in memory.old placed.old.items) (Allocate name.now align zone) place
-        × IsSome (allocated files.now (files_in memory.old placed.old.items) name.now align zone place) }
-    ensures after { (place : ℕ) → IsLowPlace memory.old.top files.now (files_in memory.old placed.old.items) (Allocate name.now align zone) place
-        → allocated files.now (files_in memory.old placed.old.items) name.now align zone place ≡ Some (files_in memory.new placed.new.items) }
-    ensures step { IsStep memory.old memory.new placed.new.items }
+    requires there { (file : File) × (file_of (read_only files.now) name.now ≡ Some file) × (0 < length file.bytes) }
+    requires fresh { placed_of (files_in memory.old placed.old.items) name.now ≡ None }
+    requires power { is_power_of_two align ≡ true }
+    requires place { (place : ℕ) × IsLeastFree (zone_range memory.old.top zone) (map range_of (files_in memory.old placed.old.items))
+        (length (bytes_of (read_only files.now) name.now)) align place }
+    ensures after { (place : ℕ) → IsLeastFree (zone_range memory.old.top zone) (map range_of (files_in memory.old placed.old.items))
+        (length (bytes_of (read_only files.now) name.now)) align place
+        → files_in memory.new placed.new.items ≡ files_in memory.old placed.old.items
+        ++ record { name = name.now; place = place; bytes = bytes_of (read_only files.now) name.now } ∷ [] }
+    ensures step { IsStep memory.old memory.new files.now placed.old.items placed.new.items }
     ensures len { vec_len placed.new ≡ vec_len placed.old + 1 }
     ensures capacity { vec_capacity placed.new ≡ vec_capacity placed.old }
 {
     let bytes = bytes_of(files, name);
     let place = least_free(
-        zone_of(memory.top(), zone),
+        &zones_of(memory.top()),
+        zone,
         placed.as_slice(),
         bytes.len() as u64,
         u64::from(align),
@@ -111,10 +136,10 @@ fn add_pointer(
     offset: u32,
     size: u8,
 )
-    requires loading { IsLoading memory.old placed.now }
-    requires lawful { IsSome (pointed (files_in memory.old placed.now) dest.now src.now offset size) }
-    ensures after { pointed (files_in memory.old placed.now) dest.now src.now offset size ≡ Some (files_in memory.new placed.now) }
-    ensures step { IsStep memory.old memory.new placed.now }
+    requires placed { ArePlaced memory.old.top placed.now }
+    requires lawful { CanPoint (files_in memory.old placed.now) dest.now src.now offset size }
+    ensures after { files_in memory.new placed.now ≡ with_pointer dest.now src.now offset size (files_in memory.old placed.now) }
+    ensures stays { Stays memory.old memory.new placed.now placed.now }
 {
     let field = placed_of(placed, dest).place + u64::from(offset);
     let amount = placed_of(placed, src).place;
@@ -130,10 +155,10 @@ fn add_checksum(
     start: u32,
     length: u32,
 )
-    requires loading { IsLoading memory.old placed.now }
-    requires lawful { IsSome (summed (files_in memory.old placed.now) name.now offset start length) }
-    ensures after { summed (files_in memory.old placed.now) name.now offset start length ≡ Some (files_in memory.new placed.now) }
-    ensures step { IsStep memory.old memory.new placed.now }
+    requires placed { ArePlaced memory.old.top placed.now }
+    requires lawful { CanSum (files_in memory.old placed.now) name.now offset start length }
+    ensures after { files_in memory.new placed.now ≡ with_sum name.now offset start length (files_in memory.old placed.now) }
+    ensures stays { Stays memory.old memory.new placed.now placed.now }
 {
     let place = placed_of(placed, name).place;
     let field = place + u64::from(offset);
@@ -145,8 +170,8 @@ fn add_checksum(
 
 // The bytes of the file that has the name.
 fn bytes_of<'a>(files: &'a [FileBytes], name: &Name) -> &'a [u8]
-    requires { IsSome (bytes_of files.now name.now) }
-    ensures { bytes_of files.now name.now ≡ Some result.now }
+    requires { IsSome (file_of (read_only files.now) name.now) }
+    ensures { result.now ≡ bytes_of (read_only files.now) name.now }
 {
     let file = files.iter().find(|file| file.name == *name).unwrap();
     file.bytes.as_slice()

@@ -1,4 +1,4 @@
-ghost use Rattle.std.specs.Prelude.{◌≡◌, length, OnOk, OnErr};
+ghost use Rattle.std.specs.Prelude.{◌≡◌, OnOk, OnErr};
 ghost use Rattle.vt_outside.specs.Stream.{Rose};
 ghost use Rattle.vmtables.specs.Output.{Took, TookFront};
 

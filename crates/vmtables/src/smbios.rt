@@ -1,4 +1,4 @@
-ghost use Rattle.std.specs.Prelude.{◌≡◌, ◌<◌, ◌^◌, IfOk, OnOk};
+ghost use Rattle.std.specs.Prelude.{◌≡◌, ◌<◌, IfOk, OnOk};
 ghost use Rattle.table_model.specs.Smbios.{AreStructures, structures_of};
 ghost use Rattle.machine_desc.specs.Rules.{IsAccepted};
 ghost use Rattle.vmtables.specs.Image.{anchor_blob, smbios_image, structures_file};

@@ -1,17 +1,19 @@
-ghost use Rattle.std.specs.Prelude.{◌≡◌, ◌≢◌, ℕ, ◌<◌, ◌≤◌, ◌↔◌, ◌⊎◌, List, [], map, string_bytes, Err, Some, None, Option, IfSome, IsSome, IfErr, OnOk, OnErr, IsSomeAnd};
+ghost use Rattle.std.specs.Prelude.{◌≡◌, ◌≢◌, ℕ, ◌<◌, ◌↔◌, ◌⊎◌, List, map, string_bytes, Err, None, IfSome, IsSome, IfErr, OnOk, OnErr, IsSomeAnd};
 ghost use Rattle.vt_outside.specs.Stream.{Rose};
-ghost use Rattle.machine_desc.specs.declared.machine.Machine.{Machine};
 ghost use Rattle.machine_desc.specs.Rules.{IsAccepted};
-ghost use Rattle.vmtables.specs.Boot.{HasLoaded, WasRead, IsLoaded, LeavesWorld, BootEnds, status_of};
+ghost use Rattle.vmtables.specs.Boot.{IsLoaded, BootMakes};
+ghost use Rattle.vmtables.specs.Calls.{ReadsAll, Ran, Said, Answered, Streams};
 ghost use Rattle.vmtables.specs.Command.{command_of};
+ghost use Rattle.vmtables.specs.Does.{Does};
 ghost use Rattle.vmtables.specs.Dump.{dump};
-ghost use Rattle.vmtables.specs.Outcome.{input_limit, given_count, line_of};
+ghost use Rattle.vmtables.specs.Outcome.{input_limit, given_count, status_of, line_of};
 ghost use Rattle.vmtables.specs.Output.{Took, TookFront, AllFlushed};
 ghost use Rattle.vmtables.specs.Reads.{Reads};
 
 use crate::command::{Command, read_words};
 use crate::description::read_machine;
 use crate::dump::dump_to;
+use crate::fault::Fault;
 use crate::image::image_of;
 use crate::input::read_to_end;
 use crate::output::write_all;
@@ -43,55 +45,77 @@ pub fn top<S: Source, K: Sink, E: Sink>(
     say: &mut E,
     world: &mut World,
 ) -> Status
-    // With Ok, with a write fault and with a refused description the source has nothing left. With the first two, what it
-    // had is a description whose machine is loaded in the world.
-    ensures read { WasRead result → IfSome (S.left source.new) (λ rest. rest ≡ []) }
-    ensures loaded { HasLoaded result → IfSome (S.left source.old) (λ bytes. IsSomeAnd world.new (IsLoaded bytes)) }
+    // The command that the words are, or the want of one, did what it does: of the source it read so much, it left the world so,
+    // out took the text that it made or a part of it, and the answer and what say took are those of how it ended.
+    ensures does { Answered (Does (command_of (map string_bytes words.now)) world.old world.new) result
+        (S.left source.old) (S.left source.new) (K.taken out.old) (K.taken out.new)
+        (record { taken = E.taken say.old; flushed = E.flushed say.old; faults = E.faults say.old })
+        (record { taken = E.taken say.new; flushed = E.flushed say.new; faults = E.faults say.new }) }
 
-    // With Ok, out took the dump of the world's memory, and all that out took is flushed.
-    ensures dumped { result ≡ Status.Ok → IsSomeAnd world.new (λ w. Took (K.taken out.old) (K.taken out.new) (dump w.memory)) }
-    ensures flushed { result ≡ Status.Ok → AllFlushed (K.taken out.new) (K.flushed out.new) }
-
-    // When each other status comes. Want of memory may come at any time.
+    // When each status comes that isn't the command's own. Want of memory may come at any time.
     ensures usage { (result ≡ Status.Usage) ↔ (command_of (map string_bytes words.now) ≡ None) }
     ensures read_fault { result ≡ Status.ReadFault → Rose (S.faults source.old) (S.faults source.new) }
     ensures read_sound { result ≢ Status.ReadFault → S.faults source.new ≡ S.faults source.old }
     ensures too_long { IfSome (S.left source.old) (λ _.
         (result ≡ Status.InputTooLong) ↔ (input_limit < given_count (S.left source.old) (S.left source.new))) }
-    ensures refused { result ≡ Status.DescriptionRefused → IfSome (S.left source.old) (λ bytes.
-        (machine : Machine) → Reads bytes machine → ⊥) }
     ensures write_fault { result ≡ Status.WriteFault → Rose (K.faults out.old) (K.faults out.new) }
     ensures write_sound { result ≢ Status.WriteFault → K.faults out.new ≡ K.faults out.old }
 
-    // What is left with another status than Ok.
-    ensures front { result ≡ Status.WriteFault → IsSomeAnd world.new (λ w. TookFront (K.taken out.old) (K.taken out.new) (dump w.memory)) }
+    // What each status says of the streams: out took nothing without a text, and flushed nothing or all. Where the words are no
+    // command the source isn't read. With Ok nothing is said.
     ensures nothing { result ≢ Status.Ok → result ≢ Status.WriteFault → K.taken out.new ≡ K.taken out.old }
+    ensures flushed { result ≡ Status.Ok → AllFlushed (K.taken out.new) (K.flushed out.new) }
     ensures unflushed { result ≢ Status.Ok → K.flushed out.new ≡ K.flushed out.old }
-    ensures world { LeavesWorld result world.old world.new }
-
-    // Where the words are no command the source isn't read.
     ensures unread { result ≡ Status.Usage → S.left source.new ≡ S.left source.old }
-
-    // Say took the line of the status, or, where it failed, a part of it from its front.
-    ensures said { (Took (E.taken say.old) (E.taken say.new) (line_of result) × (E.faults say.new ≡ E.faults say.old))
-        ⊎ (TookFront (E.taken say.old) (E.taken say.new) (line_of result) × Rose (E.faults say.old) (E.faults say.new)) }
+    ensures silent { result ≡ Status.Ok → (E.taken say.new ≡ E.taken say.old) × (E.faults say.new ≡ E.faults say.old) }
 {
-    let outcome = match read_words(words) {
-        Some(Command::Boot) => boot(alloc, source, out, world),
-        None => Err(Status::Usage),
-    };
-    let status = status_of(outcome);
-    // A fault of `say` has no place to be told.
-    let _ = write_all(say, status.line().as_bytes());
-    status
+    let ended = carry_out(alloc, words, source, out, world);
+    say_fault(say, ended);
+    status_of(ended)
 }
 
-fn status_of(outcome: Result<(), Status>) -> Status
-    ensures { result ≡ status_of outcome }
+fn status_of(ended: Result<(), Fault>) -> Status
+    ensures { result ≡ status_of ended }
 {
-    match outcome {
+    match ended {
         Ok(()) => Status::Ok,
-        Err(status) => status,
+        Err(fault) => fault.status(),
+    }
+}
+
+// Says the line of the fault that ended a call, where one did. A fault of `say` has no place to be told.
+fn say_fault<E: Sink>(say: &mut E, ended: Result<(), Fault>)
+    ensures said { IfErr ended (λ fault. Said (line_of fault)
+        (record { taken = E.taken say.old; flushed = E.flushed say.old; faults = E.faults say.old })
+        (record { taken = E.taken say.new; flushed = E.flushed say.new; faults = E.faults say.new })) }
+    ensures silent { OnOk ended ((E.taken say.new ≡ E.taken say.old) × (E.faults say.new ≡ E.faults say.old)) }
+{
+    if let Err(fault) = ended {
+        let _ = write_all(say, fault.line().as_bytes());
+    }
+}
+
+// Does what the command does that the words are.
+fn carry_out<S: Source, K: Sink>(
+    alloc: Global,
+    words: &[String],
+    source: &mut S,
+    out: &mut K,
+    world: &mut World,
+) -> Result<(), Fault>
+    ensures ran { Ran (Does (command_of (map string_bytes words.now)) world.old world.new) result
+        (S.left source.old) (S.left source.new) (K.taken out.old) (K.taken out.new) }
+    ensures usage { (result ≡ Err Fault.Usage) ↔ (command_of (map string_bytes words.now) ≡ None) }
+    ensures streams { Streams (status_of result)
+        (record { left = S.left source.old; faults = S.faults source.old })
+        (record { left = S.left source.new; faults = S.faults source.new })
+        (record { taken = K.taken out.old; flushed = K.flushed out.old; faults = K.faults out.old })
+        (record { taken = K.taken out.new; flushed = K.flushed out.new; faults = K.faults out.new }) }
+    ensures unread { result ≡ Err Fault.Usage → S.left source.new ≡ S.left source.old }
+{
+    match read_words(words) {
+        Some(Command::Boot) => boot(alloc, source, out, world),
+        None => Err(Fault::Usage),
     }
 }
 
@@ -101,13 +125,15 @@ fn boot<S: Source, K: Sink>(
     source: &mut S,
     out: &mut K,
     world: &mut World,
-) -> Result<(), Status>
-    ensures { BootEnds (status_of result)
+) -> Result<(), Fault>
+    ensures ran { Ran (ReadsAll BootMakes world.old world.new) result
+        (S.left source.old) (S.left source.new) (K.taken out.old) (K.taken out.new) }
+    ensures known { result ≢ Err Fault.Usage }
+    ensures streams { Streams (status_of result)
         (record { left = S.left source.old; faults = S.faults source.old })
         (record { left = S.left source.new; faults = S.faults source.new })
         (record { taken = K.taken out.old; flushed = K.flushed out.old; faults = K.faults out.old })
-        (record { taken = K.taken out.new; flushed = K.flushed out.new; faults = K.faults out.new })
-        world.old world.new }
+        (record { taken = K.taken out.new; flushed = K.flushed out.new; faults = K.faults out.new }) }
 {
     let bytes = read_to_end(alloc, source)?;
     load_machine(alloc, bytes.as_slice(), world)?;
@@ -115,11 +141,9 @@ fn boot<S: Source, K: Sink>(
 }
 
 // Reads a machine's description, and loads its files into the world's memory.
-fn load_machine(alloc: Global, description: &[u8], world: &mut World) -> Result<(), Status>
+fn load_machine(alloc: Global, description: &[u8], world: &mut World) -> Result<(), Fault>
     ensures ok { OnOk result (IsSomeAnd world.new (IsLoaded description.now)) }
-    ensures status { IfErr result (λ status. (status ≡ Status.DescriptionRefused) ⊎ (status ≡ Status.OutOfMemory)) }
-    ensures refused { result ≡ Err Status.DescriptionRefused → (machine : Machine) → Reads description.now machine → ⊥ }
-    ensures kept { IfErr result (λ status. LeavesWorld status world.old world.new) }
+    ensures err { IfErr result (λ fault. BootMakes description.now world.old world.new (Err fault)) }
 {
     let machine = read_machine(alloc, description)?;
     load_image(alloc, &machine, world)?;
@@ -139,11 +163,11 @@ fn load_image(alloc: Global, machine: &Described, world: &mut World) -> Result<(
 }
 
 // Writes the dump of the world's memory, and flushes it.
-fn write_dump<K: Sink>(world: &World, out: &mut K) -> Result<(), Status>
+fn write_dump<K: Sink>(world: &World, out: &mut K) -> Result<(), Fault>
     requires { IsSome world.now }
     ensures dumped { OnOk result (IsSomeAnd world.now (λ w. Took (K.taken out.old) (K.taken out.new) (dump w.memory))) }
     ensures flushed { OnOk result (AllFlushed (K.taken out.new) (K.flushed out.new)) }
-    ensures status { IfErr result (λ status. status ≡ Status.WriteFault) }
+    ensures fault { IfErr result (λ fault. fault ≡ Fault.WriteFault) }
     ensures front { OnErr result (IsSomeAnd world.now (λ w. TookFront (K.taken out.old) (K.taken out.new) (dump w.memory))) }
     ensures unflushed { OnErr result (K.flushed out.new ≡ K.flushed out.old) }
     ensures write_fault { OnErr result (Rose (K.faults out.old) (K.faults out.new)) }
@@ -151,20 +175,20 @@ fn write_dump<K: Sink>(world: &World, out: &mut K) -> Result<(), Status>
 {
     match dump_to(world.memory(), out) {
         Ok(()) => flush(out),
-        Err(Failed) => Err(Status::WriteFault),
+        Err(Failed) => Err(Fault::WriteFault),
     }
 }
 
-fn flush<K: Sink>(out: &mut K) -> Result<(), Status>
+fn flush<K: Sink>(out: &mut K) -> Result<(), Fault>
     ensures taken { K.taken out.new ≡ K.taken out.old }
     ensures unflushed { OnErr result (K.flushed out.new ≡ K.flushed out.old) }
     ensures flushed { OnOk result (AllFlushed (K.taken out.new) (K.flushed out.new)) }
-    ensures status { IfErr result (λ status. status ≡ Status.WriteFault) }
+    ensures fault { IfErr result (λ fault. fault ≡ Fault.WriteFault) }
     ensures write_fault { OnErr result (Rose (K.faults out.old) (K.faults out.new)) }
     ensures sound { OnOk result (K.faults out.new ≡ K.faults out.old) }
 {
     match out.flush() {
         Ok(()) => Ok(()),
-        Err(Failed) => Err(Status::WriteFault),
+        Err(Failed) => Err(Fault::WriteFault),
     }
 }

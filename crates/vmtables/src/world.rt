@@ -1,8 +1,11 @@
-ghost use Rattle.std.specs.Prelude.{◌≡◌, ℕ, List as ListOf, [], None, Some, true, false, IsNone, IsSome, IfSome, IsSomeAnd, OnOk, OnErr};
-ghost use Rattle.guest_memory.specs.Memory.{IsTop};
+ghost use Rattle.std.specs.Prelude.{◌≡◌, ℕ, List as ListOf, None, Some, true, false, IsSome, IfSome, IsSomeAnd, OnOk, OnErr};
+ghost use Rattle.vt_bytes.specs.Memory.{IsTop};
 ghost use Rattle.vmtables.specs.World.{Begun, state_of, IsBegun};
 ghost use Rattle.vmtables.specs.WorldInside.{IsKept};
-ghost use Rattle.vmtables.specs.ScriptRun.{Placed, Runs, IsLeft};
+ghost use Rattle.vt_bytes.specs.Memory.{at};
+ghost use Rattle.loader_script.specs.Run.{Placed};
+ghost use Rattle.loader_script.specs.Left.{IsLeft};
+ghost use Rattle.vmtables.specs.LowRun.{IsLowRun};
 
 use crate::files::FileBytes;
 use crate::loading::run_script;
@@ -48,9 +51,11 @@ impl Load {
     fn run(&mut self)
         requires kept { IsKept self.old }
         requires running { self.old.done ≡ false }
-        requires runs { (after : ListOf Placed) × Runs self.old.memory.top self.old.files self.old.script [] after }
+        requires runs { (places : ListOf ℕ) × (after : ListOf Placed)
+            × IsLowRun self.old.memory.top self.old.files self.old.script places after }
         ensures done { self.new.done ≡ true }
-        ensures left { (after : ListOf Placed) → Runs self.old.memory.top self.old.files self.old.script [] after → IsLeft self.new.memory after }
+        ensures left { (places : ListOf ℕ) (after : ListOf Placed) → IsLowRun self.old.memory.top self.old.files self.old.script places after
+            → IsLeft self.new.memory after (at self.old.memory) }
         ensures files { self.new.files ≡ self.old.files }
         ensures script { self.new.script ≡ self.old.script }
         ensures top { self.new.memory.top ≡ self.old.memory.top }
@@ -106,10 +111,10 @@ impl World {
     /// refused. Each file takes the least free place of its zone. It takes no memory. The load is then done.
     pub fn load(&mut self)
         requires running { IsSomeAnd self.old (λ w. w.done ≡ false) }
-        requires runs { IfSome self.old (λ w. (after : ListOf Placed) × Runs w.memory.top w.files w.script [] after) }
+        requires runs { IfSome self.old (λ w. (places : ListOf ℕ) × (after : ListOf Placed) × IsLowRun w.memory.top w.files w.script places after) }
         ensures done { IsSomeAnd self.new (λ w. w.done ≡ true) }
-        ensures left { IfSome self.old (λ old. IfSome self.new (λ new. (after : ListOf Placed)
-            → Runs old.memory.top old.files old.script [] after → IsLeft new.memory after)) }
+        ensures left { IfSome self.old (λ old. IfSome self.new (λ new. (places : ListOf ℕ) (after : ListOf Placed)
+            → IsLowRun old.memory.top old.files old.script places after → IsLeft new.memory after (at old.memory))) }
         ensures same { IfSome self.old (λ old. IfSome self.new (λ new.
             (new.files ≡ old.files) × (new.script ≡ old.script) × (new.memory.top ≡ old.memory.top) × (new.memory.fill ≡ old.memory.fill))) }
     {

@@ -1,5 +1,5 @@
 -- What holds of each element of a list, by recursion.
-use Rattle.std.proofs.Common.{◌≡◌, ℕ, zero, suc, ◌<◌, List, [], ◌∷◌, ◌++◌, length, take, get_or, arith, subst, sym}
+use Rattle.std.proofs.Common.{◌≡◌, ℕ, zero, suc, ◌<◌, List, [], ◌∷◌, ◌++◌, length, map, take, get_or, arith, subst, sym}
 use Rattle.std.specs.List.{AllByRecursion}
 
 -- a fact of each element from another
@@ -59,3 +59,8 @@ each_turned R xs (y ∷ ys) h =
     let first = each_weaker (λ x. AllByRecursion (R x) (y ∷ ys)) (λ x. R x y) (λ x a. a.0) xs h in
     let rest = each_weaker (λ x. AllByRecursion (R x) (y ∷ ys)) (λ x. AllByRecursion (R x) ys) (λ x a. a.1) xs h in
     (first, each_turned R xs ys rest)
+
+-- what holds of each element's image
+pub each_map : {X Y : Type 0} (P : Y → Type 0) (f : X → Y) → ((x : X) → P (f x)) → (xs : List X) → AllByRecursion P (map f xs)
+each_map P f all [] = tt
+each_map P f all (x ∷ xs) = (all x, each_map P f all xs)

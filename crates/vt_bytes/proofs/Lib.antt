@@ -4,3 +4,7 @@ pub mod Spelt
 pub mod Each
 pub mod Views
 pub mod FirstByte
+pub mod Bytes
+pub mod Seen
+pub mod Ranges
+pub mod Memories

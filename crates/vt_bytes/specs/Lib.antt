@@ -1,3 +1,4 @@
+pub mod Memory
 pub mod Numbers
 pub mod Parts
 pub mod View

@@ -1,11 +1,17 @@
-//! Numbers in bytes, and 8-bit sums.
+//! Numbers in bytes, 8-bit sums, and what a memory is.
 //!
 //! Each call is exact: a number is the sum of its bytes times 256 to the power of their places, from the low byte
 //! or from the high one, and a sum is taken modulo 256. No call takes memory.
+//!
+//! A memory has a top, a fill byte, and a byte at each address of the RAM map. It changes by a function: the memory with these
+//! bytes at that address. The laws say when two memories are equal, and what is where after a change.
 #![tactic(auto)]
 
+pub mod laws;
+mod memory;
 mod number;
 mod sum;
 
+pub use memory::AddressRange;
 pub use number::{get_be, get_le, put_be, put_le};
 pub use sum::byte_sum;

@@ -4,3 +4,5 @@ pub mod Shows
 pub mod Spelled
 pub mod NumberRows
 pub mod InBytes
+pub mod Entries
+pub mod Filled

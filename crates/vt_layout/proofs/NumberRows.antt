@@ -1,7 +1,8 @@
 -- Rows of numbers of one width.
-use Rattle.std.proofs.Common.{◌≡◌, ℕ, ◌+◌, ◌*◌, List, [], ◌∷◌, length, map, arith, refl, ap}
+use Rattle.std.proofs.Common.{◌≡◌, ℕ, suc, ◌+◌, ◌*◌, ◌<◌, ◌^◌, List, [], ◌∷◌, length, map, get_or, inr, arith, refl, ap}
+use Rattle.std.specs.List.{AllByRecursion}
 use Rattle.vt_layout.specs.declared.row.Row.TheVariants.{Number, Pointer}
-use Rattle.vt_layout.specs.Rows.{size, shape, linked}
+use Rattle.vt_layout.specs.Rows.{size, shape, linked, IsRow}
 
 pub size-numbers : (width : ℕ) (values : List ℕ) → size (map (Number width) values) ≡ length values * width
 size-numbers width [] = omega arith
@@ -24,6 +25,17 @@ same_numbers width (value ∷ values) [] same = absurd (cc)
 same_numbers width (value ∷ values) (other ∷ others) same =
     let rest : values ≡ others = same_numbers width values others (cc) in
     cc
+
+-- rows of pointers into one file: each fits any place below 3 GiB
+pub are_pointers : (name offsets : List ℕ) → ((i : ℕ) → get_or offsets i 0 < 2 ^ 32) → AllByRecursion IsRow (map (Pointer 8 name) offsets)
+are_pointers name [] fit = tt
+are_pointers name (offset ∷ offsets) fit =
+    let first = fit 0 in
+    ((inr (inr (inr refl)), omega arith), are_pointers name offsets (λ i. fit (suc i)))
+
+pub size-pointers : (width : ℕ) (name offsets : List ℕ) → size (map (Pointer width name) offsets) ≡ length offsets * width
+size-pointers width name [] = omega arith
+size-pointers width name (offset ∷ offsets) = omega (arith, size-pointers width name offsets)
 
 -- pointers into one file are the numbers of its places
 pub linked-pointers : (place_of : List ℕ → ℕ) (width : ℕ) (name offsets : List ℕ)

@@ -1,5 +1,5 @@
 -- Rows that a view holds as they were written are shown.
-use Rattle.std.proofs.Common.{◌≡◌, ℕ, ◌+◌, List, [], ◌∷◌, Some, arith, refl, ap, subst, ◌∙◌}
+use Rattle.std.proofs.Common.{◌≡◌, ℕ, ◌+◌, List, [], ◌∷◌, ◌++◌, Some, arith, refl, ap, subst, ◌∙◌}
 use Rattle.std.proofs.lemmas.List.{reverse-reverse}
 use Rattle.std.specs.List.{AllByRecursion}
 use Rattle.std.specs.Option.{option_map}
@@ -46,3 +46,29 @@ shown_rows view place_of start address (row ∷ rows) are held =
       shown_row view place_of start address row are.0 held.0,
       subst (λ a. Shown view start a (linked place_of rows)) behind (shown_rows view place_of start (address + width_of row) rows are.1 held.1),
     )
+
+-- the parts of rows that are held
+pub held_front : (view : View) (place_of : List ℕ → ℕ) (start address : ℕ) (rows more : List Row) → Held view place_of start address (rows ++ more)
+    → Held view place_of start address rows
+held_front view place_of start address [] more held = tt
+held_front view place_of start address (row ∷ rows) more held =
+    (held.0, held_front view place_of start (address + width_of row) rows more held.1)
+
+pub held_back : (view : View) (place_of : List ℕ → ℕ) (start address : ℕ) (rows more : List Row) → Held view place_of start address (rows ++ more)
+    → Held view place_of start (address + size rows) more
+held_back view place_of start address [] more held =
+    let place : address ≡ address + 0 = omega arith in
+    subst (λ a. Held view place_of start a more) place held
+held_back view place_of start address (row ∷ rows) more held =
+    let place : address + width_of row + size rows ≡ address + (width_of row + size rows) = omega arith in
+    subst (λ a. Held view place_of start a more) place (held_back view place_of start (address + width_of row) rows more held.1)
+
+-- the first of rows that are shown
+pub shown_front : (view : View) (start address : ℕ) (rows more : List Row) → Shown view start address (rows ++ more) → Shown view start address rows
+shown_front view start address [] more shown = tt
+shown_front view start address (row ∷ rows) more shown = (shown.0, shown_front view start (address + width_of row) rows more shown.1)
+
+-- linked rows, one after the other
+pub linked-append : (place_of : List ℕ → ℕ) (rows more : List Row) → linked place_of (rows ++ more) ≡ linked place_of rows ++ linked place_of more
+linked-append place_of [] more = refl
+linked-append place_of (row ∷ rows) more = ap (λ others. linked_row place_of row ∷ others) (linked-append place_of rows more)

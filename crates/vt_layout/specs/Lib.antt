@@ -1,5 +1,7 @@
 pub mod Rows
 pub mod Shown
+pub mod Entries
+pub mod Filled
 pub mod Reading
 pub mod PointerSize
 pub use Rattle.vt_outside.specs.Name

@@ -1,3 +1,5 @@
 pub mod Stream
 pub mod Name
 pub mod MemoryStream
+pub mod StdStream
+pub mod Placement

@@ -1,9 +1,5 @@
 -- Sources and sinks in memory, as a caller sees them.
-use Rattle.std.specs.Prelude.{ℕ, ◌+◌, ◌-◌, ◌^◌, min, List}
-
--- the next value of a count that is kept in a u64
-abbrev pub next_count : ℕ → ℕ
-next_count count = min (count + 1) (2 ^ 64 - 1)
+use Rattle.std.specs.Prelude.{ℕ, List}
 
 -- A source in memory: the bytes that are left, how many a call gives at most, the calls that fail, how many
 -- calls there were, and how many failed.

@@ -1,5 +1,6 @@
 //! What stands between the project and the outside: where bytes come from and go to, want of memory,
-//! and the small types that contracts see as lists.
+//! and the small types that contracts see as lists. The zones of memory, and what a lawful placement is, are defined here too,
+//! below all that places files.
 #![tactic(auto)]
 
 mod bytes;

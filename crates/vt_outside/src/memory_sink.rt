@@ -1,6 +1,5 @@
 ghost use Rattle.std.specs.Prelude.{◌≡◌, ◌≢◌, ◌<◌, ◌≤◌, ◌+◌, ◌-◌, ◌↔◌, ◌⊎◌, [], ◌++◌, length, take, min, Some, None, IsErr, IsOk, IfOk, IfSome, OnErr, OnOk, Contains};
-ghost use Rattle.vt_outside.specs.Stream.{Rose, behind};
-ghost use Rattle.vt_outside.specs.MemoryStream.{next_count};
+ghost use Rattle.vt_outside.specs.Stream.{Rose, next_count, behind};
 
 use crate::fault::{Failed, OutOfMemory};
 use crate::list::List;

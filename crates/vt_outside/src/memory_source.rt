@@ -1,6 +1,5 @@
 ghost use Rattle.std.specs.Prelude.{◌≡◌, ◌≢◌, ◌<◌, ◌≤◌, ◌↔◌, [], ◌++◌, length, take, drop, min, Some, IsErr, IsOk, IfOk, IfSome, OnErr, Contains, IsTrue};
-ghost use Rattle.vt_outside.specs.Stream.{Rose, in_front};
-ghost use Rattle.vt_outside.specs.MemoryStream.{next_count};
+ghost use Rattle.vt_outside.specs.Stream.{Rose, next_count, in_front};
 
 use crate::bytes::Bytes;
 use crate::fault::Failed;
@@ -64,11 +63,13 @@ impl Source for ListSource {
         // The call fails exactly where its number is listed.
         ensures fails { IsErr result ↔ Contains self.old.fails self.old.calls }
         ensures failed { OnErr result (self.new ≡ record self.old { calls = next_count self.old.calls; faults = next_count self.old.faults }) }
+        ensures untouched { OnErr result (into.new ≡ into.old) }
 
         // Else it gives as many bytes as a piece, `into` and what is left allow.
         ensures given { IfOk result (λ n. self.old.left ≡ take n into.new ++ self.new.left) }
         ensures count { IfOk result (λ n. n ≡ min (min self.old.piece (length into.old)) (length self.old.left)) }
         ensures ok { IfOk result (λ n. self.new ≡ record self.old { left = drop n self.old.left; calls = next_count self.old.calls }) }
+        ensures behind { IfOk result (λ n. drop n into.new ≡ drop n into.old) }
         ensures end { IfOk result (λ n. n ≡ 0 → self.old.left ≡ []) }
         ensures never_falls { self.old.faults ≤ self.new.faults }
     {
@@ -130,6 +131,7 @@ impl Source for SureSource {
         ensures given { IfOk result (λ n. self.old ≡ take n into.new ++ self.new) }
         ensures count { IfOk result (λ n. n ≡ min (length into.old) (length self.old)) }
         ensures fits { IfOk result (λ n. n ≤ length into.new) }
+        ensures behind { IfOk result (λ n. drop n into.new ≡ drop n into.old) }
     {
         let rest = &self.bytes.as_slice()[self.given..];
         let count = into.len().min(rest.len());

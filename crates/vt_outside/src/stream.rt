@@ -1,4 +1,4 @@
-ghost use Rattle.std.specs.Prelude.{◌≡◌, ℕ, ◌<◌, ◌≤◌, ◌↔◌, List, [], length, take, Option, IfOk, IfSome, OnOk, OnErr};
+ghost use Rattle.std.specs.Prelude.{◌≡◌, ℕ, ◌<◌, ◌≤◌, List, [], length, take, Option, IfOk, IfSome, OnOk, OnErr};
 ghost use Rattle.vt_outside.specs.Stream.{Rose, in_front, behind};
 
 use crate::fault::Failed;

@@ -1,8 +1,9 @@
-use Rattle.std.proofs.Common.{◌≡◌, ◌+◌, ◌++◌, ap, subst, sym, rules, ◌∙◌}
+use Rattle.std.proofs.Common.{◌≡◌, ◌+◌, ◌++◌, ap, subst, sym, ◌∙◌}
 use Rattle.std.proofs.lemmas.Result.{on_ok_weaker}
 use Rattle.vt_layout.specs.Rows.{size}
 use Rattle.table_model.specs.Header.{header_rows}
 use Rattle.blob_holes.specs.Rows.{AreRows}
+use Rattle.blob_holes.specs.Appended.{IsAppended}
 use Rattle.acpi_fixed.proofs.Tables.{sixteen, each_table_row, are_table_rows}
 use Rattle.acpi_fixed.proofs.table.append_table.Goals as goal
 
@@ -25,8 +26,9 @@ returns-clause-rows c =
     each_table_row c.args.signature.now c.args.head.now c.args.body.now c.header_rows.result c.header_rows.ensures.rows c.size_of-total.ensures
     c.header_rows.ensures.fit c.requires.body
 
-pub returns-clause-held : goal.returns-clause-held
-returns-clause-held c =
-    on_ok_weaker c.append_layout.result (λ held later view address place_of grown holds.
-    let stands = held later view address place_of grown holds in
-    search (rules, stands)) c.append_layout.ensures.held
+pub returns-clause-appended : goal.returns-clause-appended
+returns-clause-appended c =
+    on_ok_weaker c.append_layout.result (λ appended.
+    subst (λ header. IsAppended 16 c.args.blob.now c.append_layout.new.blob (header ++ c.args.body.now))
+    (c.header_rows.ensures.rows ∙ ap (λ n. header_rows c.args.signature.now (36 + n) c.args.head.now) c.size_of-total.ensures) appended)
+    c.append_layout.ensures.appended

@@ -3,7 +3,7 @@ use Rattle.std.specs.Str.{bytes_eq}
 use Rattle.std.proofs.lemmas.Iterator.{YieldsList-from_slice}
 use Rattle.std.proofs.lemmas.Iterator.Search.{find_from_yields_List}
 use Rattle.vmtables.specs.declared.placing.PlacedFile.{PlacedFile}
-use Rattle.vmtables.proofs.Named.{IsSome-before_map}
+use Rattle.loader_script.proofs.Named.{IsSome-before_map}
 use Rattle.vmtables.proofs.loading.placed_of.Goals as goal
 
 pub unwrap-requires : goal.unwrap-requires

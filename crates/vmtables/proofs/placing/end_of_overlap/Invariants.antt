@@ -1,6 +1,6 @@
 use Rattle.std.proofs.Common.{◌+◌, map, take}
 use Rattle.std.specs.List.{AllByRecursion}
-use Rattle.vmtables.specs.Places.{Apart}
+use Rattle.vt_outside.specs.Placement.{Apart}
 use Rattle.vmtables.specs.FilesInMemory.{placed_range}
 use Rattle.vmtables.proofs.placing.end_of_overlap.Given as goal
 

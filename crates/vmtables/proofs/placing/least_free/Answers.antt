@@ -8,11 +8,11 @@ loop-end-init c =
     let next = c.next_multiple_of-place.ensures in
     record {
       aligned = (c.next_multiple_of-place.result / c.args.align, multiple_of _ _ next.multiple);
-      from = next.lower_bound;
+      from = omega (arith, next.lower_bound, c.start_of.ensures);
       least = λ other free. omega (
         arith,
-        next_is_least c.args.zone.start c.args.align c.next_multiple_of-place.result free.aligned.0 next.multiple
-            next.upper_bound (omega (arith, free.aligned.1, free.from)),
+        next_is_least c.start_of.result c.args.align c.next_multiple_of-place.result free.aligned.0 next.multiple
+            next.upper_bound (omega (arith, free.aligned.1, free.from, c.start_of.ensures)),
         free.aligned.1,
       );
     }

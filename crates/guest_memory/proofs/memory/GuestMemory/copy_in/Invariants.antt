@@ -1,0 +1,12 @@
+use Rattle.std.proofs.Common.{◌≡◌, ◌-◌, ◌≤◌, length, take}
+use Rattle.vt_bytes.specs.Memory.{with_bytes}
+use Rattle.guest_memory.proofs.memory.GuestMemory.copy_in.Given as goal
+
+abbrev pub invariant-loop-done : goal.invariant-loop-done
+invariant-loop-done l = record {
+  within : l.done ≤ length l.bytes;
+  so_far : l.self ≡ with_bytes l.fn.self l.address (take l.done l.bytes);
+}
+
+abbrev pub decreases-loop-done : goal.decreases-loop-done
+decreases-loop-done l = length l.bytes - l.done

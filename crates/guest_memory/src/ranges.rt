@@ -1,0 +1,117 @@
+ghost use Rattle.std.specs.Prelude.{◌≡◌, ◌+◌, ◌%◌, ◌<◌, ◌≤◌, length, take};
+ghost use Rattle.vt_bytes.specs.Numbers.{byte_sum, le};
+ghost use Rattle.vt_bytes.specs.Memory.{IsRam, IsRamRange, IsMemory, bytes_at, with_bytes};
+
+use crate::memory::{FRAME_BYTES, GuestMemory};
+use vt_bytes::{byte_sum, get_le};
+
+impl GuestMemory {
+    /// Writes `bytes` at the guest address `address`. Each of those addresses must be RAM, and each other byte stays. Where
+    /// `bytes` is empty, `address` may be any number and nothing changes.
+    pub fn copy_in(&mut self, address: u64, bytes: &[u8])
+        requires { IsRamRange self.old.top address (length bytes.now) }
+        ensures after { self.new ≡ with_bytes self.old address bytes.now }
+        ensures lawful { IsMemory self.old }
+    {
+        // That a memory is lawful is said by its top's call.
+        let _top = self.top();
+        let mut done = 0;
+        while done < bytes.len() {
+            done += self.put_in_frame(address + done as u64, &bytes[done..]);
+        }
+    }
+
+    /// Returns the sum, modulo 256, of the `len` bytes from the guest address `address` on. Each of those addresses must be
+    /// RAM.
+    pub fn sum_range(&self, address: u64, len: u32) -> u8
+        requires { IsRamRange self.now.top address len }
+        ensures { result ≡ byte_sum (bytes_at self.now address len) }
+    {
+        // That a memory is lawful is said by its top's call.
+        let _top = self.top();
+        let len = len as usize;
+        let mut sum = 0u8;
+        let mut done = 0;
+        while done < len {
+            let part = self.part_in_frame(address + done as u64, len - done);
+            sum = sum.wrapping_add(byte_sum(part));
+            done += part.len();
+        }
+        sum
+    }
+
+    // The little-endian number of `size` bytes at an address.
+    pub(crate) fn number_at(&self, address: u64, size: u8) -> u64
+        requires some { 1 ≤ size }
+        requires size { size ≤ 8 }
+        requires ram { IsRamRange self.now.top address size }
+        ensures { result ≡ le (bytes_at self.now address size) }
+    {
+        let size = usize::from(size);
+        let mut bytes = [0; 8];
+        self.copy_out(address, &mut bytes[..size]);
+        get_le(&bytes, 0, size)
+    }
+
+    // Reads as many bytes as `bytes` has.
+    fn copy_out(&self, address: u64, bytes: &mut [u8])
+        requires { IsRamRange self.now.top address (length bytes.old) }
+        ensures { bytes.new ≡ bytes_at self.now address (length bytes.old) }
+    {
+        // That a memory is lawful is said by its top's call.
+        let _top = self.top();
+        let mut done = 0;
+        while done < bytes.len() {
+            done += self.get_from_frame(address + done as u64, &mut bytes[done..]);
+        }
+    }
+
+    // Writes as many of `bytes` as the frame of an address has room for, and returns how many.
+    fn put_in_frame(&mut self, address: u64, bytes: &[u8]) -> usize
+        requires some { 0 < length bytes.now }
+        requires ram { IsRam self.old.top address }
+        ensures after { self.new ≡ with_bytes self.old address (take result bytes.now) }
+        ensures some { 0 < result }
+        ensures within { result ≤ length bytes.now }
+    {
+        let len = len_in_frame(address, bytes.len());
+        self.window_mut(address, len as u32)
+            .copy_from_slice(&bytes[..len]);
+        len
+    }
+
+    // Reads as many bytes as `bytes` has and the frame of an address, and returns how many.
+    fn get_from_frame(&self, address: u64, bytes: &mut [u8]) -> usize
+        requires some { 0 < length bytes.old }
+        requires ram { IsRam self.now.top address }
+        ensures front { take result bytes.new ≡ bytes_at self.now address result }
+        ensures some { 0 < result }
+        ensures within { result ≤ length bytes.old }
+    {
+        let part = self.part_in_frame(address, bytes.len());
+        bytes[..part.len()].copy_from_slice(part);
+        part.len()
+    }
+
+    // Lends as many of so many bytes from an address on as lie in its frame.
+    fn part_in_frame(&self, address: u64, len: usize) -> &[u8]
+        requires some { 0 < len }
+        requires ram { IsRam self.now.top address }
+        ensures value { result.now ≡ bytes_at self.now address (length result.now) }
+        ensures some { 0 < length result.now }
+        ensures within { length result.now ≤ len }
+    {
+        self.window(address, len_in_frame(address, len) as u32)
+    }
+}
+
+// How many of so many bytes from an address on lie in its frame.
+fn len_in_frame(address: u64, len: usize) -> usize
+    requires { 0 < len }
+    ensures some { 0 < result }
+    ensures within { result ≤ len }
+    ensures frame { address % 4096 + result ≤ 4096 }
+{
+    let room = (FRAME_BYTES - address % FRAME_BYTES) as usize;
+    if len < room { len } else { room }
+}

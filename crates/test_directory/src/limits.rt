@@ -1,0 +1,165 @@
+//! Containers of as many bytes as the files of a device may have, 67,108,864, in one file and in as many as there may be, 1,024. What
+//! they are as bytes was made by hand from QEMU, docs/specs/fw_cfg.
+
+ghost use Rattle.std.specs.Prelude.{◌≡◌, ◌<◌, ◌≤◌, ◌+◌, ◌*◌, length, IfOk, OnOk};
+ghost use Rattle.test_directory.specs.Filled.{HasFiles};
+
+use cfg_directory::{Items, directory_bytes, read_image, write_image};
+use std::alloc::Global;
+use std::process::Abort;
+use std::test::Fail;
+use vt_outside::{Bytes, Name, OutOfMemory};
+
+// How many bytes the files are made of, a chunk after the other.
+const CHUNK: usize = 65_536;
+
+#[test]
+fn the_largest_container_of_one_file(rt: HostRuntime) -> Result<(), Fail> {
+    is_read_and_written(&rt, rt.alloc(), 1, 1024)
+}
+
+#[test]
+fn the_largest_container_of_1024_files(rt: HostRuntime) -> Result<(), Fail> {
+    is_read_and_written(&rt, rt.alloc(), 1024, 1)
+}
+
+// So many files of so many chunks each are read from their container, and written as it.
+fn is_read_and_written(rt: &impl Abort, alloc: Global, count: u16, chunks: u16) -> Result<(), Fail>
+    requires count { count ≤ 1024 }
+    requires chunks { chunks ≤ 1024 }
+{
+    let image = image(alloc, count, chunks)?;
+    let items = read_image(alloc, image.as_slice())?;
+    assert_eq!(rt; items.all().len(), usize::from(count));
+    are_written(rt, alloc, &items, image.as_slice())?;
+    Ok(())
+}
+
+// The files are written as this container, which begins with their directory.
+fn are_written(
+    rt: &impl Abort,
+    alloc: Global,
+    items: &Items,
+    image: &[u8],
+) -> Result<(), OutOfMemory> {
+    let directory = directory_bytes(alloc, items)?;
+    assert_eq!(rt; directory.len(), 4 + 64 * items.all().len());
+    assert!(rt; image.starts_with(directory.as_slice()));
+    let written = write_image(alloc, items)?;
+    assert!(rt; written.as_slice() == image);
+    Ok(())
+}
+
+#[test]
+fn the_largest_file_is_added(rt: HostRuntime) -> Result<(), Fail> {
+    let (image, items) = (image(rt.alloc(), 1, 1024)?, device(rt.alloc(), 1, 1024)?);
+    are_written(&rt, rt.alloc(), &items, image.as_slice())?;
+    Ok(())
+}
+
+#[test]
+fn files_are_added_up_to_1024(rt: HostRuntime) -> Result<(), Fail> {
+    let (image, items) = (image(rt.alloc(), 1024, 1)?, device(rt.alloc(), 1024, 1)?);
+    are_written(&rt, rt.alloc(), &items, image.as_slice())?;
+    Ok(())
+}
+
+// A device of so many files of so many chunks each.
+fn device(alloc: Global, count: u16, chunks: u16) -> Result<Items, Fail>
+    requires few { count ≤ 1024 }
+    requires small { count * (chunks * 65536) ≤ 67108864 }
+{
+    let mut items = Items::new(alloc);
+    for number in 0..count {
+        add_file(alloc, &mut items, number, chunks)?;
+    }
+    Ok(items)
+}
+
+// Adds the file of a number, unless its name is another's.
+#[tactic(auto, using(crate::proofs::Filled::none_named))]
+fn add_file(alloc: Global, items: &mut Items, number: u16, chunks: u16) -> Result<(), Fail>
+    requires few { number < 1024 }
+    requires small { number * (chunks * 65536) + chunks * 65536 ≤ 67108864 }
+    requires files { HasFiles items.old number (chunks * 65536) }
+    ensures { OnOk result (HasFiles items.new (number + 1) (chunks * 65536)) }
+{
+    let contents = contents(alloc, number, chunks)?;
+    let name = Name::read(&field_of(number))?;
+    if items.find(&name).is_some() {
+        return Err(Fail::from("a name that is another's"));
+    }
+    items.add(name, false, contents)?;
+    Ok(())
+}
+
+// The container: the number of files, an entry for each, a flag for each that says that it is only read, and what they hold.
+fn image(alloc: Global, count: u16, chunks: u16) -> Result<Bytes, OutOfMemory>
+    requires count { count ≤ 1024 }
+    requires chunks { chunks ≤ 1024 }
+{
+    let mut image = Bytes::new(alloc);
+    image.extend(&u32::from(count).to_be_bytes())?;
+    for number in 0..count {
+        image.extend(&entry_of(number, chunks))?;
+    }
+    for _ in 0..count {
+        image.push(0)?;
+    }
+    put_all_contents(&mut image, count, chunks)?;
+    Ok(image)
+}
+
+fn put_all_contents(image: &mut Bytes, count: u16, chunks: u16) -> Result<(), OutOfMemory> {
+    for number in 0..count {
+        put_contents(image, number, chunks)?;
+    }
+    Ok(())
+}
+
+// The entry of a file: its size, its selector, and its name.
+fn entry_of(number: u16, chunks: u16) -> [u8; 64]
+    requires number { number < 1024 }
+    requires chunks { chunks ≤ 1024 }
+{
+    let mut entry = [0; 64];
+    entry[..4].copy_from_slice(&(u32::from(chunks) * 65_536).to_be_bytes());
+    entry[4..6].copy_from_slice(&(0x20 + number).to_be_bytes());
+    entry[8..].copy_from_slice(&field_of(number));
+    entry
+}
+
+// The name of a file in its field: its number in four digits.
+fn field_of(number: u16) -> [u8; 56] {
+    let mut field = [0; 56];
+    field[0] = digit(number / 1000);
+    field[1] = digit(number / 100);
+    field[2] = digit(number / 10);
+    field[3] = digit(number);
+    field
+}
+
+// The last digit of a number.
+fn digit(number: u16) -> u8 {
+    b'0' + (number % 10) as u8
+}
+
+// What a file holds.
+fn contents(alloc: Global, number: u16, chunks: u16) -> Result<Bytes, OutOfMemory>
+    ensures { IfOk result (λ bytes. length bytes ≡ chunks * 65536) }
+{
+    let mut contents = Bytes::new(alloc);
+    put_contents(&mut contents, number, chunks)?;
+    Ok(contents)
+}
+
+// Each chunk is one byte again and again, which tells it from those beside it.
+fn put_contents(bytes: &mut Bytes, number: u16, chunks: u16) -> Result<(), OutOfMemory>
+    ensures { OnOk result (length bytes.new ≡ length bytes.old + chunks * 65536) }
+{
+    for chunk in 0..chunks {
+        let byte = (number.wrapping_add(chunk) % 251) as u8;
+        bytes.extend(&[byte; CHUNK])?;
+    }
+    Ok(())
+}

@@ -1,0 +1,161 @@
+//! A machine whose six texts have as many bytes as one may have, 64 each: its inventory and its structures. What is expected was made
+//! by hand from DSP0134, 6.1 and 7.2.
+
+ghost use Rattle.std.specs.Prelude.{◌<◌, ◌≤◌, ◌+◌, length, IfOk, OnOk};
+ghost use Rattle.table_model.specs.Strings.{HasNoNul};
+ghost use Rattle.smbios_build.specs.Buildable.{AreBuildable};
+
+use fixtures::{Sketch, SystemTexts, machine_of};
+use machine_desc::Machine;
+use smbios_build::laws::accepted_structures_are_buildable;
+use smbios_build::{StringSet, build_smbios};
+use std::alloc::Global;
+use std::process::Abort;
+use std::test::Fail;
+use table_model::{Body, Inventory, Structure, SystemInfo, inventory_of, structures_of};
+use vt_outside::{Bytes, List, OutOfMemory, Text};
+
+const LONGEST: Sketch = Sketch {
+    top_mib: 64,
+    texts: SystemTexts {
+        manufacturer: "AAAAAAAAAAAAAAAAAAAAAAAAAAAAAAAAAAAAAAAAAAAAAAAAAAAAAAAAAAAAAAAA",
+        product: "BBBBBBBBBBBBBBBBBBBBBBBBBBBBBBBBBBBBBBBBBBBBBBBBBBBBBBBBBBBBBBBB",
+        version: "CCCCCCCCCCCCCCCCCCCCCCCCCCCCCCCCCCCCCCCCCCCCCCCCCCCCCCCCCCCCCCCC",
+        serial: "DDDDDDDDDDDDDDDDDDDDDDDDDDDDDDDDDDDDDDDDDDDDDDDDDDDDDDDDDDDDDDDD",
+        sku: "EEEEEEEEEEEEEEEEEEEEEEEEEEEEEEEEEEEEEEEEEEEEEEEEEEEEEEEEEEEEEEEE",
+        family: "FFFFFFFFFFFFFFFFFFFFFFFFFFFFFFFFFFFFFFFFFFFFFFFFFFFFFFFFFFFFFFFF",
+    },
+    uuid: None,
+    acpi: None,
+    hpet: None,
+};
+
+// The formatted area of System Information, in which the texts have the numbers 1 to 6.
+const FORMATTED: &[u8] =
+    b"\x01\x1b\x00\x01\x01\x02\x03\x04\0\0\0\0\0\0\0\0\0\0\0\0\0\0\0\0\x06\x05\x06";
+
+// The end of the strings, and the structure that is the end.
+const END: &[u8] = b"\0\x7f\x04\x00\x7f\0\0";
+
+#[test]
+fn the_inventory_of_the_longest_texts(rt: HostRuntime) -> Result<(), Fail> {
+    let inventory = inventory(rt.alloc())?;
+    match &inventory.smbios {
+        Some(smbios) => are_first(&rt, smbios.structures.as_slice()),
+        None => panic!(rt; "no SMBIOS table"),
+    }
+    Ok(())
+}
+
+fn inventory(alloc: Global) -> Result<Inventory, Fail> {
+    let machine = machine_of(alloc, &LONGEST)?;
+    inventory_of_lawful(alloc, &machine)
+}
+
+fn inventory_of_lawful(alloc: Global, machine: &Machine) -> Result<Inventory, Fail> {
+    if machine.check().is_err() {
+        return Err(Fail::from("a lawful machine"));
+    }
+    Ok(inventory_of(alloc, machine)?)
+}
+
+// The texts are those of the first structure.
+fn are_first(rt: &impl Abort, structures: &[Structure]) {
+    match structures.first().map(|structure| &structure.body) {
+        Some(Body::System(info)) => are_the_texts(rt, info),
+        _ => panic!(rt; "another structure before the system"),
+    }
+}
+
+fn are_the_texts(rt: &impl Abort, info: &SystemInfo) {
+    is_text(rt, &info.manufacturer, b'A');
+    is_text(rt, &info.product, b'B');
+    is_text(rt, &info.version, b'C');
+    is_text(rt, &info.serial, b'D');
+    is_text(rt, &info.sku, b'E');
+    is_text(rt, &info.family, b'F');
+}
+
+fn is_text(rt: &impl Abort, text: &Text, byte: u8) {
+    assert_eq!(rt; text.as_slice(), [byte; 64].as_slice());
+}
+
+#[test]
+fn the_structures_of_the_longest_texts(rt: HostRuntime) -> Result<(), Fail> {
+    let wanted = wanted(rt.alloc())?;
+    let structures = structures(rt.alloc())?;
+    are_built(&rt, rt.alloc(), structures.as_slice(), wanted.as_slice());
+    Ok(())
+}
+
+fn are_built(rt: &impl Abort, alloc: Global, structures: &[Structure], wanted: &[u8])
+    requires { AreBuildable structures.now }
+{
+    match build_smbios(alloc, structures) {
+        Ok(bytes) => assert_eq!(rt; bytes.as_slice(), wanted),
+        Err(_) => panic!(rt; "structures that aren't built"),
+    }
+}
+
+fn structures(alloc: Global) -> Result<List<Structure>, Fail>
+    ensures { IfOk result (λ structures. AreBuildable structures) }
+{
+    let machine = machine_of(alloc, &LONGEST)?;
+    structures_of_lawful(alloc, &machine)
+}
+
+fn structures_of_lawful(alloc: Global, machine: &Machine) -> Result<List<Structure>, Fail>
+    ensures { IfOk result (λ structures. AreBuildable structures) }
+{
+    if machine.check().is_err() {
+        return Err(Fail::from("a lawful machine"));
+    }
+    accepted_structures_are_buildable();
+    Ok(structures_of(alloc, &machine.system)?)
+}
+
+// The formatted area, each text with its NUL, and the end.
+fn wanted(alloc: Global) -> Result<Bytes, OutOfMemory> {
+    let mut bytes = Bytes::new(alloc);
+    bytes.extend(FORMATTED)?;
+    for byte in b'A'..=b'F' {
+        bytes.extend(&[byte; 64])?;
+        bytes.push(0)?;
+    }
+    bytes.extend(END)?;
+    Ok(bytes)
+}
+
+// A structure has at most 255 strings, since a string's number is a byte.
+#[test]
+fn the_most_strings(rt: HostRuntime) -> Result<(), Fail> {
+    let last = last_number(rt.alloc())?;
+    assert_eq!(rt; last, 255);
+    Ok(())
+}
+
+fn last_number(alloc: Global) -> Result<u8, OutOfMemory> {
+    let text = longest_text(alloc)?;
+    let mut strings = StringSet::new(alloc);
+    let mut last = 0;
+    for _place in 0..255_usize {
+        last = add(&mut strings, &text)?;
+    }
+    Ok(last)
+}
+
+fn add(strings: &mut StringSet, text: &Text) -> Result<u8, OutOfMemory>
+    requires few { length strings.old < 255 }
+    requires no_nul { HasNoNul text.now }
+    ensures { OnOk result (length strings.new ≤ length strings.old + 1) }
+{
+    strings.add(text)
+}
+
+fn longest_text(alloc: Global) -> Result<Text, OutOfMemory>
+    ensures { IfOk result HasNoNul }
+{
+    let mut text = Text::new(alloc);
+    text.extend(&[b'A'; 64])?;
+    Ok(text)
+}

@@ -1,0 +1,101 @@
+-- How a call ends without a command, with an input that was cut off, without a text, and with one.
+use Rattle.std.proofs.Common.{◌≡◌, ◌<◌, ◌↔◌, ℕ, List, [], Option, Some, None, Result, Ok, Err, IfSome, IsSomeAnd, IfErr, OnOk, OnErr, refl, subst}
+use Rattle.std.specs.Result.{IsErrAnd}
+use Rattle.vt_outside.specs.Stream.{Rose, in_front}
+use Rattle.vmtables.specs.Boot.{IsLoaded, BootMakes}
+use Rattle.vmtables.specs.Calls.{SourceSeen, SinkSeen, Unread, Whole, Cut, Made, ReadsAll, Ran, Streams}
+use Rattle.vmtables.specs.Causes.{IsOfInput}
+use Rattle.vmtables.specs.Does.{Does}
+use Rattle.vmtables.specs.Dump.{dump}
+use Rattle.vmtables.specs.Outcome.{input_limit, given_count, status_of}
+use Rattle.vmtables.specs.Output.{Took, TookFront, AllFlushed}
+use Rattle.vmtables.specs.World.{Begun}
+use Rattle.vmtables.specs.declared.command.Command.{Command}
+use Rattle.vmtables.specs.declared.fault.Fault.{Fault}
+use Rattle.vmtables.specs.declared.fault.Fault.TheVariants as fault
+use Rattle.vmtables.specs.declared.input.InputFault.{InputFault}
+use Rattle.vmtables.specs.declared.input.InputFault.TheVariants as input
+use Rattle.vmtables.specs.declared.status.Status.{Status}
+use Rattle.vmtables.specs.declared.status.Status.TheVariants as status
+
+-- the answer of a reading that came to the end
+abbrev pub was_read : List ℕ → Result (List ℕ) InputFault
+was_read bytes = Ok bytes
+
+-- no more bytes were given than an input may have
+not_too_long : (had : Option (List ℕ)) (ended : Status) (bytes : List ℕ) (count : ℕ) → (ended ≡ status.InputTooLong → ⊥)
+    → IfSome had (λ _. (was_read bytes ≡ Err input.TooLong) ↔ (input_limit < count)) → IfSome had (λ _. (ended ≡ status.InputTooLong) ↔ (input_limit < count))
+not_too_long None ended bytes count other read = tt
+not_too_long (Some all) ended bytes count other read = (λ is. absurd (other is), λ long. let never = read.1 long in cc)
+
+-- words that are no command
+pub usage_ran : (command : Option Command) (world : Option Begun) (left taken : Option (List ℕ)) → command ≡ None
+    → Ran (Does command world world) (Err fault.Usage) left left taken taken
+usage_ran command world left taken none =
+    rw none (record { input = Unread; made = Err fault.Usage; did = refl; read = refl; wrote = (refl, refl) })
+
+-- A command that reads its whole input ends with the fault of the reading.
+pub cut_off : (Makes : List ℕ → Option Begun → Option Begun → Made → Type 0) (f : InputFault) (r : Result (Unit {0}) Fault) (world : Option Begun)
+    (left left_after taken : Option (List ℕ)) → IsErrAnd r (IsOfInput f) → Ran (ReadsAll Makes world world) r left left_after taken taken
+cut_off Makes f (Ok done) world left left_after taken is = absurd is
+cut_off Makes input.Failed (Err ended) world left left_after taken is =
+    rw is (record { input = Cut; made = Err fault.ReadFault; did = refl; read = tt; wrote = (refl, refl) })
+cut_off Makes input.TooLong (Err ended) world left left_after taken is =
+    rw is (record { input = Cut; made = Err fault.InputTooLong; did = refl; read = tt; wrote = (refl, refl) })
+cut_off Makes input.OutOfMemory (Err ended) world left left_after taken is =
+    rw is (record { input = Cut; made = Err fault.OutOfMemory; did = refl; read = tt; wrote = (refl, refl) })
+
+-- A command that reads its whole input, and makes no text of it.
+pub refused : (Makes : List ℕ → Option Begun → Option Begun → Made → Type 0) (bytes lent : List ℕ) (f : Fault) (r : Result (Unit {0}) Fault)
+    (before after : Option Begun) (left left_after taken : Option (List ℕ))
+    → left ≡ in_front bytes left_after → IfSome left_after (λ rest. rest ≡ []) → lent ≡ bytes → Makes lent before after (Err f)
+    → IsErrAnd r (λ ended. ended ≡ f)
+    → Ran (ReadsAll Makes before after) r left left_after taken taken
+refused Makes bytes lent f (Ok done) before after left left_after taken given end same made is = absurd is
+refused Makes bytes lent f (Err ended) before after left left_after taken given end same made is =
+    let did : Makes bytes before after (Err f) = subst (λ b. Makes b before after (Err f)) same made in
+    record { input = Whole bytes; made = Err f; did = did; read = (given, end); wrote = (is, refl) }
+
+-- A boot that loaded its machine, and wrote the dump or a part of it.
+pub boot_wrote : (r : Result (Unit {0}) Fault) (bytes : List ℕ) (before after : Option Begun) (left left_after taken taken_after : Option (List ℕ))
+    → left ≡ in_front bytes left_after → IfSome left_after (λ rest. rest ≡ []) → IsSomeAnd after (IsLoaded bytes)
+    → OnOk r (IsSomeAnd after (λ w. Took taken taken_after (dump w.memory)))
+    → IfErr r (λ f. f ≡ fault.WriteFault)
+    → OnErr r (IsSomeAnd after (λ w. TookFront taken taken_after (dump w.memory)))
+    → Ran (ReadsAll BootMakes before after) r left left_after taken taken_after
+boot_wrote r bytes before None left left_after taken taken_after given end loaded dumped failed front = absurd loaded
+boot_wrote (Ok done) bytes before (Some w) left left_after taken taken_after given end loaded dumped failed front =
+    record { input = Whole bytes; made = Ok (dump w.memory); did = (loaded, refl); read = (given, end); wrote = dumped }
+boot_wrote (Err f) bytes before (Some w) left left_after taken taken_after given end loaded dumped failed front =
+    record { input = Whole bytes; made = Ok (dump w.memory); did = (loaded, refl); read = (given, end); wrote = (failed, front) }
+
+-- The streams of a command that read its whole input, made a text of it, and wrote that or a part of it.
+pub wrote_streams : (r : Result (Unit {0}) Fault) (bytes : List ℕ) (source source_after : SourceSeen) (out out_after : SinkSeen)
+    → source_after.faults ≡ source.faults
+    → IfSome source.left (λ _. (was_read bytes ≡ Err input.TooLong) ↔ (input_limit < given_count source.left source_after.left))
+    → OnOk r (AllFlushed out_after.taken out_after.flushed)
+    → IfErr r (λ f. f ≡ fault.WriteFault)
+    → OnErr r (out_after.flushed ≡ out.flushed)
+    → OnErr r (Rose out.faults out_after.faults)
+    → OnOk r (out_after.faults ≡ out.faults)
+    → Streams (status_of r) source source_after out out_after
+wrote_streams (Ok done) bytes source source_after out out_after all_sound too_long flushed failed unflushed rose out_sound = record {
+  read_fault = λ is. cc;
+  read_sound = λ _. all_sound;
+  too_long = not_too_long source.left status.Ok bytes _ (λ is. cc) too_long;
+  write_fault = λ is. cc;
+  write_sound = λ _. out_sound;
+  nothing = λ other _. absurd (other refl);
+  flushed = λ _. flushed;
+  unflushed = λ other. absurd (other refl);
+}
+wrote_streams (Err f) bytes source source_after out out_after all_sound too_long flushed failed unflushed rose out_sound = rw failed (record {
+  read_fault = λ is. cc;
+  read_sound = λ _. all_sound;
+  too_long = not_too_long source.left status.WriteFault bytes _ (λ is. cc) too_long;
+  write_fault = λ _. rose;
+  write_sound = λ other. absurd (other refl);
+  nothing = λ _ other. absurd (other refl);
+  flushed = λ is. cc;
+  unflushed = λ _. unflushed;
+})

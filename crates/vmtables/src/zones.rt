@@ -1,0 +1,75 @@
+ghost use Rattle.std.specs.Prelude.{◌≡◌, ◌≤◌};
+ghost use Rattle.vt_outside.specs.Placement.{high_zone, f_segment};
+ghost use Rattle.vmtables.specs.Places.{range_in, zone_numbered, number_of_zone};
+
+/// A zone of memory, in which a loader script asks for a place for a file (QEMU, hw/acpi/bios-linker-loader.c).
+#[derive(Clone, Copy, Debug, PartialEq, Eq)]
+pub enum Zone {
+    /// High memory: the 16 MiB that end at the top.
+    High,
+    /// The F segment, 0xF0000 to 0xFFFFF, where a guest looks for an RSDP and an anchor.
+    Fseg,
+}
+
+/// The addresses of the zones of a memory. An end isn't in its zone.
+#[derive(Clone, Copy, Debug, PartialEq, Eq)]
+pub struct Zones {
+    /// The first address of [`Zone::High`].
+    pub high_start: u64,
+    /// The address past its last one.
+    pub high_end: u64,
+    /// The first address of [`Zone::Fseg`].
+    pub fseg_start: u64,
+    /// The address past its last one.
+    pub fseg_end: u64,
+}
+
+/// Returns the zones of memory below the address `top`, which is at least 16 MiB.
+pub fn zones_of(top: u32) -> Zones
+    requires { 0x1000000 ≤ top }
+    ensures high_start { result.high_start ≡ (high_zone top).start }
+    ensures high_end { result.high_end ≡ (high_zone top).end }
+    ensures fseg_start { result.fseg_start ≡ f_segment.start }
+    ensures fseg_end { result.fseg_end ≡ f_segment.end }
+{
+    Zones {
+        high_start: u64::from(top) - 0x100_0000,
+        high_end: u64::from(top),
+        fseg_start: 0xF_0000,
+        fseg_end: 0x10_0000,
+    }
+}
+
+impl Zones {
+    /// Returns the first address of `zone`.
+    pub(crate) fn start_of(&self, zone: Zone) -> u64
+        ensures { result ≡ (range_in self.now zone).start }
+    {
+        match zone {
+            Zone::High => self.high_start,
+            Zone::Fseg => self.fseg_start,
+        }
+    }
+}
+
+impl Zone {
+    /// Returns the zone of the number in an Allocate, which is 1 for `High` and 2 for `Fseg`.
+    pub(crate) fn numbered(number: u8) -> Zone
+        ensures { result ≡ zone_numbered number }
+    {
+        match number {
+            1 => Zone::High,
+            _ => Zone::Fseg,
+        }
+    }
+
+    /// Returns the number of this zone in an Allocate.
+    pub(crate) fn number(self) -> u8
+        ensures { result ≡ number_of_zone self }
+    {
+        match self {
+            Zone::High => 1,
+            Zone::Fseg => 2,
+        }
+    }
+}
