@@ -1,6 +1,3 @@
-pub mod KnownKeys
-pub mod Refusals
-pub mod OneMachine
 pub mod Accepted
 pub mod StructuresSize
 pub mod LowRuns
@@ -34,3 +31,4 @@ pub mod Checksums
 pub mod Allocations
 pub mod Scripts
 pub mod LeftMemory
+pub mod Descriptions

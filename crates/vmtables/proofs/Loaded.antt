@@ -6,7 +6,7 @@ use Rattle.machine_desc.specs.declared.machine.Machine.{Machine}
 use Rattle.table_model.specs.Inventory.{Shows, inventory_of}
 use Rattle.vmtables.specs.Boot.{IsLoaded}
 use Rattle.vmtables.specs.Image.{image_files, image_script}
-use Rattle.vmtables.specs.Reads.{Reads}
+use Rattle.desc_toml.specs.Reading.{Reads}
 use Rattle.loader_script.specs.Run.{Placed}
 use Rattle.loader_script.specs.Left.{IsLeft}
 use Rattle.vmtables.specs.LowRun.{IsLowRun}

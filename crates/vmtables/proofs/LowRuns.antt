@@ -74,6 +74,18 @@ unfolding carried_out
 allocate-leads name align zone place others p next places carried =
     same_Some next (record p { placed = placed_next name place p; places = others }) (sym carried ∙ ap (allocated name p) places)
 
+-- they still are where each is with its placed files changed in one way
+far_placed : (change : List Placed → List Placed) (p q next other : Progress) → AreAsFar p q → Some (record p { placed = change p.placed }) ≡ Some next
+    → Some (record q { placed = change q.placed }) ≡ Some other → AreAsFar next other
+far_placed change p q next other far carried also_carried =
+    let next_is = same_Some next (record p { placed = change p.placed }) (sym carried) in
+    let other_is = same_Some other (record q { placed = change q.placed }) (sym also_carried) in
+    record {
+      files = ap (λ (s : Progress). s.files) next_is ∙ far.files ∙ sym (ap (λ (s : Progress). s.files) other_is);
+      placed = ap (λ (s : Progress). s.placed) next_is ∙ ap change far.placed ∙ sym (ap (λ (s : Progress). s.placed) other_is);
+    }
+
+-- and where each is after one command
 as_far : (top : ℕ) (entry : Entry) (p q next other : Progress) → AreAsFar p q → IsLow top entry p → IsLow top entry q
     → carried_out entry p ≡ Some next → carried_out entry q ≡ Some other → AreAsFar next other
 unfolding carried_out
@@ -92,21 +104,9 @@ as_far top (Allocate name align zone) p q next other far low also carried also_c
           ∙ sym (ap (λ (s : Progress). s.placed) other_is);
     }
 as_far top (AddPointer dest src offset size) p q next other far low also carried also_carried =
-    let next_is = same_Some next (record p { placed = with_pointer dest src offset size p.placed }) (sym carried) in
-    let other_is = same_Some other (record q { placed = with_pointer dest src offset size q.placed }) (sym also_carried) in
-    record {
-      files = ap (λ (s : Progress). s.files) next_is ∙ far.files ∙ sym (ap (λ (s : Progress). s.files) other_is);
-      placed = ap (λ (s : Progress). s.placed) next_is ∙ ap (with_pointer dest src offset size) far.placed
-          ∙ sym (ap (λ (s : Progress). s.placed) other_is);
-    }
+    far_placed (with_pointer dest src offset size) p q next other far carried also_carried
 as_far top (AddChecksum name offset start count) p q next other far low also carried also_carried =
-    let next_is = same_Some next (record p { placed = with_sum name offset start count p.placed }) (sym carried) in
-    let other_is = same_Some other (record q { placed = with_sum name offset start count q.placed }) (sym also_carried) in
-    record {
-      files = ap (λ (s : Progress). s.files) next_is ∙ far.files ∙ sym (ap (λ (s : Progress). s.files) other_is);
-      placed = ap (λ (s : Progress). s.placed) next_is ∙ ap (with_sum name offset start count) far.placed
-          ∙ sym (ap (λ (s : Progress). s.placed) other_is);
-    }
+    far_placed (with_sum name offset start count) p q next other far carried also_carried
 as_far top (WritePointer dest src dst_offset src_offset size) p q next other far low also carried also_carried =
     let next_is = same_Some next (record p { files = with_written dest src dst_offset src_offset size p }) (sym carried) in
     let other_is = same_Some other (record q { files = with_written dest src dst_offset src_offset size q }) (sym also_carried) in
@@ -116,20 +116,8 @@ as_far top (WritePointer dest src dst_offset src_offset size) p q next other far
           ∙ sym (ap (λ (s : Progress). s.files) other_is);
       placed = ap (λ (s : Progress). s.placed) next_is ∙ far.placed ∙ sym (ap (λ (s : Progress). s.placed) other_is);
     }
-as_far top (Misnamed command) p q next other far low also carried also_carried =
-    let next_is = same_Some p next carried in
-    let other_is = same_Some q other also_carried in
-    record {
-      files = sym (ap (λ (s : Progress). s.files) next_is) ∙ far.files ∙ ap (λ (s : Progress). s.files) other_is;
-      placed = sym (ap (λ (s : Progress). s.placed) next_is) ∙ far.placed ∙ ap (λ (s : Progress). s.placed) other_is;
-    }
-as_far top (Skipped command) p q next other far low also carried also_carried =
-    let next_is = same_Some p next carried in
-    let other_is = same_Some q other also_carried in
-    record {
-      files = sym (ap (λ (s : Progress). s.files) next_is) ∙ far.files ∙ ap (λ (s : Progress). s.files) other_is;
-      placed = sym (ap (λ (s : Progress). s.placed) next_is) ∙ far.placed ∙ ap (λ (s : Progress). s.placed) other_is;
-    }
+as_far top (Misnamed command) p q next other far low also carried also_carried = far_placed (λ placed. placed) p q next other far carried also_carried
+as_far top (Skipped command) p q next other far low also carried also_carried = far_placed (λ placed. placed) p q next other far carried also_carried
 
 -- two runs that give the least free places leave the same files
 lead_as_far : (top : ℕ) (script : List Entry) (p q after other : Progress) → AreAsFar p q → LeadsTo top script p after → LeadsTo top script q other

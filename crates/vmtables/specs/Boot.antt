@@ -3,7 +3,7 @@ use Rattle.std.specs.Prelude.{◌≡◌, ◌⊎◌, ℕ, true, List, Option, Non
 use Rattle.machine_desc.specs.declared.machine.Machine.{Machine}
 use Rattle.vmtables.specs.Calls.{Made}
 use Rattle.vmtables.specs.Dump.{dump}
-use Rattle.vmtables.specs.Reads.{Reads}
+use Rattle.desc_toml.specs.Reading.{Reads}
 use Rattle.loader_script.specs.Run.{Placed}
 use Rattle.loader_script.specs.Left.{IsLeft}
 use Rattle.vmtables.specs.LowRun.{IsLowRun}

@@ -2,8 +2,8 @@
 use Rattle.std.specs.Prelude.{◌≡◌}
 use Rattle.vmtables.specs.declared.input.InputFault.{InputFault}
 use Rattle.vmtables.specs.declared.input.InputFault.TheVariants as input
-use Rattle.vmtables.specs.declared.description.DescriptionFault.{DescriptionFault}
-use Rattle.vmtables.specs.declared.description.DescriptionFault.TheVariants as description
+use Rattle.desc_toml.specs.declared.fault.DescFault.{DescFault}
+use Rattle.desc_toml.specs.declared.fault.DescFault.TheVariants as description
 use Rattle.vmtables.specs.declared.fault.Fault.{Fault}
 use Rattle.vmtables.specs.declared.fault.Fault.TheVariants.{ReadFault, DescriptionRefused, OutOfMemory, InputTooLong}
 
@@ -12,6 +12,6 @@ IsOfInput input.Failed fault = fault ≡ ReadFault
 IsOfInput input.TooLong fault = fault ≡ InputTooLong
 IsOfInput input.OutOfMemory fault = fault ≡ OutOfMemory
 
-abbrev pub IsOfDescription : DescriptionFault → Fault → Type 0
-IsOfDescription description.Refused fault = fault ≡ DescriptionRefused
+abbrev pub IsOfDescription : DescFault → Fault → Type 0
 IsOfDescription description.OutOfMemory fault = fault ≡ OutOfMemory
+IsOfDescription _ fault = fault ≡ DescriptionRefused

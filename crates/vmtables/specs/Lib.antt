@@ -3,8 +3,6 @@ pub mod Causes
 pub mod Outcome
 pub mod Output
 pub mod Dump
-pub mod Reads
-pub mod Reader
 pub mod Places
 pub mod LowRun
 pub mod FilesInMemory
@@ -20,6 +18,7 @@ pub use Rattle.vt_outside.specs.Name
 pub use Rattle.vt_outside.specs.MemoryStream
 pub use Rattle.vt_bytes.specs.Numbers
 pub use Rattle.vt_bytes.specs.Memory
+pub use Rattle.desc_toml.specs.Reading
 pub use Rattle.machine_desc.specs.Rules
 pub use Rattle.table_model.specs.Inventory
 pub use Rattle.blob_holes.specs.Blob

@@ -1,10 +1,10 @@
 ghost use Rattle.std.specs.Prelude.{◌≡◌, ◌<◌, ◌∷◌, ◌++◌, [], length};
 ghost use Rattle.vmtables.specs.Outcome.{line_of, status_of_fault};
 
-use crate::description::DescriptionFault;
 use crate::input::InputFault;
 use crate::status::Status;
 use arrayvec::ArrayString;
+use desc_toml::DescFault;
 use vt_outside::OutOfMemory;
 
 /// A line in a buffer on the stack: it takes no memory even where it has numbers, and is there whole before it is written.
@@ -93,15 +93,15 @@ impl From<InputFault> for Fault {
     }
 }
 
-impl From<DescriptionFault> for Fault {
+impl From<DescFault> for Fault {
     ghost use Rattle.vmtables.specs.Causes.{IsOfDescription};
 
     ghost from_gives = { IsOfDescription };
 
-    fn from(fault: DescriptionFault) -> Fault {
+    fn from(fault: DescFault) -> Fault {
         match fault {
-            DescriptionFault::Refused => Fault::DescriptionRefused,
-            DescriptionFault::OutOfMemory => Fault::OutOfMemory,
+            DescFault::OutOfMemory => Fault::OutOfMemory,
+            _ => Fault::DescriptionRefused,
         }
     }
 }

@@ -7,13 +7,11 @@
 
 mod acpi;
 mod command;
-mod description;
 mod dump;
 mod fault;
 mod files;
 mod image;
 mod input;
-pub mod laws;
 mod loading;
 mod names;
 mod output;

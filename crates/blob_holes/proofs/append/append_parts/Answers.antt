@@ -20,108 +20,53 @@ append_unsummed-requires-2-clause-short c =
     ∙ ap (λ n. length c.args.blob.now.bytes + n) (length-spelled header (each_front IsRow header c.args.body.now c.requires.rows.each)) in
     omega (arith, c.requires.short, size-append header c.args.body.now)
 
+-- the layout in its two parts, once both have their rows; and once the first has its sums
+parts_for_header : (c : goal.After-add_sums-arg-1)
+    → InParts c.args.blob.now c.append_unsummed.new.blob c.append_unsummed-2.new.blob c.args.header.now c.args.body.now c.len-start.result c.len-behind.result
+parts_for_header c = record {
+  blob = c.len-start.ensures.blob;
+  are = c.requires.rows;
+  short = c.requires.short;
+  first_is = c.in_ok-append_unsummed.ensures;
+  second_is = c.in_ok-append_unsummed-2.ensures;
+  start_is = c.len-start.ensures.value;
+  behind_is = c.len-behind.ensures.value;
+}
+
+parts_for_body : (c : goal.After-add_sums-arg-2-1)
+    → InParts c.args.blob.now c.append_unsummed.new.blob c.append_unsummed-2.new.blob c.args.header.now c.args.body.now c.len-start.result c.len-behind.result
+parts_for_body c = record {
+  blob = c.len-start.ensures.blob;
+  are = c.requires.rows;
+  short = c.requires.short;
+  first_is = c.in_ok-append_unsummed.ensures;
+  second_is = c.in_ok-append_unsummed-2.ensures;
+  start_is = c.len-start.ensures.value;
+  behind_is = c.len-behind.ensures.value;
+}
+
 pub add_sums-requires-clause-fit : goal.add_sums-requires-clause-fit
-add_sums-requires-clause-fit c =
-    let old = c.args.blob.now in
-    let first = c.append_unsummed.new.blob in
-    let second = c.append_unsummed-2.new.blob in
-    let p : InParts old first second c.args.header.now c.args.body.now c.len-start.result c.len-behind.result = record {
-      blob = c.len-start.ensures.blob;
-      are = c.requires.rows;
-      short = c.requires.short;
-      first_is = c.in_ok-append_unsummed.ensures;
-      second_is = c.in_ok-append_unsummed-2.ensures;
-      start_is = c.len-start.ensures.value;
-      behind_is = c.len-behind.ensures.value;
-    } in
-    header_fits old first second c.args.header.now c.args.body.now c.len-start.result c.len-behind.result p
+add_sums-requires-clause-fit c = header_fits _ _ _ _ _ _ _ (parts_for_header c)
 
 pub add_sums-requires-clause-zero : goal.add_sums-requires-clause-zero
-add_sums-requires-clause-zero c =
-    let old = c.args.blob.now in
-    let first = c.append_unsummed.new.blob in
-    let second = c.append_unsummed-2.new.blob in
-    let p : InParts old first second c.args.header.now c.args.body.now c.len-start.result c.len-behind.result = record {
-      blob = c.len-start.ensures.blob;
-      are = c.requires.rows;
-      short = c.requires.short;
-      first_is = c.in_ok-append_unsummed.ensures;
-      second_is = c.in_ok-append_unsummed-2.ensures;
-      start_is = c.len-start.ensures.value;
-      behind_is = c.len-behind.ensures.value;
-    } in
-    header_zero old first second c.args.header.now c.args.body.now c.len-start.result c.len-behind.result p
+add_sums-requires-clause-zero c = header_zero _ _ _ _ _ _ _ (parts_for_header c)
 
 pub add_sums-requires-clause-short : goal.add_sums-requires-clause-short
-add_sums-requires-clause-short c =
-    let old = c.args.blob.now in
-    let first = c.append_unsummed.new.blob in
-    let second = c.append_unsummed-2.new.blob in
-    let p : InParts old first second c.args.header.now c.args.body.now c.len-start.result c.len-behind.result = record {
-      blob = c.len-start.ensures.blob;
-      are = c.requires.rows;
-      short = c.requires.short;
-      first_is = c.in_ok-append_unsummed.ensures;
-      second_is = c.in_ok-append_unsummed-2.ensures;
-      start_is = c.len-start.ensures.value;
-      behind_is = c.len-behind.ensures.value;
-    } in
-    header_short old first second c.args.header.now c.args.body.now c.len-start.result c.len-behind.result p
+add_sums-requires-clause-short c = header_short _ _ _ _ _ _ _ (parts_for_header c)
 
 pub add_sums-requires-2-clause-fit : goal.add_sums-requires-2-clause-fit
-add_sums-requires-2-clause-fit c =
-    let old = c.args.blob.now in
-    let first = c.append_unsummed.new.blob in
-    let second = c.append_unsummed-2.new.blob in
-    let p : InParts old first second c.args.header.now c.args.body.now c.len-start.result c.len-behind.result = record {
-      blob = c.len-start.ensures.blob;
-      are = c.requires.rows;
-      short = c.requires.short;
-      first_is = c.in_ok-append_unsummed.ensures;
-      second_is = c.in_ok-append_unsummed-2.ensures;
-      start_is = c.len-start.ensures.value;
-      behind_is = c.len-behind.ensures.value;
-    } in
-    body_fits old first second c.args.header.now c.args.body.now c.len-start.result c.len-behind.result p c.add_sums.new.blob c.in_ok-add_sums.ensures
+add_sums-requires-2-clause-fit c = body_fits _ _ _ _ _ _ _ (parts_for_body c) c.add_sums.new.blob c.in_ok-add_sums.ensures
 
 pub add_sums-requires-2-clause-zero : goal.add_sums-requires-2-clause-zero
-add_sums-requires-2-clause-zero c =
-    let old = c.args.blob.now in
-    let first = c.append_unsummed.new.blob in
-    let second = c.append_unsummed-2.new.blob in
-    let p : InParts old first second c.args.header.now c.args.body.now c.len-start.result c.len-behind.result = record {
-      blob = c.len-start.ensures.blob;
-      are = c.requires.rows;
-      short = c.requires.short;
-      first_is = c.in_ok-append_unsummed.ensures;
-      second_is = c.in_ok-append_unsummed-2.ensures;
-      start_is = c.len-start.ensures.value;
-      behind_is = c.len-behind.ensures.value;
-    } in
-    body_zero old first second c.args.header.now c.args.body.now c.len-start.result c.len-behind.result p c.add_sums.new.blob c.in_ok-add_sums.ensures
+add_sums-requires-2-clause-zero c = body_zero _ _ _ _ _ _ _ (parts_for_body c) c.add_sums.new.blob c.in_ok-add_sums.ensures
 
 pub add_sums-requires-2-clause-short : goal.add_sums-requires-2-clause-short
-add_sums-requires-2-clause-short c =
-    let old = c.args.blob.now in
-    let first = c.append_unsummed.new.blob in
-    let second = c.append_unsummed-2.new.blob in
-    let p : InParts old first second c.args.header.now c.args.body.now c.len-start.result c.len-behind.result = record {
-      blob = c.len-start.ensures.blob;
-      are = c.requires.rows;
-      short = c.requires.short;
-      first_is = c.in_ok-append_unsummed.ensures;
-      second_is = c.in_ok-append_unsummed-2.ensures;
-      start_is = c.len-start.ensures.value;
-      behind_is = c.len-behind.ensures.value;
-    } in
-    body_short old first second c.args.header.now c.args.body.now c.len-start.result c.len-behind.result p
+add_sums-requires-2-clause-short c = body_short _ _ _ _ _ _ _ (parts_for_body c)
 
 pub returns-clause-file : goal.returns-clause-file
 returns-clause-file c =
-    let old = c.args.blob.now in
-    let first = c.append_unsummed.new.blob in
-    let second = c.append_unsummed-2.new.blob in
-    let p : InParts old first second c.args.header.now c.args.body.now c.len-start.result c.len-behind.result = record {
+    let parts : InParts c.args.blob.now c.append_unsummed.new.blob c.append_unsummed-2.new.blob c.args.header.now c.args.body.now c.len-start.result
+    c.len-behind.result = record {
       blob = c.len-start.ensures.blob;
       are = c.requires.rows;
       short = c.requires.short;
@@ -131,5 +76,4 @@ returns-clause-file c =
       behind_is = c.len-behind.ensures.value;
     } in
     on_ok_weaker c.add_sums-2.result
-    (with_parts old first second c.args.header.now c.args.body.now c.len-start.result c.len-behind.result p c.add_sums.new.blob
-    c.in_ok-add_sums.ensures c.add_sums-2.new.blob) c.add_sums-2.ensures
+    (with_parts _ _ _ _ _ _ _ parts c.add_sums.new.blob c.in_ok-add_sums.ensures c.add_sums-2.new.blob) c.add_sums-2.ensures

@@ -1,0 +1,339 @@
+-- The walk of the document that is written of values gives them again, part by part.
+use Rattle.std.proofs.Common.{◌≡◌, ℕ, zero, suc, pos, ◌+◌, ◌<◌, true, false, Bool, not, List, [], ◌∷◌, ◌++◌, length, replicate, Option, Some, None}
+use Rattle.std.proofs.Common.{Ok, ◌⊎◌, refl, sym, ap, ◌∙◌, ⊎_elim, append_assoc, arith, Ordering, Less, Equal, Greater, nat_cmp}
+use Rattle.std.proofs.lemmas.Bool.{false≢true, cases_Bool, and_parts, or_parts, or_left, or_right, le-leb}
+use Rattle.std.proofs.lemmas.List.{append-nil}
+use Rattle.std.proofs.lemmas.Map.Text.{is_eq-slice_cmp}
+use Rattle.std.proofs.lemmas.Slice.Eq.{bytes_eq-Decides}
+use Rattle.std.specs.Prelude.{nat_le}
+use Rattle.std.specs.Int.{w128, from_be_bytes}
+use Rattle.std.specs.Cmp.Lexicographic.{slice_cmp}
+use Rattle.std.specs.List.{list_any}
+use Rattle.std.specs.Ordering.{is_eq, match_ordering}
+use Rattle.std.specs.Str.{bytes_eq}
+use Rattle.toml.specs.Data.{Data, string, integer, boolean, array, table, Items, no_items, item, Members, no_members, get_member}
+use Rattle.desc_schema.specs.declared.item.Item.{Item}
+use Rattle.desc_schema.specs.declared.item.Item.TheVariants as items
+use Rattle.desc_schema.specs.declared.fault.Place.{Place}
+use Rattle.desc_schema.specs.declared.fault.KeyPlace.{KeyPlace}
+use Rattle.desc_schema.specs.Form.{Form, Shape, Field, fields_at}
+use Rattle.desc_schema.specs.Form as forms
+use Rattle.desc_schema.specs.Faults.{key_at, alone}
+use Rattle.desc_schema.specs.Single.{item_of, uuid_from, word_from}
+use Rattle.desc_schema.specs.Taken.{first, rest}
+use Rattle.desc_schema.specs.Walk.{Inner, one, elements, singles, shaped, found_or, at_fields, least_unknown, is_known}
+use Rattle.desc_schema.specs.Walk.{table_walked, walked, position, advanced, count_of}
+use Rattle.desc_schema.specs.Fits.{FitsForm, IsOne, AreParts, FitsShape, FitsField, FitsFields, FitsTable, Fits}
+use Rattle.desc_schema.specs.Written.{Spelling, IsReadBack, word_data, data_of, Write, tables_written, singles_written, shape_written}
+use Rattle.desc_schema.specs.Written.{with_member, fields_written, written_to, written, words_differ, names_differ, IsSoundForm, IsSoundDefault}
+use Rattle.desc_schema.specs.Written.{IsSoundShape, AreSoundFields, IsSound}
+
+not_true : (b : Bool) → not b ≡ true → b ≡ false
+not_true false is = refl
+not_true true is = absurd (false≢true is)
+
+same_bytes : (k : List ℕ) → bytes_eq k k ≡ true
+same_bytes k = (bytes_eq-Decides k k).1 refl
+
+-- names that differ, in the other order
+other_way : (k l : List ℕ) → bytes_eq k l ≡ false → bytes_eq l k ≡ false
+other_way k l differ =
+    ⊎_elim
+    (λ same. absurd (false≢true (sym differ ∙ (bytes_eq-Decides k l).1 (sym ((bytes_eq-Decides l k).0 same)))))
+    (λ other. other)
+    (cases_Bool (bytes_eq l k))
+
+-- single values
+
+word_back : (n : ℕ) (words : List (List ℕ)) → n < length words → words_differ words ≡ true
+    → (word : List ℕ) × (word_data n words ≡ Some (string word)) × ((at : KeyPlace) (k : ℕ) → word_from at k words word ≡ Ok (items.Word (k + n)))
+    × ((test : List ℕ → Bool) → list_any test words ≡ false → test word ≡ false)
+unfolding word_from
+word_back n [] within differ = absurd (omega arith)
+word_back zero (word ∷ words) within differ = (
+  word,
+  refl,
+  λ at k. let here : k + 0 ≡ k = omega arith in rw (same_bytes word, here) refl,
+  λ test none.
+      (or_parts (test word) (list_any test words) none).0,
+)
+word_back (suc n) (front ∷ words) within differ =
+    let (alone, others) = and_parts (not (list_any (bytes_eq front) words)) (words_differ words) differ in
+    let (word, is, back, away) = word_back n words (omega arith) others in
+    let differs : bytes_eq front word ≡ false = away (bytes_eq front) (not_true _ alone) in (
+      word,
+      is,
+      λ at k. let here : k + suc n ≡ k + 1 + n = omega arith in rw (differs, here) (back at (k + 1)),
+      λ test none. away test ((or_parts (test front) (list_any test words) none).1),
+    )
+
+uuid_back : (at : KeyPlace) (n : ℕ) (read : Option (List ℕ)) (again : List ℕ) → read ≡ Some again → from_be_bytes w128 again ≡ n
+    → uuid_from at read ≡ Ok (items.Uuid n)
+uuid_back at n read again is same = rw (is, same) refl
+
+form_back : (spell : Spelling) (reads : IsReadBack spell) (form : Form) (found : Item) → FitsForm form found → IsSoundForm form
+    → (value : Data) × (data_of spell form found ≡ Some value) × ((at : KeyPlace) → item_of at form value ≡ Ok found)
+form_back spell reads forms.Text found (text, is) sound = (string text, rw is refl, λ at. rw is refl)
+form_back spell reads (forms.Number least most) found (n, is, low, high) sound =
+    let lows : nat_le least n ≡ true = le-leb least n low in
+    let highs : nat_le n most ≡ true = le-leb n most high in
+    (integer (pos n), rw (is, lows, highs) refl, λ at. rw (is, lows, highs) refl)
+form_back spell reads forms.Flag found (flag, is) sound = (boolean flag, rw is refl, λ at. rw is refl)
+form_back spell reads forms.Uuid found (text, bytes, from, is) sound =
+    let (again, reads_so, same) = reads text bytes from in
+    (string (spell (from_be_bytes w128 bytes)), rw is refl, λ at. rw is (uuid_back at _ _ again reads_so same))
+form_back spell reads (forms.Word words) found (n, is, within) sound =
+    let (word, written, back, _) = word_back n words within sound in
+    let here : 0 + n ≡ n = omega arith in
+    (string word, rw is written, λ at. rw is (back at 0 ∙ ap (λ (k : ℕ). Ok (items.Word k)) here))
+
+one_back : (spell : Spelling) (reads : IsReadBack spell) (form : Form) (values : List Item) → IsOne form values → IsSoundForm form → (more : List Item)
+    → (value : Data) × (data_of spell form (first (values ++ more)) ≡ Some value) × (rest (values ++ more) ≡ more)
+    × ((at : KeyPlace) (positions : List ℕ) → one (item_of at form value) positions ≡ Ok (values, positions))
+one_back spell reads form values (found, is, fits) sound more =
+    let (value, written, back) = form_back spell reads form found fits sound in
+    (value, rw is written, rw is refl, λ at positions. rw (back at, is) refl)
+
+-- tables and arrays
+
+-- the table of a number is written of values, with others behind them, and the walk of it gives them again
+abbrev WalksBack : Inner → Write → ℕ → List Item → Type 0
+WalksBack inner write number values = (more : List Item) → (entries : Members) × (write number (values ++ more) ≡ (entries, more))
+    × ((index : ℕ) (positions : List ℕ) → (next : List ℕ) × (inner (record { table = number; index = index }) entries positions ≡ Ok (values, next)))
+
+abbrev AllWalkBack : Inner → Write → (ℕ → List Item → Type 0) → Type 0
+AllWalkBack inner write Inside = (number : ℕ) (values : List Item) → Inside number values → WalksBack inner write number values
+
+behind : (values part rest more : List Item) → values ≡ part ++ rest → values ++ more ≡ part ++ (rest ++ more)
+behind values part rest more is = rw is (simp append_assoc)
+
+elements_back : (inner : Inner) (write : Write) (Inside : ℕ → List Item → Type 0) (all : AllWalkBack inner write Inside) (number n : ℕ) (values : List Item)
+    → AreParts (Inside number) n values → (more : List Item)
+    → (made : Items) × (tables_written write number n (values ++ more) ≡ (made, more)) × (count_of made ≡ n)
+    × ((at : KeyPlace) (positions : List ℕ) → (next : List ℕ) × (elements inner at number made positions ≡ Ok (values, next)))
+unfolding elements
+elements_back inner write Inside all number zero values is more = (no_items, rw is refl, refl, λ at positions. (positions, rw is refl))
+elements_back inner write Inside all number (suc n) values (part, others, is, fits, fit) more =
+    let (entries, written, back) = all number part fits (others ++ more) in
+    let (made, writes, count, backs) = elements_back inner write Inside all number n others fit more in
+    let all_of : values ++ more ≡ part ++ (others ++ more) = behind values part others more is in (
+      item (table entries) made,
+      rw (all_of, written, writes) refl,
+      ap suc count,
+      λ at positions.
+          let (next, walks) = back (position number positions) (advanced number positions) in
+          let (last, walk) = backs at next in
+          (last, rw (walks, walk, is) refl),
+    )
+
+singles_back : (spell : Spelling) (reads : IsReadBack spell) (form : Form) (sound : IsSoundForm form) (n : ℕ) (values : List Item)
+    → AreParts (IsOne form) n values
+    → (more : List Item) → (made : Items) × (singles_written spell form n (values ++ more) ≡ (made, more)) × (count_of made ≡ n)
+    × ((at : KeyPlace) (positions : List ℕ) → singles at form made positions ≡ Ok (values, positions))
+unfolding singles
+singles_back spell reads form sound zero values is more = (no_items, rw is refl, refl, λ at positions. rw is refl)
+singles_back spell reads form sound (suc n) values (part, others, is, fits, fit) more =
+    let (value, written, left, back) = one_back spell reads form part fits sound (others ++ more) in
+    let (made, writes, count, backs) = singles_back spell reads form sound n others fit more in
+    let all_of : values ++ more ≡ part ++ (others ++ more) = behind values part others more is in
+    (item value made, rw (all_of, written, left, writes) refl, ap suc count, λ at positions. rw (back at positions, backs at positions, is) refl)
+
+-- the value at a key, or none
+abbrev FieldBack : Spelling → Inner → Write → Field → List Item → Type 0
+FieldBack spell inner write field values = (more : List Item)
+    → (value : Option Data) × (shape_written spell write field.shape (values ++ more) ≡ (value, more))
+    × ((at : KeyPlace) (positions : List ℕ) → (next : List ℕ) × (found_or inner at field value positions ≡ Ok (values, next)))
+
+abbrev ShapeBack : Spelling → Inner → Write → Shape → List Item → Type 0
+ShapeBack spell inner write shape values = (more : List Item)
+    → (value : Data) × (shape_written spell write shape (values ++ more) ≡ (Some value, more))
+    × ((at : KeyPlace) (positions : List ℕ) → (next : List ℕ) × (shaped inner at shape value positions ≡ Ok (values, next)))
+
+shape_back : (spell : Spelling) (reads : IsReadBack spell) (inner : Inner) (write : Write) (Inside : ℕ → List Item → Type 0)
+    (all : AllWalkBack inner write Inside)
+    (shape : Shape) (values : List Item) → FitsShape Inside shape values → IsSoundShape shape → ShapeBack spell inner write shape values
+shape_back spell reads inner write Inside all (forms.One form) values fits sound more =
+    let (value, written, left, back) = one_back spell reads form values fits sound more in
+    (value, rw (written, left) refl, λ at positions. (positions, back at positions))
+shape_back spell reads inner write Inside all (forms.Table number) values (inside, is, fits) sound more =
+    let (entries, written, back) = all number inside fits more in (
+      table entries,
+      rw (is, written) refl,
+      λ at positions.
+          let (next, walks) = back 0 positions in
+          (next, rw (walks, is) refl),
+    )
+shape_back spell reads inner write Inside all (forms.Tables number) values (n, inside, is, fits) sound more =
+    let (made, written, count, back) = elements_back inner write Inside all number n inside fits more in (
+      array made,
+      rw (is, written) refl,
+      λ at positions.
+          let (next, walks) = back at positions in
+          (next, rw (walks, is, count) refl),
+    )
+shape_back spell reads inner write Inside all (forms.Values form) values (n, inside, is, fits) sound more =
+    let (made, written, count, back) = singles_back spell reads form sound n inside fits more in
+    (array made, rw (is, written) refl, λ at positions. (positions, rw (back at positions, is, count) refl))
+
+found_back : (spell : Spelling) (inner : Inner) (write : Write) (field : Field) (values : List Item) → ShapeBack spell inner write field.shape values
+    → FieldBack spell inner write field values
+found_back spell inner write field values back more = let (value, written, walks) = back more in (Some value, written, walks)
+
+-- a key that is left out
+default_back : (inner : Inner) (field : Field) (default : Item) (values : List Item) → field.default ≡ Some default → values ≡ default ∷ []
+    → (at : KeyPlace) (positions : List ℕ) → (next : List ℕ) × (found_or inner at field None positions ≡ Ok (values, next))
+default_back inner field default values stands is at positions = (positions, rw (stands, is) refl)
+
+-- a default of a single value: one that is written, or one that isn't
+one_left_out : (spell : Spelling) (reads : IsReadBack spell) (inner : Inner) (write : Write) (field : Field) (form : Form) (default : Item) (values : List Item)
+    → field.shape ≡ forms.One form → field.default ≡ Some default → values ≡ default ∷ [] → IsSoundForm form
+    → FitsForm form default ⊎ (data_of spell form default ≡ None) → FieldBack spell inner write field values
+one_left_out spell reads inner write field form default values shape stands is sound either more =
+    ⊎_elim
+    (λ fits.
+    let (value, written, left, back) = one_back spell reads form values (default, is, fits) sound more in
+    (Some value, rw (shape, written, left) refl, λ at positions. (positions, rw shape (back at positions))))
+    (λ none. (None, rw (shape, is) (ap (λ (o : Option Data). (o, more)) none), default_back inner field default values stands is))
+    either
+
+field_back : (spell : Spelling) (reads : IsReadBack spell) (inner : Inner) (write : Write) (Inside : ℕ → List Item → Type 0)
+    (all : AllWalkBack inner write Inside)
+    (field : Field) (shape : Shape) (values : List Item) → field.shape ≡ shape → FitsField Inside field values → IsSoundShape shape
+    → ((default : Item) → field.default ≡ Some default → IsSoundDefault spell shape default) → FieldBack spell inner write field values
+field_back spell reads inner write Inside all field (forms.One form) values shape fits sound defaults =
+    ⊎_elim
+    (λ out. one_left_out spell reads inner write field form out.0 values shape out.1 out.2 sound (defaults out.0 out.1))
+    (λ fit. found_back spell inner write field values
+    (rw shape (shape_back spell reads inner write Inside all (forms.One form) values (rw shape at fit) sound)))
+    fits
+field_back spell reads inner write Inside all field (forms.Table number) values shape fits sound defaults =
+    ⊎_elim
+    (λ out more. (None, rw (shape, out.2, defaults out.0 out.1) refl, default_back inner field out.0 values out.1 out.2))
+    (λ fit. found_back spell inner write field values
+    (rw shape (shape_back spell reads inner write Inside all (forms.Table number) values (rw shape at fit) sound)))
+    fits
+field_back spell reads inner write Inside all field (forms.Tables number) values shape fits sound defaults =
+    ⊎_elim
+    (λ out. found_back spell inner write field values
+    (rw shape (shape_back spell reads inner write Inside all (forms.Tables number) values (0, [], rw (out.2, defaults out.0 out.1) refl, refl) sound)))
+    (λ fit. found_back spell inner write field values
+    (rw shape (shape_back spell reads inner write Inside all (forms.Tables number) values (rw shape at fit) sound)))
+    fits
+field_back spell reads inner write Inside all field (forms.Values form) values shape fits sound defaults =
+    ⊎_elim
+    (λ out. found_back spell inner write field values
+    (rw shape (shape_back spell reads inner write Inside all (forms.Values form) values (0, [], rw (out.2, defaults out.0 out.1) refl, refl) sound)))
+    (λ fit. found_back spell inner write field values
+    (rw shape (shape_back spell reads inner write Inside all (forms.Values form) values (rw shape at fit) sound)))
+    fits
+
+-- look-ups in the entries that are written
+
+get_by : (o : Ordering) (before here : Option Data) → is_eq o ≡ false → match_ordering o before here before ≡ before
+get_by Less before here differ = refl
+get_by Equal before here differ = absurd (false≢true (sym differ))
+get_by Greater before here differ = refl
+
+get_at : (o : Ordering) (before here : Option Data) → is_eq o ≡ true → match_ordering o before here before ≡ here
+get_at Less before here same = absurd (false≢true same)
+get_at Equal before here same = refl
+get_at Greater before here same = absurd (false≢true same)
+
+get_other : (name other : List ℕ) (value : Option Data) (entries : Members) → bytes_eq other name ≡ false
+    → get_member name (with_member other value entries) ≡ get_member name entries
+get_other name other None entries differ = refl
+get_other name other (Some value) entries differ =
+    get_by (slice_cmp nat_cmp name other) (get_member name entries) (Some value) (is_eq-slice_cmp name other ∙ other_way other name differ)
+
+get_here : (name : List ℕ) (value : Option Data) (entries : Members) → get_member name entries ≡ None → get_member name (with_member name value entries) ≡ value
+get_here name None entries none = none
+get_here name (Some value) entries none =
+    get_at (slice_cmp nat_cmp name name) (get_member name entries) (Some value) (is_eq-slice_cmp name name ∙ same_bytes name)
+
+-- a known name isn't an unknown one
+differs_from : (fields : List Field) (name known : List ℕ) → is_known fields name ≡ false → is_known fields known ≡ true → bytes_eq name known ≡ false
+differs_from fields name known unknown is =
+    ⊎_elim
+    (λ same.
+    let equal : name ≡ known = (bytes_eq-Decides name known).0 same in
+    absurd (false≢true (sym unknown ∙ ap (is_known fields) equal ∙ is)))
+    (λ other. other)
+    (cases_Bool (bytes_eq name known))
+
+-- what is kept of the entries that are written for keys
+abbrev MembersOf : Spelling → Inner → Write → List Field → List Item → List Item → Type 0
+MembersOf spell inner write fields values more = (entries : Members) × (fields_written spell write fields (values ++ more) ≡ (entries, more))
+    × ((name : List ℕ) → is_known fields name ≡ false → get_member name entries ≡ None)
+    × ((every : List Field) → ((name : List ℕ) → is_known fields name ≡ true → is_known every name ≡ true) → least_unknown every entries ≡ None)
+    × ((place : Place) (number : ℕ) (whole : Members) (positions : List ℕ)
+    → ((name : List ℕ) → is_known fields name ≡ true → get_member name whole ≡ get_member name entries)
+    → (next : List ℕ) × (at_fields inner place number fields whole positions ≡ Ok (values, next)))
+
+none_unknown-with : (every : List Field) (name : List ℕ) (value : Option Data) (entries : Members) → is_known every name ≡ true
+    → least_unknown every entries ≡ None → least_unknown every (with_member name value entries) ≡ None
+none_unknown-with every name None entries known others = others
+none_unknown-with every name (Some value) entries known others = rw (known, others) refl
+
+fields_back : (spell : Spelling) (reads : IsReadBack spell) (inner : Inner) (write : Write) (Inside : ℕ → List Item → Type 0)
+    (all : AllWalkBack inner write Inside)
+    (fields : List Field) (values : List Item) → FitsFields Inside fields values → AreSoundFields spell fields → names_differ fields ≡ true → (more : List Item)
+    → MembersOf spell inner write fields values more
+unfolding at_fields
+fields_back spell reads inner write Inside all [] values is sound differ more =
+    (no_members, rw is refl, λ name unknown. refl, λ every known. refl, λ place number whole positions agree. (positions, rw is refl))
+fields_back spell reads inner write Inside all (field ∷ fields) values (part, others, is, fits, fit) (shape, defaults, sound) differ more =
+    let (alone, differs) = and_parts (not (is_known fields field.name)) (names_differ fields) differ in
+    let away : is_known fields field.name ≡ false = not_true _ alone in
+    let (value, written, walks) = field_back spell reads inner write Inside all field field.shape part refl fits shape defaults (others ++ more) in
+    let (entries, writes, only, known, walk) = fields_back spell reads inner write Inside all fields others fit sound differs more in
+    let all_of : values ++ more ≡ part ++ (others ++ more) = behind values part others more is in (
+      with_member field.name value entries,
+      rw (all_of, written, writes) refl,
+      λ name unknown.
+          let (here, there) = or_parts (bytes_eq field.name name) (is_known fields name) unknown in
+          get_other name field.name value entries here ∙ only name there,
+      λ every is_in.
+          none_unknown-with every field.name value entries (is_in field.name (or_left _ _ (same_bytes field.name)))
+          (known every (λ name there. is_in name (or_right (bytes_eq field.name name) (is_known fields name) there))),
+      λ place number whole positions agree.
+          let found : get_member field.name whole ≡ value =
+          agree field.name (or_left _ _ (same_bytes field.name)) ∙ get_here field.name value entries (only field.name away) in
+          let (next, here) = walks (key_at place number) positions in
+          let (last, there) = walk place (number + 1) whole next (λ name there.
+          agree name (or_right (bytes_eq field.name name) (is_known fields name) there) ∙ get_other name field.name value entries
+          (differs_from fields field.name name away there)) in
+          (last, rw (found, here, there, is) refl),
+    )
+
+-- the keys of a table of a sound schema
+sound_at : (spell : Spelling) (schema : List (List Field)) (number : ℕ) → IsSound spell schema
+    → (names_differ (fields_at schema number) ≡ true) × AreSoundFields spell (fields_at schema number)
+sound_at spell [] number sound = (refl, tt)
+sound_at spell (fields ∷ schema) zero sound = (sound.0, sound.1)
+sound_at spell (fields ∷ schema) (suc number) sound = sound_at spell schema number sound.2
+
+tables_back : (spell : Spelling) (reads : IsReadBack spell) (schema : List (List Field)) (sound : IsSound spell schema) (depth : ℕ)
+    → AllWalkBack (table_walked schema depth) (written_to spell schema depth) (FitsTable schema depth)
+unfolding table_walked
+tables_back spell reads schema sound zero number values is more = (no_members, rw is refl, λ index positions. (positions, rw is refl))
+tables_back spell reads schema sound (suc depth) number values fits more =
+    let (differ, fields) = sound_at spell schema number sound in
+    let (entries, written, _, known, walk) = fields_back spell reads (table_walked schema depth) (written_to spell schema depth) (FitsTable schema depth)
+    (tables_back spell reads schema sound depth) (fields_at schema number) values fits fields differ more in (
+      entries,
+      written,
+      λ index positions.
+          let place : Place = record { table = number; index = index } in
+          let (next, walks) = walk place 0 entries positions (λ name is. refl) in
+          (next, rw (known (fields_at schema number) (λ name is. is)) walks),
+    )
+
+pub written_walked : (spell : Spelling) (schema : List (List Field)) (values : List Item) → IsReadBack spell → IsSound spell schema → Fits schema values
+    → walked schema (written spell schema values) ≡ Ok values
+written_walked spell schema values reads sound fits =
+    let (entries, is, back) = tables_back spell reads schema sound (length schema) 0 values fits [] in
+    let (next, walks) = back 0 (replicate (length schema) 0) in
+    let made : written spell schema values ≡ entries =
+    ap (λ (vs : List Item). (written_to spell schema (length schema) 0 vs).0) (sym (append-nil values))
+    ∙ ap (λ (p : Members × List Item). p.0) is in
+    rw (made, walks) refl

@@ -1,0 +1,9 @@
+pub mod Form
+pub mod Taken
+pub mod Faults
+pub mod Single
+pub mod Walk
+pub mod Deep
+pub mod Answers
+pub mod Fits
+pub mod Written

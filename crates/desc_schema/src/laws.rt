@@ -1,0 +1,47 @@
+//! Laws of the walk. Each is the contract of a function that does nothing.
+
+ghost use Rattle.std.specs.Prelude.{◌≡◌, ℕ, List, Err};
+ghost use Rattle.toml.specs.Data.{Members};
+ghost use Rattle.desc_schema.specs.declared.fault.Place.{Place};
+ghost use Rattle.desc_schema.specs.declared.fault.WalkFault.TheVariants.{UnknownKey};
+ghost use Rattle.desc_schema.specs.Form.{Field};
+ghost use Rattle.desc_schema.specs.Walk.{all_known, IsLeastUnknown};
+ghost use Rattle.desc_schema.specs.Answers.{OneAnswer};
+ghost use Rattle.desc_schema.specs.Deep.{WalksAreDeepEnough};
+ghost use Rattle.desc_schema.specs.Fits.{WalkedValuesFit};
+ghost use Rattle.desc_schema.specs.Written.{IsReadBack, hyphenated, WrittenValuesAreWalked};
+
+/// Says that `walk_document` has one answer for a document and a schema, aside from want of memory.
+pub fn one_answer_is_given()
+    ensures { OneAnswer }
+{}
+
+/// Says that the unknown key that a walk names is the least of its table's by its bytes: it is one of them, it isn't the schema's,
+/// and no other such key comes before it.
+pub fn least_unknown_key_is_named()
+    ensures { (place : Place) (fields : List Field) (table : Members) (name : List ℕ) → all_known place fields table ≡ Err (UnknownKey place name)
+        → IsLeastUnknown fields name table }
+{}
+
+/// Says that a walk leaves out no inner table, where each table of the schema stands before the tables inside it: one that may go
+/// deeper gives the same.
+pub fn walks_are_deep_enough()
+    ensures { WalksAreDeepEnough }
+{}
+
+/// Says that the values that a walk gives fit their kinds, key by key: a number lies within its limits, a word's place is that of
+/// one of its words, a count is followed by so many tables or values; or they are what stands where a key is left out.
+pub fn walked_values_fit()
+    ensures { WalkedValuesFit }
+{}
+
+/// Says that the document that is written of values, in the schema's order, is walked as these values again, however UUIDs are
+/// spelled so that they are read back. The values fit the schema, whose names and words differ, and whose defaults are of their kind.
+pub fn written_values_are_walked()
+    ensures { WrittenValuesAreWalked }
+{}
+
+/// Says that a UUID that is spelled in the hyphenated form, in lower case (RFC 9562, section 4), is read back.
+pub fn hyphenated_uuids_are_read_back()
+    ensures { IsReadBack hyphenated }
+{}

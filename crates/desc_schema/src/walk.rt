@@ -1,0 +1,273 @@
+ghost use Rattle.std.specs.Prelude.{◌≡◌, option_map};
+ghost use Rattle.std.specs.List.{list_any};
+ghost use Rattle.std.specs.Str.{bytes_eq};
+ghost use Rattle.toml.specs.Data.{get_member, as_table, as_array};
+ghost use Rattle.toml.specs.View.{view, table_view, items_view};
+ghost use Rattle.desc_schema.specs.Form.{form_of, shape_of, default_of, field_of, fields_of, schema_of, fields_at};
+ghost use Rattle.desc_schema.specs.Faults.{Gives, alone, key_at, of_kind};
+ghost use Rattle.desc_schema.specs.Single.{item_of, otherwise_of};
+ghost use Rattle.desc_schema.specs.Walk.{after, one, element, elements, singles, shaped, at_field, all_known, table_walked, walked};
+
+use crate::fault::{KeyPlace, Place, WalkError, WalkFault};
+use crate::item::{Item, Items};
+use crate::positions::{first_positions, take_position};
+use crate::schema::{Key, Kind, Otherwise, Scalar, TableSchema};
+use crate::single::{item_of, otherwise_of, text_of};
+use std::alloc::Global;
+use toml::{Table, Value};
+use vt_outside::List;
+
+// How far a walk is: the values so far, and how many elements of each table were met.
+#[derive(Drop)]
+struct Progress {
+    items: Items,
+    positions: List<u32>,
+}
+
+/// Returns the values of the document whose root table is `root`, in the order of `schema`, or the first fault. The root's keys
+/// are those of the schema's table 0. Each table of the schema is to stand before the tables inside it, so that none stands inside
+/// itself: of tables inside one another no more are walked than the schema has. `alloc` is where the values, and the name of an
+/// unknown key, take their memory from.
+pub fn walk_document(
+    alloc: Global,
+    schema: &[TableSchema],
+    root: &Table,
+) -> Result<Items, WalkError>
+    ensures { Gives (λ items. items) result (walked (schema_of schema.now) (table_view root.now)) }
+{
+    let mut progress = Progress {
+        items: Items::new(alloc),
+        positions: first_positions(alloc, schema.len())?,
+    };
+    let place = Place { table: 0, index: 0 };
+    push_table(alloc, schema, schema.len(), place, root, &mut progress)?;
+    Ok(progress.items)
+}
+
+// The values of a table.
+#[cycle(walking)]
+fn push_table(
+    alloc: Global,
+    schema: &[TableSchema],
+    depth: usize,
+    place: Place,
+    table: &Table,
+    progress: &mut Progress,
+) -> Result<(), WalkError>
+    ensures { Gives (λ _. (progress.new.items, progress.new.positions)) result
+        (after progress.old.items (table_walked (schema_of schema.now) depth place (table_view table.now) progress.old.positions)) }
+{
+    if depth == 0 {
+        return Ok(());
+    }
+    let keys = keys_at(schema, place.table);
+    only_known(alloc, place, keys, table)?;
+    let inner = depth - 1;
+    let mut number = 0;
+    while number < keys.len() {
+        let at = place.key(number);
+        push_key(alloc, schema, inner, at, keys[number], table, progress)?;
+        number += 1;
+    }
+    Ok(())
+}
+
+// The values at a key.
+#[cycle(walking)]
+fn push_key(
+    alloc: Global,
+    schema: &[TableSchema],
+    depth: usize,
+    at: KeyPlace,
+    key: Key,
+    table: &Table,
+    progress: &mut Progress,
+) -> Result<(), WalkError>
+    ensures { Gives (λ _. (progress.new.items, progress.new.positions)) result
+        (after progress.old.items (at_field (table_walked (schema_of schema.now) depth) at (field_of key) (table_view table.now) progress.old.positions)) }
+{
+    match value_at(table, key.name) {
+        Some(value) => push_value(alloc, schema, depth, at, key.kind, value, progress),
+        None => push_default(alloc, at, key.otherwise, progress),
+    }
+}
+
+// The values of what stands at a key.
+#[cycle(walking)]
+fn push_value(
+    alloc: Global,
+    schema: &[TableSchema],
+    depth: usize,
+    at: KeyPlace,
+    kind: Kind,
+    value: &Value,
+    progress: &mut Progress,
+) -> Result<(), WalkError>
+    ensures { Gives (λ _. (progress.new.items, progress.new.positions)) result
+        (after progress.old.items (shaped (table_walked (schema_of schema.now) depth) at (shape_of kind) (view value.now) progress.old.positions)) }
+{
+    match kind {
+        Kind::One(scalar) => push_one(alloc, at, scalar, value, progress),
+        Kind::Table(table) => {
+            let inside = table_of(at, value)?;
+            progress.items.push(Item::Count(1))?;
+            let place = Place { table, index: 0 };
+            push_table(alloc, schema, depth, place, inside, progress)
+        }
+        Kind::Tables(table) => {
+            let values = values_of(at, value)?;
+            progress.items.push(Item::Count(values.len()))?;
+            push_elements(alloc, schema, depth, at, table, values, progress)
+        }
+        Kind::Values(scalar) => {
+            let values = values_of(at, value)?;
+            progress.items.push(Item::Count(values.len()))?;
+            push_singles(alloc, at, scalar, values, progress)
+        }
+    }
+}
+
+// The values of the tables of an array.
+#[cycle(walking)]
+fn push_elements(
+    alloc: Global,
+    schema: &[TableSchema],
+    depth: usize,
+    at: KeyPlace,
+    table: u8,
+    values: &[Value],
+    progress: &mut Progress,
+) -> Result<(), WalkError>
+    ensures { Gives (λ _. (progress.new.items, progress.new.positions)) result
+        (after progress.old.items (elements (table_walked (schema_of schema.now) depth) at table (items_view values.now) progress.old.positions)) }
+{
+    let mut index = 0;
+    while index < values.len() {
+        push_element(alloc, schema, depth, at, table, &values[index], progress)?;
+        index += 1;
+    }
+    Ok(())
+}
+
+// The values of one table of an array.
+#[cycle(walking)]
+fn push_element(
+    alloc: Global,
+    schema: &[TableSchema],
+    depth: usize,
+    at: KeyPlace,
+    table: u8,
+    value: &Value,
+    progress: &mut Progress,
+) -> Result<(), WalkError>
+    ensures { Gives (λ _. (progress.new.items, progress.new.positions)) result
+        (after progress.old.items (element (table_walked (schema_of schema.now) depth) at table (view value.now) progress.old.positions)) }
+{
+    let inside = table_of(at, value)?;
+    let index = take_position(&mut progress.positions, table);
+    let place = Place { table, index };
+    push_table(alloc, schema, depth, place, inside, progress)
+}
+
+// The values of an array of single values.
+fn push_singles(
+    alloc: Global,
+    at: KeyPlace,
+    scalar: Scalar,
+    values: &[Value],
+    progress: &mut Progress,
+) -> Result<(), WalkError>
+    ensures { Gives (λ _. (progress.new.items, progress.new.positions)) result
+        (after progress.old.items (singles at (form_of scalar) (items_view values.now) progress.old.positions)) }
+{
+    let mut index = 0;
+    while index < values.len() {
+        push_one(alloc, at, scalar, &values[index], progress)?;
+        index += 1;
+    }
+    Ok(())
+}
+
+// A single value.
+fn push_one(
+    alloc: Global,
+    at: KeyPlace,
+    scalar: Scalar,
+    value: &Value,
+    progress: &mut Progress,
+) -> Result<(), WalkError>
+    ensures { Gives (λ _. (progress.new.items, progress.new.positions)) result
+        (after progress.old.items (one (item_of at (form_of scalar) (view value.now)) progress.old.positions)) }
+{
+    let item = item_of(alloc, at, scalar, value)?;
+    progress.items.push(item)?;
+    Ok(())
+}
+
+// What stands for a key that is left out.
+fn push_default(
+    alloc: Global,
+    at: KeyPlace,
+    otherwise: Otherwise,
+    progress: &mut Progress,
+) -> Result<(), WalkError>
+    ensures { Gives (λ _. (progress.new.items, progress.new.positions)) result
+        (after progress.old.items (one (otherwise_of at (default_of otherwise)) progress.old.positions)) }
+{
+    let item = otherwise_of(alloc, at, otherwise)?;
+    progress.items.push(item)?;
+    Ok(())
+}
+
+// The keys of a table, by its number; a table that isn't the schema's has none.
+fn keys_at(schema: &[TableSchema], table: u8) -> &'static [Key]
+    ensures { fields_of result.now ≡ fields_at (schema_of schema.now) table }
+{
+    match schema.get(table as usize) {
+        Some(table) => table.keys,
+        None => &[],
+    }
+}
+
+fn table_of<'a>(at: KeyPlace, value: &'a Value) -> Result<&'a Table, WalkError>
+    ensures { Gives (λ inside. table_view inside.now) result (of_kind at (as_table (view value.now))) }
+{
+    match value.as_table() {
+        Some(inside) => Ok(inside),
+        None => Err(WalkError::Fault(WalkFault::WrongKind(at))),
+    }
+}
+
+fn values_of<'a>(at: KeyPlace, value: &'a Value) -> Result<&'a [Value], WalkError>
+    ensures { Gives (λ values. items_view values.now) result (of_kind at (as_array (view value.now))) }
+{
+    match value.as_array() {
+        Some(values) => Ok(values.as_slice()),
+        None => Err(WalkError::Fault(WalkFault::WrongKind(at))),
+    }
+}
+
+// Refuses the first key of the table that isn't one of `keys`: the least one, since the table's keys ascend.
+fn only_known(alloc: Global, place: Place, keys: &[Key], table: &Table) -> Result<(), WalkError>
+    ensures { Gives (λ done. done) result (all_known place (fields_of keys.now) (table_view table.now)) }
+{
+    for name in table.keys() {
+        if !is_named(keys, name.as_str()) {
+            let unknown = text_of(alloc, name.as_str())?;
+            return Err(WalkError::Fault(WalkFault::UnknownKey(place, unknown)));
+        }
+    }
+    Ok(())
+}
+
+fn is_named(keys: &[Key], name: &str) -> bool
+    ensures { result ≡ list_any (λ key. bytes_eq key.name.now name.now) keys.now }
+{
+    keys.iter().any(|key| *key.name == *name)
+}
+
+fn value_at<'a>(table: &'a Table, key: &str) -> Option<&'a Value>
+    ensures { option_map (λ value. view value.now) result ≡ get_member key.now (table_view table.now) }
+{
+    table.get(key)
+}

@@ -1,0 +1,55 @@
+ghost use Rattle.std.specs.Prelude.{◌≡◌};
+ghost use Rattle.desc_toml.specs.Reading.{told};
+
+use desc_schema::{KeyPlace, Place, WalkFault};
+use vt_outside::Text;
+
+/// Says why bytes weren't read as a machine. Each fault is the first one of the bytes. A table is named by its number (0 for the
+/// root, 1 for `system`, 8 for `acpi`, 10 for `hpet`), and a key of it by its place among the table's keys, counted from 0; `index`
+/// is 0 for a table that is no element of an array. A fault of a table as a whole is one at the key of the table that it stands in.
+#[derive(Debug, Drop)]
+pub enum DescFault {
+    /// The bytes aren't UTF-8, or no TOML document.
+    NotToml,
+    /// The table has a key that isn't one of its keys; of these it is the least by its bytes, which are given.
+    UnknownKey { table: u8, index: u32, key: Text },
+    /// A key that must be there is left out.
+    MissingKey { table: u8, index: u32, key: u8 },
+    /// The value at a key is of another kind than the key's.
+    WrongKind { table: u8, index: u32, key: u8 },
+    /// An integer isn't within the key's limits, or a text is no UUID.
+    OutOfRange { table: u8, index: u32, key: u8 },
+    /// The machine breaks the rule of this number, at this least index, and none before it; `Machine::check` says what each rule
+    /// asks.
+    Broken { rule: u8, index: u32 },
+    /// Memory ran out, which may be at any bytes.
+    OutOfMemory,
+}
+
+// The fault of a walk, as the reader tells it.
+pub(crate) fn told(fault: WalkFault) -> DescFault
+    ensures { result ≡ told fault }
+{
+    match fault {
+        WalkFault::UnknownKey(Place { table, index }, key) => DescFault::UnknownKey {
+            table,
+            index,
+            key,
+        },
+        WalkFault::MissingKey(KeyPlace { table, index, key }) => DescFault::MissingKey {
+            table,
+            index,
+            key,
+        },
+        WalkFault::WrongKind(KeyPlace { table, index, key }) => DescFault::WrongKind {
+            table,
+            index,
+            key,
+        },
+        WalkFault::OutOfRange(KeyPlace { table, index, key }) => DescFault::OutOfRange {
+            table,
+            index,
+            key,
+        },
+    }
+}

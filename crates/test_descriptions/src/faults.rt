@@ -1,0 +1,667 @@
+//! Each fault at each table, and of the rules: the text of a description, and its first fault.
+
+use crate::told::told;
+use std::test::Fail;
+
+// The root.
+const AT_THE_ROOT: [(&str, &str); 47] = [
+    ("", "missing 0 0 0"),
+    ("a = 1", "unknown 0 0 a"),
+    ("zz = 1\nabc = 2", "unknown 0 0 abc"),
+    ("b = 1\nB = 2\n\"\" = 3", "unknown 0 0 "),
+    ("versions = 1\nversion = 2", "unknown 0 0 versions"),
+    ("Version = 1", "unknown 0 0 Version"),
+    ("'\u{e9}' = 1", "unknown 0 0 \u{e9}"),
+    ("firmware = {}\nversion = 1", "unknown 0 0 firmware"),
+    ("[colour]\nx = 1\n[bus]", "unknown 0 0 bus"),
+    ("[[cpu]]", "unknown 0 0 cpu"),
+    ("top_mib = 64", "missing 0 0 0"),
+    ("version = '1'", "wrong kind 0 0 0"),
+    ("version = 1.0", "wrong kind 0 0 0"),
+    ("version = true", "wrong kind 0 0 0"),
+    ("version = [1]", "wrong kind 0 0 0"),
+    ("version = {}", "wrong kind 0 0 0"),
+    ("version = 2024-01-02", "wrong kind 0 0 0"),
+    ("version = nan", "wrong kind 0 0 0"),
+    ("version = 0", "out of range 0 0 0"),
+    ("version = 2", "out of range 0 0 0"),
+    ("version = -1", "out of range 0 0 0"),
+    ("version = 9223372036854775807", "out of range 0 0 0"),
+    ("version = -9223372036854775808", "out of range 0 0 0"),
+    ("version = 2\ntop_mib = 'a'", "out of range 0 0 0"),
+    ("version = 1\n", "missing 0 0 1"),
+    ("version = 1\nsystem = {}", "missing 0 0 1"),
+    ("version = 1\ntop_mib = '64'", "wrong kind 0 0 1"),
+    ("version = 1\ntop_mib = 64.0", "wrong kind 0 0 1"),
+    ("version = 1\ntop_mib = inf", "wrong kind 0 0 1"),
+    ("version = 1\ntop_mib = 07:32:00", "wrong kind 0 0 1"),
+    ("version = 1\ntop_mib = []", "wrong kind 0 0 1"),
+    ("version = 1\ntop_mib = -64", "out of range 0 0 1"),
+    ("version = 1\ntop_mib = 4294967296", "out of range 0 0 1"),
+    ("version = 1\ntop_mib = 4294967295", "missing 0 0 2"),
+    ("version = 1\ntop_mib = 64\n", "missing 0 0 2"),
+    ("version = 1\ntop_mib = 64\n[acpi]\nx = 1", "missing 0 0 2"),
+    ("version = 1\ntop_mib = 64\nsystem = 1", "wrong kind 0 0 2"),
+    (
+        "version = 1\ntop_mib = 64\nsystem = 'a'",
+        "wrong kind 0 0 2",
+    ),
+    (
+        "version = 1\ntop_mib = 64\nsystem = [{}]",
+        "wrong kind 0 0 2",
+    ),
+    ("version = 1\ntop_mib = 64\n[[system]]", "wrong kind 0 0 2"),
+    (
+        "version = 1\ntop_mib = 64\nsystem = {}\nacpi = true",
+        "wrong kind 0 0 3",
+    ),
+    (
+        "version = 1\ntop_mib = 64\nsystem = {}\nacpi = 0",
+        "wrong kind 0 0 3",
+    ),
+    (
+        "version = 1\ntop_mib = 64\nsystem = {}\n[[acpi]]",
+        "wrong kind 0 0 3",
+    ),
+    (
+        "version = 1\ntop_mib = 64\nsystem = {}\nacpi = ''\nhpet = ''",
+        "wrong kind 0 0 3",
+    ),
+    (
+        "version = 1\ntop_mib = 64\nsystem = {}\nhpet = true",
+        "wrong kind 0 0 4",
+    ),
+    (
+        "version = 1\ntop_mib = 64\nsystem = {}\nhpet = 1979-05-27T07:32:00Z",
+        "wrong kind 0 0 4",
+    ),
+    (
+        "version = 1\ntop_mib = 64\nsystem = {}\n[[hpet]]",
+        "wrong kind 0 0 4",
+    ),
+];
+
+// The table `system`.
+const OF_THE_SYSTEM: [(&str, &str); 50] = [
+    (
+        "version = 1\ntop_mib = 64\nsystem = {colour = 'red'}",
+        "unknown 1 0 colour",
+    ),
+    (
+        "version = 1\ntop_mib = 64\n[system]\nvendor = 1\nproduct = 2\nname = 3",
+        "unknown 1 0 name",
+    ),
+    (
+        "version = 1\ntop_mib = 64\n[system.extra]",
+        "unknown 1 0 extra",
+    ),
+    (
+        "version = 1\ntop_mib = 64\n[system]\nuuid = 1\nUUID = 2",
+        "unknown 1 0 UUID",
+    ),
+    (
+        "version = 1\ntop_mib = 64\nsystem.manufacturer = 1",
+        "wrong kind 1 0 0",
+    ),
+    (
+        "version = 1\ntop_mib = 64\nsystem.manufacturer = ['a']",
+        "wrong kind 1 0 0",
+    ),
+    (
+        "version = 1\ntop_mib = 64\nsystem.product = 1",
+        "wrong kind 1 0 1",
+    ),
+    (
+        "version = 1\ntop_mib = 64\nsystem.product = ['a']",
+        "wrong kind 1 0 1",
+    ),
+    (
+        "version = 1\ntop_mib = 64\nsystem.version = 1",
+        "wrong kind 1 0 2",
+    ),
+    (
+        "version = 1\ntop_mib = 64\nsystem.version = ['a']",
+        "wrong kind 1 0 2",
+    ),
+    (
+        "version = 1\ntop_mib = 64\nsystem.serial = 1",
+        "wrong kind 1 0 3",
+    ),
+    (
+        "version = 1\ntop_mib = 64\nsystem.serial = ['a']",
+        "wrong kind 1 0 3",
+    ),
+    (
+        "version = 1\ntop_mib = 64\nsystem.sku = 1",
+        "wrong kind 1 0 4",
+    ),
+    (
+        "version = 1\ntop_mib = 64\nsystem.sku = ['a']",
+        "wrong kind 1 0 4",
+    ),
+    (
+        "version = 1\ntop_mib = 64\nsystem.family = 1",
+        "wrong kind 1 0 5",
+    ),
+    (
+        "version = 1\ntop_mib = 64\nsystem.family = ['a']",
+        "wrong kind 1 0 5",
+    ),
+    (
+        "version = 1\ntop_mib = 64\n[system]\nfamily = 1\nmanufacturer = 2\nuuid = 3",
+        "wrong kind 1 0 0",
+    ),
+    (
+        "version = 1\ntop_mib = 64\n[system]\nuuid = 1\nserial = true\nacpi = 1",
+        "unknown 1 0 acpi",
+    ),
+    (
+        "version = 1\ntop_mib = 64\nsystem.uuid = 1",
+        "wrong kind 1 0 6",
+    ),
+    (
+        "version = 1\ntop_mib = 64\nsystem.uuid = 1.5",
+        "wrong kind 1 0 6",
+    ),
+    (
+        "version = 1\ntop_mib = 64\nsystem.uuid = ''",
+        "out of range 1 0 6",
+    ),
+    (
+        "version = 1\ntop_mib = 64\nsystem.uuid = '00112233'",
+        "out of range 1 0 6",
+    ),
+    (
+        "version = 1\ntop_mib = 64\nsystem.uuid = '6f1a5e0c-2b4d-4c7e-9a38-0d5c1b7e42fg'",
+        "out of range 1 0 6",
+    ),
+    (
+        "version = 1\ntop_mib = 64\nsystem.uuid = '6f1a5e0c-2b4d-4c7e-9a38-0d5c1b7e42f9 '",
+        "out of range 1 0 6",
+    ),
+    (
+        "version = 1\ntop_mib = 64\nacpi = 1\nsystem.uuid = 'no'",
+        "out of range 1 0 6",
+    ),
+    (
+        "version = 1\ntop_mib = 64\nacpi = 1\nsystem.sku = 5",
+        "wrong kind 1 0 4",
+    ),
+    (
+        "version = 1\ntop_mib = 64\nsystem.manufacturer = true",
+        "wrong kind 1 0 0",
+    ),
+    (
+        "version = 1\ntop_mib = 64\nsystem.manufacturer = 1.5",
+        "wrong kind 1 0 0",
+    ),
+    (
+        "version = 1\ntop_mib = 64\nsystem.manufacturer = {}",
+        "wrong kind 1 0 0",
+    ),
+    (
+        "version = 1\ntop_mib = 64\nsystem.manufacturer = 2024-01-02",
+        "wrong kind 1 0 0",
+    ),
+    (
+        "version = 1\ntop_mib = 64\nsystem.product = true",
+        "wrong kind 1 0 1",
+    ),
+    (
+        "version = 1\ntop_mib = 64\nsystem.product = 1.5",
+        "wrong kind 1 0 1",
+    ),
+    (
+        "version = 1\ntop_mib = 64\nsystem.product = {}",
+        "wrong kind 1 0 1",
+    ),
+    (
+        "version = 1\ntop_mib = 64\nsystem.product = 2024-01-02",
+        "wrong kind 1 0 1",
+    ),
+    (
+        "version = 1\ntop_mib = 64\nsystem.version = true",
+        "wrong kind 1 0 2",
+    ),
+    (
+        "version = 1\ntop_mib = 64\nsystem.version = 1.5",
+        "wrong kind 1 0 2",
+    ),
+    (
+        "version = 1\ntop_mib = 64\nsystem.version = {}",
+        "wrong kind 1 0 2",
+    ),
+    (
+        "version = 1\ntop_mib = 64\nsystem.version = 2024-01-02",
+        "wrong kind 1 0 2",
+    ),
+    (
+        "version = 1\ntop_mib = 64\nsystem.serial = true",
+        "wrong kind 1 0 3",
+    ),
+    (
+        "version = 1\ntop_mib = 64\nsystem.serial = 1.5",
+        "wrong kind 1 0 3",
+    ),
+    (
+        "version = 1\ntop_mib = 64\nsystem.serial = {}",
+        "wrong kind 1 0 3",
+    ),
+    (
+        "version = 1\ntop_mib = 64\nsystem.serial = 2024-01-02",
+        "wrong kind 1 0 3",
+    ),
+    (
+        "version = 1\ntop_mib = 64\nsystem.sku = true",
+        "wrong kind 1 0 4",
+    ),
+    (
+        "version = 1\ntop_mib = 64\nsystem.sku = 1.5",
+        "wrong kind 1 0 4",
+    ),
+    (
+        "version = 1\ntop_mib = 64\nsystem.sku = {}",
+        "wrong kind 1 0 4",
+    ),
+    (
+        "version = 1\ntop_mib = 64\nsystem.sku = 2024-01-02",
+        "wrong kind 1 0 4",
+    ),
+    (
+        "version = 1\ntop_mib = 64\nsystem.family = true",
+        "wrong kind 1 0 5",
+    ),
+    (
+        "version = 1\ntop_mib = 64\nsystem.family = 1.5",
+        "wrong kind 1 0 5",
+    ),
+    (
+        "version = 1\ntop_mib = 64\nsystem.family = {}",
+        "wrong kind 1 0 5",
+    ),
+    (
+        "version = 1\ntop_mib = 64\nsystem.family = 2024-01-02",
+        "wrong kind 1 0 5",
+    ),
+];
+
+// The table `acpi`.
+const OF_ACPI: [(&str, &str); 15] = [
+    (
+        "version = 1\ntop_mib = 64\nsystem = {}\n[acpi]\noem = 'A'",
+        "unknown 8 0 oem",
+    ),
+    (
+        "version = 1\ntop_mib = 64\nsystem = {}\n[acpi]\noem_id = 1\nrevision = 2\ncreator = 3",
+        "unknown 8 0 creator",
+    ),
+    (
+        "version = 1\ntop_mib = 64\nsystem = {}\n[acpi]\noem_id = 1",
+        "wrong kind 8 0 0",
+    ),
+    (
+        "version = 1\ntop_mib = 64\nsystem = {}\n[acpi]\noem_id = false\noem_table_id = 1",
+        "wrong kind 8 0 0",
+    ),
+    (
+        "version = 1\ntop_mib = 64\nsystem = {}\n[acpi]\noem_id = {}",
+        "wrong kind 8 0 0",
+    ),
+    (
+        "version = 1\ntop_mib = 64\nsystem = {}\n[acpi]\noem_table_id = 1",
+        "wrong kind 8 0 1",
+    ),
+    (
+        "version = 1\ntop_mib = 64\nsystem = {}\n[acpi]\noem_table_id = 2024-01-02",
+        "wrong kind 8 0 1",
+    ),
+    (
+        "version = 1\ntop_mib = 64\nsystem = {}\nhpet = 1\nacpi.oem_table_id = []",
+        "wrong kind 8 0 1",
+    ),
+    (
+        "version = 1\ntop_mib = 64\nsystem = {}\nhpet = 1\nacpi = {}",
+        "wrong kind 0 0 4",
+    ),
+    (
+        "version = 1\ntop_mib = 64\nsystem = {}\nacpi.oem_id = 0.5",
+        "wrong kind 8 0 0",
+    ),
+    (
+        "version = 1\ntop_mib = 64\nsystem = {}\nacpi.oem_id = true",
+        "wrong kind 8 0 0",
+    ),
+    (
+        "version = 1\ntop_mib = 64\nsystem = {}\nacpi.oem_id = [['A']]",
+        "wrong kind 8 0 0",
+    ),
+    (
+        "version = 1\ntop_mib = 64\nsystem = {}\nacpi.oem_table_id = 0.5",
+        "wrong kind 8 0 1",
+    ),
+    (
+        "version = 1\ntop_mib = 64\nsystem = {}\nacpi.oem_table_id = true",
+        "wrong kind 8 0 1",
+    ),
+    (
+        "version = 1\ntop_mib = 64\nsystem = {}\nacpi.oem_table_id = [['A']]",
+        "wrong kind 8 0 1",
+    ),
+];
+
+// The table `hpet`.
+const OF_THE_HPET: [(&str, &str); 36] = [
+    (
+        "version = 1\ntop_mib = 64\nsystem = {}\n[hpet]\nadress = 1",
+        "unknown 10 0 adress",
+    ),
+    (
+        "version = 1\ntop_mib = 64\nsystem = {}\n[hpet]\naddress = 1\nperiod = 1\nirq = 1",
+        "unknown 10 0 irq",
+    ),
+    (
+        "version = 1\ntop_mib = 64\nsystem = {}\nhpet.address = '0'",
+        "wrong kind 10 0 0",
+    ),
+    (
+        "version = 1\ntop_mib = 64\nsystem = {}\nhpet.address = 0.5",
+        "wrong kind 10 0 0",
+    ),
+    (
+        "version = 1\ntop_mib = 64\nsystem = {}\nhpet.address = 4294967296",
+        "out of range 10 0 0",
+    ),
+    (
+        "version = 1\ntop_mib = 64\nsystem = {}\nhpet.address = -1",
+        "out of range 10 0 0",
+    ),
+    (
+        "version = 1\ntop_mib = 64\nsystem = {}\nhpet.address = 4294967295",
+        "rule 13 index 1",
+    ),
+    (
+        "version = 1\ntop_mib = 64\nsystem = {}\nhpet.block_id = '0'",
+        "wrong kind 10 0 1",
+    ),
+    (
+        "version = 1\ntop_mib = 64\nsystem = {}\nhpet.block_id = 0.5",
+        "wrong kind 10 0 1",
+    ),
+    (
+        "version = 1\ntop_mib = 64\nsystem = {}\nhpet.block_id = 4294967296",
+        "out of range 10 0 1",
+    ),
+    (
+        "version = 1\ntop_mib = 64\nsystem = {}\nhpet.block_id = -1",
+        "out of range 10 0 1",
+    ),
+    (
+        "version = 1\ntop_mib = 64\nsystem = {}\nhpet.block_id = 4294967295",
+        "rule 13 index 1",
+    ),
+    (
+        "version = 1\ntop_mib = 64\nsystem = {}\nhpet.number = '0'",
+        "wrong kind 10 0 2",
+    ),
+    (
+        "version = 1\ntop_mib = 64\nsystem = {}\nhpet.number = 0.5",
+        "wrong kind 10 0 2",
+    ),
+    (
+        "version = 1\ntop_mib = 64\nsystem = {}\nhpet.number = 256",
+        "out of range 10 0 2",
+    ),
+    (
+        "version = 1\ntop_mib = 64\nsystem = {}\nhpet.number = -1",
+        "out of range 10 0 2",
+    ),
+    (
+        "version = 1\ntop_mib = 64\nsystem = {}\nhpet.number = 255",
+        "rule 13 index 1",
+    ),
+    (
+        "version = 1\ntop_mib = 64\nsystem = {}\nhpet.min_tick = '0'",
+        "wrong kind 10 0 3",
+    ),
+    (
+        "version = 1\ntop_mib = 64\nsystem = {}\nhpet.min_tick = 0.5",
+        "wrong kind 10 0 3",
+    ),
+    (
+        "version = 1\ntop_mib = 64\nsystem = {}\nhpet.min_tick = 65536",
+        "out of range 10 0 3",
+    ),
+    (
+        "version = 1\ntop_mib = 64\nsystem = {}\nhpet.min_tick = -1",
+        "out of range 10 0 3",
+    ),
+    (
+        "version = 1\ntop_mib = 64\nsystem = {}\nhpet.min_tick = 65535",
+        "rule 13 index 1",
+    ),
+    (
+        "version = 1\ntop_mib = 64\nsystem = {}\n[hpet]\nmin_tick = -1\nblock_id = -1\nnumber = ''",
+        "out of range 10 0 1",
+    ),
+    (
+        "version = 1\ntop_mib = 64\nsystem = {}\n[hpet]\nmin_tick = 0x1_0000\nnumber = 0x100",
+        "out of range 10 0 2",
+    ),
+    (
+        "version = 1\ntop_mib = 64\nsystem = {}\nhpet.address = true",
+        "wrong kind 10 0 0",
+    ),
+    (
+        "version = 1\ntop_mib = 64\nsystem = {}\nhpet.address = []",
+        "wrong kind 10 0 0",
+    ),
+    (
+        "version = 1\ntop_mib = 64\nsystem = {}\nhpet.address = {}",
+        "wrong kind 10 0 0",
+    ),
+    (
+        "version = 1\ntop_mib = 64\nsystem = {}\nhpet.block_id = true",
+        "wrong kind 10 0 1",
+    ),
+    (
+        "version = 1\ntop_mib = 64\nsystem = {}\nhpet.block_id = []",
+        "wrong kind 10 0 1",
+    ),
+    (
+        "version = 1\ntop_mib = 64\nsystem = {}\nhpet.block_id = {}",
+        "wrong kind 10 0 1",
+    ),
+    (
+        "version = 1\ntop_mib = 64\nsystem = {}\nhpet.number = true",
+        "wrong kind 10 0 2",
+    ),
+    (
+        "version = 1\ntop_mib = 64\nsystem = {}\nhpet.number = []",
+        "wrong kind 10 0 2",
+    ),
+    (
+        "version = 1\ntop_mib = 64\nsystem = {}\nhpet.number = {}",
+        "wrong kind 10 0 2",
+    ),
+    (
+        "version = 1\ntop_mib = 64\nsystem = {}\nhpet.min_tick = true",
+        "wrong kind 10 0 3",
+    ),
+    (
+        "version = 1\ntop_mib = 64\nsystem = {}\nhpet.min_tick = []",
+        "wrong kind 10 0 3",
+    ),
+    (
+        "version = 1\ntop_mib = 64\nsystem = {}\nhpet.min_tick = {}",
+        "wrong kind 10 0 3",
+    ),
+];
+
+// Rules that a machine breaks.
+const OF_RULES: [(&str, &str); 23] = [
+    ("version = 1\ntop_mib = 63\n[system]", "rule 1 index 0"),
+    ("version = 1\ntop_mib = 3073\n[system]", "rule 1 index 0"),
+    ("version = 1\ntop_mib = 0\n[system]", "rule 1 index 0"),
+    (
+        "version = 1\ntop_mib = 4294967295\nsystem.product = \"\\n\"",
+        "rule 1 index 0",
+    ),
+    (
+        "version = 1\ntop_mib = 64\nsystem.product = \"\\n\"",
+        "rule 3 index 0",
+    ),
+    (
+        "version = 1\ntop_mib = 64\nsystem.family = '\u{e9}'",
+        "rule 3 index 0",
+    ),
+    (
+        "version = 1\ntop_mib = 64\nsystem.sku = '01234567890123456789012345678901234567890123456789012345678901234'",
+        "rule 3 index 0",
+    ),
+    (
+        "version = 1\ntop_mib = 64\n[system]\nserial = \"\\u007F\"\nuuid = '00000000-0000-0000-0000-000000000000'",
+        "rule 3 index 0",
+    ),
+    (
+        "version = 1\ntop_mib = 64\nsystem = {}\nacpi.oem_id = \"\\t\"",
+        "rule 3 index 0",
+    ),
+    (
+        "version = 1\ntop_mib = 64\nsystem.uuid = '00000000-0000-0000-0000-000000000000'",
+        "rule 4 index 0",
+    ),
+    (
+        "version = 1\ntop_mib = 64\nsystem.uuid = 'ffffffff-ffff-ffff-ffff-ffffffffffff'",
+        "rule 4 index 0",
+    ),
+    (
+        "version = 1\ntop_mib = 64\nhpet = {}\nsystem.uuid = 'ffffffff-ffff-ffff-ffff-ffffffffffff'",
+        "rule 4 index 0",
+    ),
+    (
+        "version = 1\ntop_mib = 64\nsystem = {}\nhpet = {}",
+        "rule 13 index 1",
+    ),
+    (
+        "version = 1\ntop_mib = 64\nsystem = {}\nhpet.address = 1",
+        "rule 13 index 1",
+    ),
+    (
+        "version = 1\ntop_mib = 64\nsystem = {}\nacpi.oem_id = 'ACMECO1'",
+        "rule 16 index 0",
+    ),
+    (
+        "version = 1\ntop_mib = 64\nsystem = {}\nacpi.oem_id = 'ACME '",
+        "rule 16 index 0",
+    ),
+    (
+        "version = 1\ntop_mib = 64\nsystem = {}\nacpi = {oem_id = ' ', oem_table_id = ' '}",
+        "rule 16 index 0",
+    ),
+    (
+        "version = 1\ntop_mib = 64\nsystem = {}\nacpi.oem_table_id = 'VMTABLES1'",
+        "rule 16 index 1",
+    ),
+    (
+        "version = 1\ntop_mib = 64\nsystem = {}\nacpi.oem_table_id = 'VM '",
+        "rule 16 index 1",
+    ),
+    (
+        "version = 1\ntop_mib = 64\nsystem = {}\nhpet.address = 1\nacpi.oem_table_id = ' '",
+        "rule 16 index 1",
+    ),
+    (
+        "version = 1\ntop_mib = 64\nsystem = {}\nacpi = {}\nhpet.address = 1",
+        "rule 18 index 0",
+    ),
+    (
+        "version = 1\ntop_mib = 64\nsystem = {}\nacpi = {}\nhpet.address = 512",
+        "rule 18 index 0",
+    ),
+    (
+        "version = 1\ntop_mib = 64\nsystem = {}\nacpi = {}\nhpet.address = 4294967295",
+        "rule 18 index 0",
+    ),
+];
+
+// Texts that are no TOML document.
+const NO_TOML: [&str; 24] = [
+    "version",
+    "version =",
+    "version = 1\nversion = 1",
+    "= 1",
+    "[system",
+    "version = 1 top_mib = 64",
+    "version = 01",
+    "version = 9223372036854775808",
+    "top_mib = 1234567890123456789012345678901234567890",
+    "top_mib = -9223372036854775809",
+    "a = 'b",
+    "a = [1",
+    "a = {b = 1",
+    "[a]\n[a]",
+    "a = 1\n[a]",
+    "a = \"\\x\"",
+    "a = 2024-13-01",
+    "a = 1979-05-27T25:00:00Z",
+    "a.b = 1\na = 2",
+    "{}",
+    "[]",
+    "\u{0}",
+    "a = 1\rb = 2",
+    "version = 1\n[system]\n]",
+];
+
+#[test]
+fn faults_at_the_root(rt: HostRuntime) -> Result<(), Fail> {
+    for (text, fault) in &AT_THE_ROOT {
+        let told = told(rt.alloc(), text.as_bytes())?;
+        assert_eq!(rt; told.as_str(), *fault, "of {text}");
+    }
+    Ok(())
+}
+
+#[test]
+fn faults_of_the_system(rt: HostRuntime) -> Result<(), Fail> {
+    for (text, fault) in &OF_THE_SYSTEM {
+        let told = told(rt.alloc(), text.as_bytes())?;
+        assert_eq!(rt; told.as_str(), *fault, "of {text}");
+    }
+    Ok(())
+}
+
+#[test]
+fn faults_of_acpi(rt: HostRuntime) -> Result<(), Fail> {
+    for (text, fault) in &OF_ACPI {
+        let told = told(rt.alloc(), text.as_bytes())?;
+        assert_eq!(rt; told.as_str(), *fault, "of {text}");
+    }
+    Ok(())
+}
+
+#[test]
+fn faults_of_the_hpet(rt: HostRuntime) -> Result<(), Fail> {
+    for (text, fault) in &OF_THE_HPET {
+        let told = told(rt.alloc(), text.as_bytes())?;
+        assert_eq!(rt; told.as_str(), *fault, "of {text}");
+    }
+    Ok(())
+}
+
+#[test]
+fn rules_that_are_broken(rt: HostRuntime) -> Result<(), Fail> {
+    for (text, fault) in &OF_RULES {
+        let told = told(rt.alloc(), text.as_bytes())?;
+        assert_eq!(rt; told.as_str(), *fault, "of {text}");
+    }
+    Ok(())
+}
+
+#[test]
+fn texts_that_are_no_documents(rt: HostRuntime) -> Result<(), Fail> {
+    for text in &NO_TOML {
+        let told = told(rt.alloc(), text.as_bytes())?;
+        assert_eq!(rt; told.as_str(), "not TOML", "of {text}");
+    }
+    Ok(())
+}

@@ -1,0 +1,13 @@
+//! Tests of the reader of descriptions: the machines that are read, and each fault at each table.
+#![tactic(auto)]
+
+#[cfg(test)]
+mod bytes;
+#[cfg(test)]
+mod faults;
+#[cfg(test)]
+mod machines;
+#[cfg(test)]
+mod nesting;
+#[cfg(test)]
+mod told;
