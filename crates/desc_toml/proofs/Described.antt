@@ -16,8 +16,8 @@ use Rattle.desc_toml.proofs.Names.{names, known_from_only, only_from_known}
 use Rattle.desc_toml.proofs.Singles.{uuid_item}
 use Rattle.desc_toml.proofs.Chain.{on_with, came_of, table_items, part_items}
 use Rattle.desc_toml.proofs.Keyed.{Gives, Gave, IsGivenBy, IsTakenFrom, none_then, none_taken, put, text_then, text_first, number_then, number_first}
-use Rattle.desc_toml.proofs.Keyed.{text_items, number_items, uuid_items, needed_then, needed_first, uuid_then, uuid_first}
-use Rattle.desc_toml.proofs.Keyed.{table_then, table_first, part_then, part_first}
+use Rattle.desc_toml.proofs.Keyed.{text_items, number_items, uuid_items, needed_then, needed_first, uuid_then, uuid_first, table_then, table_first}
+use Rattle.desc_toml.proofs.Keyed.{part_then, part_first}
 
 -- the values of each table
 

@@ -8,3 +8,5 @@ pub mod Keyed
 pub mod Described
 pub mod Again
 pub mod Says
+pub mod Shown
+pub mod Faulty

@@ -1,9 +1,11 @@
 //! Laws of what bytes are read as. Each is the contract of a function that does nothing.
 
-ghost use Rattle.std.specs.Prelude.{◌≡◌, ◌↔◌, ℕ, List};
+ghost use Rattle.std.specs.Prelude.{◌≡◌, None, Some, ◌↔◌, ℕ, List};
 ghost use Rattle.machine_desc.specs.declared.machine.Machine.{Machine};
 ghost use Rattle.machine_desc.specs.Rules.{IsAccepted};
-ghost use Rattle.desc_toml.specs.Reading.{Reads};
+ghost use Rattle.desc_toml.specs.Reading.{Reads, Fails, read_of, fault_of};
+ghost use Rattle.desc_toml.specs.declared.fault.DescFault.{DescFault};
+ghost use Rattle.desc_toml.specs.declared.fault.DescFault.TheVariants.{OutOfMemory};
 ghost use Rattle.desc_toml.specs.Tables.{Describes};
 
 /// Says that at most one machine is read from given bytes.
@@ -20,4 +22,10 @@ pub fn read_machine_is_accepted()
 /// the machine keeps every rule.
 pub fn machine_is_read_as_the_tables_say()
     ensures { (bytes : List ℕ) (machine : Machine) → Reads bytes machine ↔ Describes bytes machine }
+{}
+
+/// Says that what the reader tells, unless memory ran out, is the fault of the bytes, and that bytes that are read have none.
+pub fn told_fault_is_of_the_bytes()
+    ensures told { (bytes : List ℕ) (fault : DescFault) → Fails fault (read_of bytes) → ¬ (fault ≡ OutOfMemory) → fault_of bytes ≡ Some fault }
+    ensures none { (bytes : List ℕ) (machine : Machine) → Reads bytes machine → fault_of bytes ≡ None }
 {}

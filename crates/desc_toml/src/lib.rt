@@ -4,15 +4,18 @@
 //! row there, and its field where the machine is made of the values. The reader takes the bytes as UTF-8, then as a document, walks
 //! the document by the schema, makes the machine of the values, and checks its rules; the first of these that fails is the fault.
 //!
-//! The contract is exact: what bytes are read as is a function of the bytes, want of memory aside. The laws say when a
-//! machine is read in the words of the tables, key by key, that at most one is read from given bytes, and that it keeps every rule.
+//! The contract is exact: what bytes are read as is a function of the bytes, want of memory aside, and so is the line that tells
+//! a fault. The laws say when a machine is read in the words of the tables, key by key, that at most one is read from given bytes,
+//! and that it keeps every rule.
 #![tactic(auto)]
 
 mod fault;
 pub mod laws;
+mod line;
 mod machine;
 mod read;
 mod schema;
 
 pub use fault::DescFault;
+pub use line::Line;
 pub use read::read_machine;

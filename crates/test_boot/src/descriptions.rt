@@ -1,123 +1,343 @@
 //! Descriptions that are refused, and those on the border that are accepted.
 
-use fixtures::{BOOTED, boot, copy_of, ends, put_text};
+use fixtures::{BOOTED, boot, copy_of, ends, put_text, refused};
 use std::alloc::Global;
 use std::test::Fail;
 use vt_outside::{Bytes, OutOfMemory};
 
-// Each is a description of its own.
-const REFUSED: [&str; 44] = [
+// Each is a description of its own, and the line of its first fault.
+const REFUSED: [(&str, &str); 44] = [
     // tops
-    "version = 1\ntop_mib = 63\nsystem = {}\n",
-    "version = 1\ntop_mib = 3073\nsystem = {}\n",
-    "version = 1\ntop_mib = 64.0\nsystem = {}\n",
-    "version = 1\ntop_mib = \"64\"\nsystem = {}\n",
-    "version = 1\ntop_mib = -64\nsystem = {}\n",
-    "version = 1\ntop_mib = 4294967360\nsystem = {}\n",
-    "version = 1\ntop_mib = true\nsystem = {}\n",
-    "version = 1\ntop_mib = 18446744073709551680\nsystem = {}\n",
-    "version = 1\ntop_mib = 064\nsystem = {}\n",
-    "version = 1\ntop_mib = 0x\nsystem = {}\n",
-    "version = 1\ntop_mib = \nsystem = {}\n",
+    (
+        "version = 1\ntop_mib = 63\nsystem = {}\n",
+        "description: rule 1 index 0",
+    ),
+    (
+        "version = 1\ntop_mib = 3073\nsystem = {}\n",
+        "description: rule 1 index 0",
+    ),
+    (
+        "version = 1\ntop_mib = 64.0\nsystem = {}\n",
+        "description: wrong kind root 0 top_mib",
+    ),
+    (
+        "version = 1\ntop_mib = \"64\"\nsystem = {}\n",
+        "description: wrong kind root 0 top_mib",
+    ),
+    (
+        "version = 1\ntop_mib = -64\nsystem = {}\n",
+        "description: out of range root 0 top_mib",
+    ),
+    (
+        "version = 1\ntop_mib = 4294967360\nsystem = {}\n",
+        "description: out of range root 0 top_mib",
+    ),
+    (
+        "version = 1\ntop_mib = true\nsystem = {}\n",
+        "description: wrong kind root 0 top_mib",
+    ),
+    // TOML has no integers of more than 64 bits with their sign
+    (
+        "version = 1\ntop_mib = 18446744073709551680\nsystem = {}\n",
+        "description: not TOML",
+    ),
+    (
+        "version = 1\ntop_mib = 064\nsystem = {}\n",
+        "description: not TOML",
+    ),
+    (
+        "version = 1\ntop_mib = 0x\nsystem = {}\n",
+        "description: not TOML",
+    ),
+    (
+        "version = 1\ntop_mib = \nsystem = {}\n",
+        "description: not TOML",
+    ),
     // versions
-    "version = 2\ntop_mib = 64\nsystem = {}\n",
-    "version = 0\ntop_mib = 64\nsystem = {}\n",
-    "version = \"1\"\ntop_mib = 64\nsystem = {}\n",
-    "version = 1.0\ntop_mib = 64\nsystem = {}\n",
+    (
+        "version = 2\ntop_mib = 64\nsystem = {}\n",
+        "description: out of range root 0 version",
+    ),
+    (
+        "version = 0\ntop_mib = 64\nsystem = {}\n",
+        "description: out of range root 0 version",
+    ),
+    (
+        "version = \"1\"\ntop_mib = 64\nsystem = {}\n",
+        "description: wrong kind root 0 version",
+    ),
+    (
+        "version = 1.0\ntop_mib = 64\nsystem = {}\n",
+        "description: wrong kind root 0 version",
+    ),
     // keys that aren't there
-    "top_mib = 64\nsystem = {}\n",
-    "version = 1\nsystem = {}\n",
-    "version = 1\ntop_mib = 64\n",
+    (
+        "top_mib = 64\nsystem = {}\n",
+        "description: missing key root 0 version",
+    ),
+    (
+        "version = 1\nsystem = {}\n",
+        "description: missing key root 0 top_mib",
+    ),
+    (
+        "version = 1\ntop_mib = 64\n",
+        "description: missing key root 0 system",
+    ),
     // what isn't one table
-    "version = 1\ntop_mib = 64\nsystem = \"x\"\n",
-    "version = 1\ntop_mib = 64\nsystem = []\n",
-    "version = 1\ntop_mib = 64\n[[system]]\n",
-    "version = 1\ntop_mib = 64\n[system]\n[system]\n",
-    "version = 1\ntop_mib = 64\nacpi = 5\nsystem = {}\n",
-    "version = 1\ntop_mib = 64\nacpi = []\nsystem = {}\n",
-    "version = 1\ntop_mib = 64\nsystem = {}\n[[acpi]]\n",
-    "version = 1\ntop_mib = 64\nsystem = {}\n[acpi]\n[acpi]\n",
-    "version = 1\ntop_mib = 64\nhpet = true\nacpi = {}\nsystem = {}\n",
-    "version = 1\ntop_mib = 64\nsystem = {}\nacpi = {}\n[[hpet]]\n",
+    (
+        "version = 1\ntop_mib = 64\nsystem = \"x\"\n",
+        "description: wrong kind root 0 system",
+    ),
+    (
+        "version = 1\ntop_mib = 64\nsystem = []\n",
+        "description: wrong kind root 0 system",
+    ),
+    (
+        "version = 1\ntop_mib = 64\n[[system]]\n",
+        "description: wrong kind root 0 system",
+    ),
+    (
+        "version = 1\ntop_mib = 64\n[system]\n[system]\n",
+        "description: not TOML",
+    ),
+    (
+        "version = 1\ntop_mib = 64\nacpi = 5\nsystem = {}\n",
+        "description: wrong kind root 0 acpi",
+    ),
+    (
+        "version = 1\ntop_mib = 64\nacpi = []\nsystem = {}\n",
+        "description: wrong kind root 0 acpi",
+    ),
+    (
+        "version = 1\ntop_mib = 64\nsystem = {}\n[[acpi]]\n",
+        "description: wrong kind root 0 acpi",
+    ),
+    (
+        "version = 1\ntop_mib = 64\nsystem = {}\n[acpi]\n[acpi]\n",
+        "description: not TOML",
+    ),
+    (
+        "version = 1\ntop_mib = 64\nhpet = true\nacpi = {}\nsystem = {}\n",
+        "description: wrong kind root 0 hpet",
+    ),
+    (
+        "version = 1\ntop_mib = 64\nsystem = {}\nacpi = {}\n[[hpet]]\n",
+        "description: wrong kind root 0 hpet",
+    ),
     // keys that are there twice, or unknown, or in another case
-    "version = 1\ntop_mib = 64\ntop_mib = 64\nsystem = {}\n",
-    "version = 1\ntop_mib = 64\nsystem = {}\ncolour = \"red\"\n",
-    "version = 1\ntop_mib = 64\nsystem = {}\noem_strings = []\n",
-    "version = 1\ntop_mib = 64\nsystem = {}\n\"\" = 1\n",
-    "version = 1\ntop_mib = 64\nSystem = {}\n",
-    "version = 1\ntop_mib = 64\nsystem = {}\n[ignored.nothing]\n",
-    "version = 1\ntop_mib = 64\nsystem = {}\nversion.x = 1\n",
+    (
+        "version = 1\ntop_mib = 64\ntop_mib = 64\nsystem = {}\n",
+        "description: not TOML",
+    ),
+    (
+        "version = 1\ntop_mib = 64\nsystem = {}\ncolour = \"red\"\n",
+        "description: unknown key root 0 colour",
+    ),
+    (
+        "version = 1\ntop_mib = 64\nsystem = {}\noem_strings = []\n",
+        "description: unknown key root 0 oem_strings",
+    ),
+    (
+        "version = 1\ntop_mib = 64\nsystem = {}\n\"\" = 1\n",
+        "description: unknown key root 0 ",
+    ),
+    (
+        "version = 1\ntop_mib = 64\nSystem = {}\n",
+        "description: unknown key root 0 System",
+    ),
+    (
+        "version = 1\ntop_mib = 64\nsystem = {}\n[ignored.nothing]\n",
+        "description: unknown key root 0 ignored",
+    ),
+    (
+        "version = 1\ntop_mib = 64\nsystem = {}\nversion.x = 1\n",
+        "description: not TOML",
+    ),
     // what is no document
-    "version = 1\ntop_mib = 64\nsystem = {}\n]\n",
-    "version = 1\ntop_mib = 64\nsystem = {\n",
-    "version = 1\ntop_mib = 64\nsystem\n",
-    "version = 1\ntop_mib = 64\nsystem = {}\n\u{feff}",
-    "version = 1 top_mib = 64\nsystem = {}\n",
-    "",
-    "# nothing\n",
-    "\n",
-    "\0",
+    (
+        "version = 1\ntop_mib = 64\nsystem = {}\n]\n",
+        "description: not TOML",
+    ),
+    (
+        "version = 1\ntop_mib = 64\nsystem = {\n",
+        "description: not TOML",
+    ),
+    (
+        "version = 1\ntop_mib = 64\nsystem\n",
+        "description: not TOML",
+    ),
+    (
+        "version = 1\ntop_mib = 64\nsystem = {}\n\u{feff}",
+        "description: not TOML",
+    ),
+    (
+        "version = 1 top_mib = 64\nsystem = {}\n",
+        "description: not TOML",
+    ),
+    ("", "description: missing key root 0 version"),
+    ("# nothing\n", "description: missing key root 0 version"),
+    ("\n", "description: missing key root 0 version"),
+    ("\0", "description: not TOML"),
 ];
 
-// What stands below the header of `system` in a description that is lawful above it: keys of that table, or other
-// tables.
-const REFUSED_SYSTEMS: [&str; 50] = [
+// What stands below the header of `system` in a description that is lawful above it, keys of that table or other
+// tables; and the line of the first fault.
+const REFUSED_SYSTEMS: [(&str, &str); 50] = [
     // keys
-    "colour = \"red\"",
-    "Product = \"VM\"",
-    "product = \"VM\"\nproduct = \"VM\"",
-    "product.name = \"VM\"",
+    (
+        "colour = \"red\"",
+        "description: unknown key system 0 colour",
+    ),
+    (
+        "Product = \"VM\"",
+        "description: unknown key system 0 Product",
+    ),
+    (
+        "product = \"VM\"\nproduct = \"VM\"",
+        "description: not TOML",
+    ),
+    (
+        "product.name = \"VM\"",
+        "description: wrong kind system 0 product",
+    ),
     // values
-    "product = 5",
-    "product = 1979-05-27T07:32:00Z",
-    "product = 1979-05-27",
-    "product = []",
-    "product = false",
-    "product =",
-    "product = \"VM",
-    "product = 'VM\n'",
+    ("product = 5", "description: wrong kind system 0 product"),
+    (
+        "product = 1979-05-27T07:32:00Z",
+        "description: wrong kind system 0 product",
+    ),
+    (
+        "product = 1979-05-27",
+        "description: wrong kind system 0 product",
+    ),
+    ("product = []", "description: wrong kind system 0 product"),
+    (
+        "product = false",
+        "description: wrong kind system 0 product",
+    ),
+    ("product =", "description: not TOML"),
+    ("product = \"VM", "description: not TOML"),
+    ("product = 'VM\n'", "description: not TOML"),
     // texts with another byte than 0x20 to 0x7E
-    "product = \"V\tM\"",
-    "product = \"V\\tM\"",
-    "product = \"V\\u0001M\"",
-    "product = \"V\\u007fM\"",
-    "product = \"Vé\"",
-    "product = \"V\\u0000M\"",
+    ("product = \"V\tM\"", "description: rule 3 index 0"),
+    ("product = \"V\\tM\"", "description: rule 3 index 0"),
+    ("product = \"V\\u0001M\"", "description: rule 3 index 0"),
+    ("product = \"V\\u007fM\"", "description: rule 3 index 0"),
+    ("product = \"Vé\"", "description: rule 3 index 0"),
+    ("product = \"V\\u0000M\"", "description: rule 3 index 0"),
     // UUIDs
-    "uuid = \"00000000-0000-0000-0000-000000000000\"",
-    "uuid = \"ffffffff-ffff-ffff-ffff-ffffffffffff\"",
-    "uuid = 5",
-    "uuid = \"x\"",
-    "uuid = \"\"",
-    "uuid = \"0011223344556677 8899AABBCCDDEEFF\"",
-    "uuid = \"0011223344556677889900112233445\"",
-    "uuid = \"001122334455667788990011223344556\"",
+    (
+        "uuid = \"00000000-0000-0000-0000-000000000000\"",
+        "description: rule 4 index 0",
+    ),
+    (
+        "uuid = \"ffffffff-ffff-ffff-ffff-ffffffffffff\"",
+        "description: rule 4 index 0",
+    ),
+    ("uuid = 5", "description: wrong kind system 0 uuid"),
+    ("uuid = \"x\"", "description: out of range system 0 uuid"),
+    ("uuid = \"\"", "description: out of range system 0 uuid"),
+    (
+        "uuid = \"0011223344556677 8899AABBCCDDEEFF\"",
+        "description: out of range system 0 uuid",
+    ),
+    (
+        "uuid = \"0011223344556677889900112233445\"",
+        "description: out of range system 0 uuid",
+    ),
+    (
+        "uuid = \"001122334455667788990011223344556\"",
+        "description: out of range system 0 uuid",
+    ),
     // the table `acpi`
-    "[acpi]\ncolour = 5",
-    "[acpi]\noem_id = 5",
-    "[acpi]\noem_id = \"EXAMPLE\"",
-    "[acpi]\noem_id = \"EXMPL \"",
-    "[acpi]\noem_id = \" \"",
-    "[acpi]\noem_id = \"EX\\tPL\"",
-    "[acpi]\noem_id = \"EX\\u007f\"",
-    "[acpi]\noem_id = \"É\"",
-    "[acpi]\noem_table_id = [\"VM\"]",
-    "[acpi]\noem_table_id = \"VMTABLES1\"",
-    "[acpi]\noem_table_id = \"VMTABLE \"",
-    "[acpi]\noem_table_id = \"VM\\u0000\"",
+    (
+        "[acpi]\ncolour = 5",
+        "description: unknown key acpi 0 colour",
+    ),
+    (
+        "[acpi]\noem_id = 5",
+        "description: wrong kind acpi 0 oem_id",
+    ),
+    (
+        "[acpi]\noem_id = \"EXAMPLE\"",
+        "description: rule 16 index 0",
+    ),
+    (
+        "[acpi]\noem_id = \"EXMPL \"",
+        "description: rule 16 index 0",
+    ),
+    ("[acpi]\noem_id = \" \"", "description: rule 16 index 0"),
+    (
+        "[acpi]\noem_id = \"EX\\tPL\"",
+        "description: rule 3 index 0",
+    ),
+    (
+        "[acpi]\noem_id = \"EX\\u007f\"",
+        "description: rule 3 index 0",
+    ),
+    ("[acpi]\noem_id = \"É\"", "description: rule 3 index 0"),
+    (
+        "[acpi]\noem_table_id = [\"VM\"]",
+        "description: wrong kind acpi 0 oem_table_id",
+    ),
+    (
+        "[acpi]\noem_table_id = \"VMTABLES1\"",
+        "description: rule 16 index 1",
+    ),
+    (
+        "[acpi]\noem_table_id = \"VMTABLE \"",
+        "description: rule 16 index 1",
+    ),
+    (
+        "[acpi]\noem_table_id = \"VM\\u0000\"",
+        "description: rule 3 index 0",
+    ),
     // the table `hpet`
-    "[hpet]",
-    "[acpi]\n[hpet]\ncolour = 5",
-    "[acpi]\n[hpet]\naddress = 0xFED00200",
-    "[acpi]\n[hpet]\naddress = 4294967296",
-    "[acpi]\n[hpet]\naddress = -1024",
-    "[acpi]\n[hpet]\naddress = \"0xFED00000\"",
-    "[acpi]\n[hpet]\nblock_id = 4294967296",
-    "[acpi]\n[hpet]\nblock_id = 1.0",
-    "[acpi]\n[hpet]\nnumber = 256",
-    "[acpi]\n[hpet]\nnumber = -1",
-    "[acpi]\n[hpet]\nmin_tick = 65536",
-    "[acpi]\n[hpet]\nmin_tick = false",
+    ("[hpet]", "description: rule 13 index 1"),
+    (
+        "[acpi]\n[hpet]\ncolour = 5",
+        "description: unknown key hpet 0 colour",
+    ),
+    (
+        "[acpi]\n[hpet]\naddress = 0xFED00200",
+        "description: rule 18 index 0",
+    ),
+    (
+        "[acpi]\n[hpet]\naddress = 4294967296",
+        "description: out of range hpet 0 address",
+    ),
+    (
+        "[acpi]\n[hpet]\naddress = -1024",
+        "description: out of range hpet 0 address",
+    ),
+    (
+        "[acpi]\n[hpet]\naddress = \"0xFED00000\"",
+        "description: wrong kind hpet 0 address",
+    ),
+    (
+        "[acpi]\n[hpet]\nblock_id = 4294967296",
+        "description: out of range hpet 0 block_id",
+    ),
+    (
+        "[acpi]\n[hpet]\nblock_id = 1.0",
+        "description: wrong kind hpet 0 block_id",
+    ),
+    (
+        "[acpi]\n[hpet]\nnumber = 256",
+        "description: out of range hpet 0 number",
+    ),
+    (
+        "[acpi]\n[hpet]\nnumber = -1",
+        "description: out of range hpet 0 number",
+    ),
+    (
+        "[acpi]\n[hpet]\nmin_tick = 65536",
+        "description: out of range hpet 0 min_tick",
+    ),
+    (
+        "[acpi]\n[hpet]\nmin_tick = false",
+        "description: wrong kind hpet 0 min_tick",
+    ),
 ];
 
 // Bytes below that header that are no UTF-8: a byte that never stands there, a lone byte of the middle, an overlong
@@ -129,6 +349,9 @@ const NO_TEXT: [&[u8]; 5] = [
     b"# \xed\xa0\x80\n",
     b"# \xe2\x82",
 ];
+
+// The line for bytes that are no document.
+const NOT_TOML: &str = "description: not TOML";
 
 const KEYS: [&str; 6] = [
     "manufacturer",
@@ -160,20 +383,20 @@ const HEAD: &[u8] = b"version = 1\ntop_mib = 64\n[system]\n";
 
 #[test]
 fn refused_descriptions(rt: HostRuntime) -> Result<(), Fail> {
-    for description in &REFUSED {
-        is_refused(rt.alloc(), description, description.as_bytes())?;
+    for (description, line) in &REFUSED {
+        is_refused(rt.alloc(), description, description.as_bytes(), line)?;
     }
-    for system in &REFUSED_SYSTEMS {
-        is_refused_system(rt.alloc(), system, system.as_bytes())?;
+    for (system, line) in &REFUSED_SYSTEMS {
+        is_refused_system(rt.alloc(), system, system.as_bytes(), line)?;
     }
     Ok(())
 }
 
 #[test]
 fn descriptions_of_other_bytes(rt: HostRuntime) -> Result<(), Fail> {
-    is_refused(rt.alloc(), "one byte 0xff", b"\xff")?;
+    is_refused(rt.alloc(), "one byte 0xff", b"\xff", NOT_TOML)?;
     for bytes in &NO_TEXT {
-        is_refused_system(rt.alloc(), "no UTF-8", bytes)?;
+        is_refused_system(rt.alloc(), "no UTF-8", bytes, NOT_TOML)?;
     }
     for depth in [81, 50_000] {
         are_refused_arrays(rt.alloc(), depth)?;
@@ -197,14 +420,17 @@ fn accepted_descriptions(rt: HostRuntime) -> Result<(), Fail> {
     Ok(())
 }
 
-fn is_refused(alloc: Global, case: &str, description: &[u8]) -> Result<(), Fail> {
-    ends(alloc, &boot(case, description), &fixtures::REFUSED)
+// The description is refused with this line, which a line feed ends.
+fn is_refused(alloc: Global, case: &str, description: &[u8], line: &str) -> Result<(), Fail> {
+    let mut say = copy_of(alloc, line.as_bytes())?;
+    say.push(b'\n')?;
+    ends(alloc, &boot(case, description), &refused(say.as_slice()))
 }
 
-// A description with these bytes below the header of `system` is refused.
-fn is_refused_system(alloc: Global, case: &str, system: &[u8]) -> Result<(), Fail> {
+// A description with these bytes below the header of `system` is refused with this line.
+fn is_refused_system(alloc: Global, case: &str, system: &[u8], line: &str) -> Result<(), Fail> {
     let description = with_system(alloc, system)?;
-    is_refused(alloc, case, description.as_slice())
+    is_refused(alloc, case, description.as_slice(), line)
 }
 
 fn is_accepted(alloc: Global, case: &str, description: &[u8]) -> Result<(), Fail> {
@@ -214,14 +440,14 @@ fn is_accepted(alloc: Global, case: &str, description: &[u8]) -> Result<(), Fail
 // A text may have 64 bytes and no more.
 fn is_accepted_to_64_bytes(alloc: Global, key: &str) -> Result<(), Fail> {
     let longer = with_text(alloc, key, &[b'x'; 65])?;
-    is_refused(alloc, key, longer.as_slice())?;
+    is_refused(alloc, key, longer.as_slice(), "description: rule 3 index 0")?;
     let longest = with_text(alloc, key, &[b'x'; 64])?;
     is_accepted(alloc, key, longest.as_slice())
 }
 
 fn are_refused_arrays(alloc: Global, depth: u32) -> Result<(), Fail> {
     let description = with_arrays(alloc, depth)?;
-    is_refused(alloc, "arrays", description.as_slice())
+    is_refused(alloc, "arrays", description.as_slice(), NOT_TOML)
 }
 
 // A description with these bytes below the header of `system`.

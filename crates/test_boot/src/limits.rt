@@ -1,7 +1,7 @@
 //! Inputs of as many bytes as one may have, and of one more.
 
 use fixtures::{
-    Ending, MINIMAL, MINIMAL_DUMP, REFUSED, Run, TOO_LONG, boot, booted, copy_of, ends,
+    Ending, MINIMAL, MINIMAL_DUMP, Run, TOO_LONG, boot, booted, copy_of, ends, refused,
 };
 use std::alloc::Global;
 use std::test::Fail;
@@ -48,7 +48,7 @@ fn the_longest_input(rt: HostRuntime) -> Result<(), Fail> {
             "the longest input",
             input.as_slice(),
             piece,
-            &REFUSED,
+            &refused(b"description: not TOML\n"),
         )?;
     }
     Ok(())

@@ -1,8 +1,8 @@
 //! A `say` that fails changes nothing but what it took.
 
 use fixtures::{
-    Ending, MINIMAL, MINIMAL_DUMP, READ_FAULT, REFUSED, ROOM, Run, USAGE, boot, booted, ends,
-    front, write_fault,
+    Ending, MINIMAL, MINIMAL_DUMP, READ_FAULT, ROOM, Run, USAGE, boot, booted, ends, front,
+    refused, write_fault,
 };
 use std::alloc::Global;
 use std::test::Fail;
@@ -43,7 +43,7 @@ fn a_say_that_fails(rt: HostRuntime) -> Result<(), Fail> {
             input: b"version = 2\n",
             ..minimal
         },
-        &REFUSED,
+        &refused(b"description: out of range root 0 version\n"),
     )?;
     says(
         alloc,

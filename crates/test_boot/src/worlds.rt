@@ -1,6 +1,6 @@
 //! What becomes of a world over many runs.
 
-use fixtures::{BOOTED, Ending, MINIMAL, READ_FAULT, REFUSED, Run, USAGE, boot, ends_in, is_same};
+use fixtures::{BOOTED, Ending, MINIMAL, READ_FAULT, Run, USAGE, boot, ends_in, is_same, refused};
 use std::alloc::Global;
 use std::test::Fail;
 use vmtables::{State, World};
@@ -136,7 +136,7 @@ fn failing_reads_of(step: Step) -> &'static [u32] {
 fn ending_of(step: Step) -> Ending<'static> {
     match step {
         Step::Loads | Step::LoadsLarger => BOOTED,
-        Step::IsRefused => REFUSED,
+        Step::IsRefused => refused(b"description: out of range root 0 version\n"),
         Step::Fails | Step::FailsAtTheEnd => READ_FAULT,
         _ => USAGE,
     }

@@ -5,7 +5,7 @@ use Rattle.vmtables.specs.declared.input.InputFault.TheVariants as input
 use Rattle.desc_toml.specs.declared.fault.DescFault.{DescFault}
 use Rattle.desc_toml.specs.declared.fault.DescFault.TheVariants as description
 use Rattle.vmtables.specs.declared.fault.Fault.{Fault}
-use Rattle.vmtables.specs.declared.fault.Fault.TheVariants.{ReadFault, DescriptionRefused, OutOfMemory, InputTooLong}
+use Rattle.vmtables.specs.declared.fault.Fault.TheVariants.{ReadFault, Description, OutOfMemory, InputTooLong}
 
 abbrev pub IsOfInput : InputFault → Fault → Type 0
 IsOfInput input.Failed fault = fault ≡ ReadFault
@@ -14,4 +14,4 @@ IsOfInput input.OutOfMemory fault = fault ≡ OutOfMemory
 
 abbrev pub IsOfDescription : DescFault → Fault → Type 0
 IsOfDescription description.OutOfMemory fault = fault ≡ OutOfMemory
-IsOfDescription _ fault = fault ≡ DescriptionRefused
+IsOfDescription refused fault = fault ≡ Description refused

@@ -1,5 +1,6 @@
 -- How the top call ends: the status and the line of each fault, the numbers of statuses, and how long an input may be.
 use Rattle.std.specs.Prelude.{ℕ, ◌-◌, List, [], ◌++◌, ◌∷◌, length, codes, Option, Some, Result, Ok, Err}
+use Rattle.desc_toml.specs.Lines.{line_of as description_line}
 use Rattle.vmtables.specs.declared.fault.Fault.{Fault}
 use Rattle.vmtables.specs.declared.fault.Fault.TheVariants as fault
 use Rattle.vmtables.specs.declared.status.Status.{Status}
@@ -9,7 +10,7 @@ use Rattle.vmtables.specs.declared.status.Status.TheVariants as status
 abbrev pub status_of_fault : Fault → Status
 status_of_fault fault.ReadFault = status.ReadFault
 status_of_fault fault.Usage = status.Usage
-status_of_fault fault.DescriptionRefused = status.DescriptionRefused
+status_of_fault (fault.Description refused) = status.DescriptionRefused
 status_of_fault fault.WriteFault = status.WriteFault
 status_of_fault fault.OutOfMemory = status.OutOfMemory
 status_of_fault fault.InputTooLong = status.InputTooLong
@@ -23,7 +24,7 @@ status_of (Err fault) = status_of_fault fault
 abbrev pub line_of : Fault → List ℕ
 line_of fault.ReadFault = codes "read fault" ++ 10 ∷ []
 line_of fault.Usage = codes "usage: vmtables build, load, decode, boot, lint or gen" ++ 10 ∷ []
-line_of fault.DescriptionRefused = codes "description refused" ++ 10 ∷ []
+line_of (fault.Description refused) = description_line refused
 line_of fault.WriteFault = codes "write fault" ++ 10 ∷ []
 line_of fault.OutOfMemory = codes "out of memory" ++ 10 ∷ []
 line_of fault.InputTooLong = codes "input too long" ++ 10 ∷ []

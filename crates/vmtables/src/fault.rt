@@ -1,24 +1,20 @@
-ghost use Rattle.std.specs.Prelude.{◌≡◌, ◌<◌, ◌∷◌, ◌++◌, [], length};
+ghost use Rattle.std.specs.Prelude.{◌≡◌, ◌≤◌, length};
 ghost use Rattle.vmtables.specs.Outcome.{line_of, status_of_fault};
 
 use crate::input::InputFault;
 use crate::status::Status;
-use arrayvec::ArrayString;
-use desc_toml::DescFault;
+use desc_toml::{DescFault, Line};
 use vt_outside::OutOfMemory;
 
-/// A line in a buffer on the stack: it takes no memory even where it has numbers, and is there whole before it is written.
-pub(crate) type Line = ArrayString<128>;
-
 /// Why a call didn't end with `Ok`.
-#[derive(Clone, Copy, Debug, PartialEq, Eq)]
+#[derive(Debug, Drop)]
 pub(crate) enum Fault {
     /// The source failed.
     ReadFault,
     /// The words are no command.
     Usage,
-    /// The bytes describe no accepted machine.
-    DescriptionRefused,
+    /// The bytes describe no accepted machine; this is their first fault.
+    Description(DescFault),
     /// The sink failed.
     WriteFault,
     /// Memory ran out.
@@ -29,13 +25,13 @@ pub(crate) enum Fault {
 
 impl Fault {
     /// Returns the status of a call that this fault ended.
-    pub(crate) fn status(self) -> Status
-        ensures { result ≡ status_of_fault self }
+    pub(crate) fn status(&self) -> Status
+        ensures { result ≡ status_of_fault self.now }
     {
         match self {
             Fault::ReadFault => Status::ReadFault,
             Fault::Usage => Status::Usage,
-            Fault::DescriptionRefused => Status::DescriptionRefused,
+            Fault::Description(_) => Status::DescriptionRefused,
             Fault::WriteFault => Status::WriteFault,
             Fault::OutOfMemory => Status::OutOfMemory,
             Fault::InputTooLong => Status::InputTooLong,
@@ -43,29 +39,28 @@ impl Fault {
     }
 
     /// Returns the line that tells this fault, with its line feed.
-    pub(crate) fn line(self) -> Line
-        ensures { result.bytes ≡ line_of self }
-    {
-        let mut line = Line::new();
-        line.push_str(self.words());
-        line.push_str("\n");
-        line
-    }
-
-    // The line without its line feed.
-    fn words(self) -> &'static str
-        ensures whole { result.now ++ 10 ∷ [] ≡ line_of self }
-        ensures short { length result.now < 128 }
+    pub(crate) fn line(&self) -> Line
+        ensures { result.bytes ≡ line_of self.now }
     {
         match self {
-            Fault::ReadFault => "read fault",
-            Fault::Usage => "usage: vmtables build, load, decode, boot, lint or gen",
-            Fault::DescriptionRefused => "description refused",
-            Fault::WriteFault => "write fault",
-            Fault::OutOfMemory => "out of memory",
-            Fault::InputTooLong => "input too long",
+            Fault::ReadFault => line("read fault\n"),
+            Fault::Usage => line("usage: vmtables build, load, decode, boot, lint or gen\n"),
+            Fault::Description(refused) => refused.line(),
+            Fault::WriteFault => line("write fault\n"),
+            Fault::OutOfMemory => line("out of memory\n"),
+            Fault::InputTooLong => line("input too long\n"),
         }
     }
+}
+
+// The line of these words, which end in a line feed.
+fn line(words: &str) -> Line
+    requires { length words.now ≤ 128 }
+    ensures { result.bytes ≡ words.now }
+{
+    let mut line = Line::new();
+    line.push_str(words);
+    line
 }
 
 impl From<OutOfMemory> for Fault {
@@ -101,7 +96,7 @@ impl From<DescFault> for Fault {
     fn from(fault: DescFault) -> Fault {
         match fault {
             DescFault::OutOfMemory => Fault::OutOfMemory,
-            _ => Fault::DescriptionRefused,
+            refused => Fault::Description(refused),
         }
     }
 }

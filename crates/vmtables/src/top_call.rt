@@ -70,12 +70,12 @@ pub fn top<S: Source, K: Sink, E: Sink>(
     ensures silent { result ≡ Status.Ok → (E.taken say.new ≡ E.taken say.old) × (E.faults say.new ≡ E.faults say.old) }
 {
     let ended = carry_out(alloc, words, source, out, world);
-    say_fault(say, ended);
-    status_of(ended)
+    say_fault(say, &ended);
+    status_of(&ended)
 }
 
-fn status_of(ended: Result<(), Fault>) -> Status
-    ensures { result ≡ status_of ended }
+fn status_of(ended: &Result<(), Fault>) -> Status
+    ensures { result ≡ status_of ended.now }
 {
     match ended {
         Ok(()) => Status::Ok,
@@ -84,11 +84,11 @@ fn status_of(ended: Result<(), Fault>) -> Status
 }
 
 // Says the line of the fault that ended a call, where one did. A fault of `say` has no place to be told.
-fn say_fault<E: Sink>(say: &mut E, ended: Result<(), Fault>)
-    ensures said { IfErr ended (λ fault. Said (line_of fault)
+fn say_fault<E: Sink>(say: &mut E, ended: &Result<(), Fault>)
+    ensures said { IfErr ended.now (λ fault. Said (line_of fault)
         (record { taken = E.taken say.old; flushed = E.flushed say.old; faults = E.faults say.old })
         (record { taken = E.taken say.new; flushed = E.flushed say.new; faults = E.faults say.new })) }
-    ensures silent { OnOk ended ((E.taken say.new ≡ E.taken say.old) × (E.faults say.new ≡ E.faults say.old)) }
+    ensures silent { OnOk ended.now ((E.taken say.new ≡ E.taken say.old) × (E.faults say.new ≡ E.faults say.old)) }
 {
     if let Err(fault) = ended {
         let _ = write_all(say, fault.line().as_bytes());

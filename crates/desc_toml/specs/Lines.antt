@@ -1,0 +1,42 @@
+-- The line that tells a fault to a person.
+use Rattle.std.specs.Prelude.{codes, ℕ, zero, suc, List, [], ◌∷◌, ◌++◌, map, take, decimal, nat_le, ◌&&◌, ◌==◌, if◌then◌else◌}
+use Rattle.desc_schema.specs.Form.{Field, fields_at}
+use Rattle.desc_toml.specs.declared.fault.DescFault.{DescFault}
+use Rattle.desc_toml.specs.declared.fault.DescFault.TheVariants.{NotToml, UnknownKey, MissingKey, WrongKind, OutOfRange, Broken, OutOfMemory}
+use Rattle.desc_toml.specs.Keys.{schema}
+
+-- the name of a table; a number that is no table's has none
+abbrev pub table_name : ℕ → List ℕ
+table_name table =
+    if table == 0 then codes "root" else if table == 1 then codes "system" else if table == 8 then codes "acpi"
+    else if table == 10 then codes "hpet" else []
+
+-- the name of the key of a number
+abbrev pub name_at : List Field → ℕ → List ℕ
+name_at [] n = []
+name_at (field ∷ fields) zero = field.name
+name_at (field ∷ fields) (suc n) = name_at fields n
+
+abbrev pub key_name : ℕ → ℕ → List ℕ
+key_name table key = name_at (fields_at schema table) key
+
+-- a byte of a key, or a question mark for one that doesn't show
+abbrev pub shown_byte : ℕ → ℕ
+shown_byte byte = if nat_le 0x21 byte && nat_le byte 0x7E then byte else 0x3F
+
+-- the first 64 bytes of a key
+abbrev pub shown : List ℕ → List ℕ
+shown key = map shown_byte (take 64 key)
+
+-- a cause, a table, a position and a key; a known key's name is short and shows, so that `shown` changes none of these
+abbrev pub key_line : List ℕ → ℕ → ℕ → List ℕ → List ℕ
+key_line cause table index key = cause ++ table_name table ++ 0x20 ∷ decimal index ++ 0x20 ∷ shown key ++ 10 ∷ []
+
+abbrev pub line_of : DescFault → List ℕ
+line_of NotToml = codes "description: not TOML" ++ 10 ∷ []
+line_of (UnknownKey table index key) = key_line (codes "description: unknown key ") table index key
+line_of (MissingKey table index key) = key_line (codes "description: missing key ") table index (key_name table key)
+line_of (WrongKind table index key) = key_line (codes "description: wrong kind ") table index (key_name table key)
+line_of (OutOfRange table index key) = key_line (codes "description: out of range ") table index (key_name table key)
+line_of (Broken rule index) = codes "description: rule " ++ decimal rule ++ codes " index " ++ decimal index ++ 10 ∷ []
+line_of OutOfMemory = codes "out of memory" ++ 10 ∷ []

@@ -1,0 +1,88 @@
+//! The lines that tell faults.
+
+use desc_toml::{DescFault, Line, read_machine};
+use std::alloc::Global;
+use std::test::Fail;
+
+const LINES: [(&str, &str); 14] = [
+    ("version", "description: not TOML\n"),
+    ("colour = 1", "description: unknown key root 0 colour\n"),
+    (
+        "version = 1\ntop_mib = 64\nsystem.colour = 1",
+        "description: unknown key system 0 colour\n",
+    ),
+    ("'' = 1", "description: unknown key root 0 \n"),
+    (
+        "'a b\u{e9}~' = 1",
+        "description: unknown key root 0 a?b??~\n",
+    ),
+    (
+        "0123456789012345678901234567890123456789012345678901234567890123 = 1",
+        "description: unknown key root 0 0123456789012345678901234567890123456789012345678901234567890123\n",
+    ),
+    (
+        "01234567890123456789012345678901234567890123456789012345678901234 = 1",
+        "description: unknown key root 0 0123456789012345678901234567890123456789012345678901234567890123\n",
+    ),
+    ("version = 1", "description: missing key root 0 top_mib\n"),
+    ("version = 2", "description: out of range root 0 version\n"),
+    (
+        "version = 1\ntop_mib = 64\nsystem.product = 1",
+        "description: wrong kind system 0 product\n",
+    ),
+    (
+        "version = 1\ntop_mib = 64\nsystem = {}\nacpi.oem_table_id = 1",
+        "description: wrong kind acpi 0 oem_table_id\n",
+    ),
+    (
+        "version = 1\ntop_mib = 64\nsystem = {}\nhpet.min_tick = 65536",
+        "description: out of range hpet 0 min_tick\n",
+    ),
+    (
+        "version = 1\ntop_mib = 64\nsystem = {}\nhpet = {}",
+        "description: rule 13 index 1\n",
+    ),
+    (
+        "version = 1\ntop_mib = 64\nsystem.uuid = '00000000-0000-0000-0000-000000000000'",
+        "description: rule 4 index 0\n",
+    ),
+];
+
+fn line_of(alloc: Global, text: &str) -> Option<Line> {
+    match read_machine(alloc, text.as_bytes()) {
+        Ok(_) => None,
+        Err(fault) => Some(fault.line()),
+    }
+}
+
+#[test]
+fn lines_of_texts(rt: HostRuntime) -> Result<(), Fail> {
+    for (text, wanted) in &LINES {
+        match line_of(rt.alloc(), text) {
+            Some(line) => assert_eq!(rt; line.as_str(), *wanted, "of {text}"),
+            None => panic!(rt; "{text} was read"),
+        }
+    }
+    Ok(())
+}
+
+// The greatest position, and numbers of tables and keys that the schema doesn't have.
+#[test]
+fn lines_of_other_numbers(rt: HostRuntime) -> Result<(), Fail> {
+    let greatest = DescFault::WrongKind {
+        table: 8,
+        index: u32::MAX,
+        key: 0,
+    };
+    assert_eq!(rt;
+        greatest.line().as_str(),
+        "description: wrong kind acpi 4294967295 oem_id\n"
+    );
+    let past = DescFault::MissingKey {
+        table: 9,
+        index: 0,
+        key: 255,
+    };
+    assert_eq!(rt; past.line().as_str(), "description: missing key  0 \n");
+    Ok(())
+}
