@@ -6,6 +6,7 @@ pub mod Deeper
 pub mod SameAnswer
 pub mod Least
 pub mod OneValue
+pub mod Saying
 pub mod Fitting
 pub mod Writing
 pub mod UuidText

@@ -6,4 +6,5 @@ pub mod Walk
 pub mod Deep
 pub mod Answers
 pub mod Fits
+pub mod Says
 pub mod Written

@@ -8,6 +8,7 @@ ghost use Rattle.desc_schema.specs.Form.{Field};
 ghost use Rattle.desc_schema.specs.Walk.{all_known, IsLeastUnknown};
 ghost use Rattle.desc_schema.specs.Answers.{OneAnswer};
 ghost use Rattle.desc_schema.specs.Deep.{WalksAreDeepEnough};
+ghost use Rattle.desc_schema.specs.Says.{WalkGivesWhatIsSaid};
 ghost use Rattle.desc_schema.specs.Fits.{WalkedValuesFit};
 ghost use Rattle.desc_schema.specs.Written.{IsReadBack, hyphenated, WrittenValuesAreWalked};
 
@@ -27,6 +28,11 @@ pub fn least_unknown_key_is_named()
 /// deeper gives the same.
 pub fn walks_are_deep_enough()
     ensures { WalksAreDeepEnough }
+{}
+
+/// Says that a walk gives values exactly where the document's tables say them, key by key, whatever the schema.
+pub fn walk_gives_what_is_said()
+    ensures { WalkGivesWhatIsSaid }
 {}
 
 /// Says that the values that a walk gives fit their kinds, key by key: a number lies within its limits, a word's place is that of

@@ -8,7 +8,8 @@
 //! unknown key, by its bytes, is a fault; then come the keys, in order. An inner table stands in its place of the order and is
 //! walked there, whole; in a list each element is tested and walked whole before the next. The values are one flat list: an inner
 //! table, an array of tables and a list of values put how many they are, and then their values. The contract is exact: what is
-//! given is a function of the document, want of memory aside.
+//! given is a function of the document, want of memory aside. A law says which values are given in the words of TOML alone, without
+//! places, positions and faults: those that the document's tables say, key by key.
 //!
 //! A record takes its values out of the list by position, and tests nothing: the laws say that they fit their kinds. They say too
 //! that the document that is written of values is walked as these values again, so that a description can be printed backwards.

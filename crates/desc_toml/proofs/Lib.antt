@@ -1,12 +1,6 @@
 pub mod Steps
 pub mod Rules
 pub mod OneMachine
-pub mod Names
-pub mod Singles
-pub mod Chain
-pub mod Keyed
-pub mod Described
-pub mod Again
 pub mod Says
 pub mod Shown
 pub mod Faulty

@@ -18,8 +18,8 @@ pub fn read_machine_is_accepted()
     ensures { (bytes : List ℕ) (machine : Machine) → Reads bytes machine → IsAccepted machine }
 {}
 
-/// Says that a machine is read from bytes exactly where they are a document whose tables say this of the machine, key by key, and
-/// the machine keeps every rule.
+/// Says that a machine is read from bytes exactly where they are a document whose tables say, key by key by the schema, the values
+/// that the machine is made of, and the machine keeps every rule.
 pub fn machine_is_read_as_the_tables_say()
     ensures { (bytes : List ℕ) (machine : Machine) → Reads bytes machine ↔ Describes bytes machine }
 {}

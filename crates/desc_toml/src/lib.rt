@@ -5,8 +5,8 @@
 //! the document by the schema, makes the machine of the values, and checks its rules; the first of these that fails is the fault.
 //!
 //! The contract is exact: what bytes are read as is a function of the bytes, want of memory aside, and so is the line that tells
-//! a fault. The laws say when a machine is read in the words of the tables, key by key, that at most one is read from given bytes,
-//! and that it keeps every rule.
+//! a fault. The laws say that a machine is read exactly where the document's tables say, key by key, the values that it is made of,
+//! that at most one is read from given bytes, and that it keeps every rule.
 #![tactic(auto)]
 
 mod fault;
