@@ -8,12 +8,13 @@ use Rattle.loader_script.specs.declared.entry.Entry.{Entry}
 use Rattle.loader_script.specs.declared.entry.Entry.TheVariants.{Allocate, AddPointer, AddChecksum, Skipped}
 use Rattle.loader_script.specs.Run.{Placed}
 use Rattle.loader_script.specs.Left.{IsLeft}
+use Rattle.vmtables.specs.Items.{files_of}
 use Rattle.vmtables.specs.Places.{IsLeastFree}
 use Rattle.vmtables.specs.LowRun.{at_files, IsLowRun}
 use Rattle.vmtables.specs.World.{Begun, IsBegun}
 use Rattle.vmtables.proofs.LowRuns.{LeadsTo, low-run}
 use Rattle.vmtables.proofs.ScriptSteps.{allocate_leads, pointer_leads, checksum_leads, skipped_leads, sixteen, sixty_four}
-use Rattle.test_loads.specs.SmallLoad.{small_top, small_fill, holder_name, target_name, holder_file, target_file, small_files, small_script, small_placed}
+use Rattle.test_loads.specs.SmallLoad.{small_top, small_fill, holder_name, target_name, holder_file, target_file, small_items, small_script, small_placed}
 
 -- the first file as it is placed, and with its number
 abbrev holder_placed : List ℕ → Placed
@@ -53,46 +54,47 @@ abbrev from_target : List Entry
 from_target = Allocate target_name 64 1 ∷ from_pointer
 
 -- the small load's script leaves what it says
-small_leads : LeadsTo small_top small_script (at_files small_files [] small_places) (at_files small_files small_placed [])
+small_leads : LeadsTo small_top small_script (at_files (files_of small_items) [] small_places) (at_files (files_of small_items) small_placed [])
 small_leads =
-    allocate_leads small_top small_files [] holder_name holder_file 16 1 0x3000000 (0x3000040 ∷ []) (Skipped 0 ∷ from_target)
-    (at_files small_files small_placed []) refl refl (omega arith) sixteen (inl refl)
+    allocate_leads small_top (files_of small_items) [] holder_name holder_file 16 1 0x3000000 (0x3000040 ∷ []) (Skipped 0 ∷ from_target)
+    (at_files (files_of small_items) small_placed []) (_, refl, refl) refl (omega arith) sixteen (inl refl)
     (record {
       free = record { aligned = (0x300000, refl); from = omega arith; within = omega arith; apart = tt };
       least = λ other free. free.from;
     })
-    (skipped_leads small_top 0 from_target (at_files small_files (holder_placed holder_file ∷ []) (0x3000040 ∷ [])) (at_files small_files small_placed [])
-    (allocate_leads small_top small_files (holder_placed holder_file ∷ []) target_name target_file 64 1 0x3000040 [] from_pointer
-    (at_files small_files small_placed []) refl refl (omega arith) sixty_four (inl refl)
+    (skipped_leads small_top 0 from_target (at_files (files_of small_items) (holder_placed holder_file ∷ []) (0x3000040 ∷ []))
+    (at_files (files_of small_items) small_placed [])
+    (allocate_leads small_top (files_of small_items) (holder_placed holder_file ∷ []) target_name target_file 64 1 0x3000040 [] from_pointer
+    (at_files (files_of small_items) small_placed []) (_, refl, refl) refl (omega arith) sixty_four (inl refl)
     (record {
       free = record { aligned = (0xC0001, refl); from = omega arith; within = omega arith; apart = (inr (omega arith), tt) };
       least = past_holder;
     })
-    (pointer_leads small_top small_files (holder_placed holder_file ∷ target_placed ∷ []) holder_name target_name 2 4 (holder_placed holder_file)
-    target_placed [] from_checksum (at_files small_files small_placed []) ((_, refl, refl), ((_, refl, refl), tt)) refl refl (inr (inr (inl refl)))
+    (pointer_leads small_top (files_of small_items) (holder_placed holder_file ∷ target_placed ∷ []) holder_name target_name 2 4 (holder_placed holder_file)
+    target_placed [] from_checksum (at_files (files_of small_items) small_placed []) ((_, refl, refl), ((_, refl, refl), tt)) refl refl (inr (inr (inl refl)))
     (omega arith) (omega arith)
-    (checksum_leads small_top small_files (holder_placed pointing ∷ target_placed ∷ []) holder_name 0 0 8 (holder_placed pointing) [] from_skipped
-    (at_files small_files small_placed []) ((_, refl, refl), ((_, refl, refl), tt)) refl (omega arith) (omega arith)
-    (skipped_leads small_top 0x80 [] (at_files small_files small_placed []) (at_files small_files small_placed []) refl)))))
+    (checksum_leads small_top (files_of small_items) (holder_placed pointing ∷ target_placed ∷ []) holder_name 0 0 8 (holder_placed pointing) [] from_skipped
+    (at_files (files_of small_items) small_placed []) ((_, refl, refl), ((_, refl, refl), tt)) refl (omega arith) (omega arith)
+    (skipped_leads small_top 0x80 [] (at_files (files_of small_items) small_placed []) (at_files (files_of small_items) small_placed []) refl)))))
 
-small_runs : IsLowRun small_top small_files small_script small_places small_placed
-small_runs = low-run small_top small_files small_script small_places small_placed small_leads
+small_runs : IsLowRun small_top (files_of small_items) small_script small_places small_placed
+small_runs = low-run small_top (files_of small_items) small_script small_places small_placed small_leads
 
 -- a world that was begun with the small load
 abbrev pub IsSmall : Begun → Type 0
-IsSmall w = IsBegun w small_files small_script small_top small_fill
+IsSmall w = IsBegun w small_items small_script small_top small_fill
 
 -- its script runs
 pub runs_there : (before : Option Begun) → IsSomeAnd before IsSmall → IfSome before (λ w. (places : List ℕ) × (after : List Placed)
-    × IsLowRun w.memory.top w.files w.script places after)
-runs_there (Some w) begun = (small_places, small_placed, rw (begun.top, begun.files, begun.script) small_runs)
+    × IsLowRun w.memory.top (files_of w.items) w.script places after)
+runs_there (Some w) begun = (small_places, small_placed, rw (begun.top, begun.items, begun.script) small_runs)
 runs_there None begun = absurd begun
 
 -- and leaves what the small load says
 pub left_there : (before after : Option Begun) → IsSomeAnd before IsSmall → IsSomeAnd after (λ w. w.done ≡ true)
     → IfSome before (λ old. IfSome after (λ new. (places : List ℕ) (placed : List Placed)
-    → IsLowRun old.memory.top old.files old.script places placed → IsLeft new.memory placed (at old.memory)))
+    → IsLowRun old.memory.top (files_of old.items) old.script places placed → IsLeft new.memory placed (at old.memory)))
     → IfSome before (λ old. IsSomeAnd after (λ w. IsLeft w.memory small_placed (at old.memory)))
-left_there (Some old) (Some new) begun done left = left small_places small_placed (rw (begun.top, begun.files, begun.script) small_runs)
+left_there (Some old) (Some new) begun done left = left small_places small_placed (rw (begun.top, begun.items, begun.script) small_runs)
 left_there None after begun done left = absurd begun
 left_there (Some old) None begun done left = absurd done

@@ -1,8 +1,8 @@
 -- A small load: two files, a script with each kind of command that is carried out, and what it leaves.
-use Rattle.std.specs.Prelude.{ℕ, List, [], ◌∷◌, codes}
+use Rattle.std.specs.Prelude.{ℕ, true, false, List, [], ◌∷◌, codes}
 use Rattle.loader_script.specs.declared.entry.Entry.{Entry}
 use Rattle.loader_script.specs.declared.entry.Entry.TheVariants.{Allocate, AddPointer, AddChecksum, Skipped}
-use Rattle.vmtables.specs.declared.files.FileBytes.{FileBytes}
+use Rattle.cfg_directory.specs.declared.item.Item.{Item}
 use Rattle.loader_script.specs.Run.{Placed}
 
 -- 64 MiB
@@ -25,8 +25,11 @@ holder_file = 0x11 ∷ 0x22 ∷ 8 ∷ 0 ∷ 0 ∷ 0 ∷ 0x33 ∷ 0x44 ∷ 0x55 �
 abbrev pub target_file : List ℕ
 target_file = 0xA1 ∷ 0xA2 ∷ 0xA3 ∷ []
 
-abbrev pub small_files : List FileBytes
-small_files = record { name = holder_name; bytes = holder_file } ∷ record { name = target_name; bytes = target_file } ∷ []
+-- the items of fw_cfg, the second of which a guest may write
+abbrev pub small_items : List Item
+small_items =
+    record { name = holder_name; select = 0x20; writable = false; bytes = holder_file } ∷
+    record { name = target_name; select = 0x21; writable = true; bytes = target_file } ∷ []
 
 -- Both files go to high memory, the second to a multiple of 64; its address is added to the number in the first, and
 -- the first byte there makes the first eight sum to zero.

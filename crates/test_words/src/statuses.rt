@@ -12,6 +12,7 @@ fn numbers_of_statuses(rt: HostRuntime) {
         (Status::WriteFault, 8),
         (Status::OutOfMemory, 9),
         (Status::InputTooLong, 10),
+        (Status::ImageTooLarge, 11),
     ] {
         assert_eq!(rt; status.number(), number, "at {status:?}");
     }

@@ -13,13 +13,12 @@ use Rattle.vt_bytes.proofs.Memories.{puts_with}
 use Rattle.loader_script.specs.Run.{File, file_of, placed_of, bytes_of}
 use Rattle.loader_script.specs.Left.{range_of}
 use Rattle.loader_script.proofs.Named.{none_passes}
-use Rattle.vmtables.specs.declared.files.FileBytes.{FileBytes}
 use Rattle.vmtables.specs.declared.placing.PlacedFile.{PlacedFile}
-use Rattle.vmtables.specs.declared.zones.Zone.{Zone}
-use Rattle.vmtables.specs.declared.zones.Zone.TheVariants.{High, Fseg}
+use Rattle.image_files.specs.declared.zone.Zone.{Zone}
+use Rattle.image_files.specs.declared.zone.Zone.TheVariants.{High, Fseg}
 use Rattle.vmtables.specs.declared.zones.Zones.{Zones}
-use Rattle.vmtables.specs.Places.{zone_range, range_in, IsLeastFree}
-use Rattle.vmtables.specs.LowRun.{read_only}
+use Rattle.image_files.specs.Zones.{zone_range}
+use Rattle.vmtables.specs.Places.{range_in, IsLeastFree}
 use Rattle.vmtables.specs.FilesInMemory.{placed_range, EndsLow, files_in, ArePlaced, IsOfSize, IsLoading, IsStep}
 use Rattle.vmtables.proofs.LowRuns.{one_least_free}
 use Rattle.vmtables.proofs.NamedInMemory.{none_named}
@@ -56,21 +55,21 @@ ranges_in m (p ∷ files) =
     (ranges_in m files)
 
 -- the file and the placed files of an Allocate, and its bytes as the code finds them
-pub record IsAllocation (m : Memory) (files : List FileBytes) (placed : List PlacedFile) (name bytes : List ℕ) : Type 0 where
+pub record IsAllocation (m : Memory) (files : List File) (placed : List PlacedFile) (name bytes : List ℕ) : Type 0 where
   pub loading : IsLoading m.top files placed
   pub top : IsTop m.top
-  pub there : (file : File) × (file_of (read_only files) name ≡ Some file) × (0 < length file.bytes)
-  pub found : bytes ≡ bytes_of (read_only files) name
+  pub there : (file : File) × (file_of files name ≡ Some file) × (0 < length file.bytes)
+  pub found : bytes ≡ bytes_of files name
   pub fresh : placed_of (files_in m placed) name ≡ None
 
 -- they are the file's
-its_bytes : (m : Memory) (files : List FileBytes) (placed : List PlacedFile) (name bytes : List ℕ) (allocation : IsAllocation m files placed name bytes)
+its_bytes : (m : Memory) (files : List File) (placed : List PlacedFile) (name bytes : List ℕ) (allocation : IsAllocation m files placed name bytes)
     → bytes ≡ allocation.there.0.bytes
 its_bytes m files placed name bytes allocation =
     allocation.found ∙ ap (λ o. option_map_or (λ (file : File). file.bytes) o []) allocation.there.1
 
 -- there are some
-pub some_bytes : (m : Memory) (files : List FileBytes) (placed : List PlacedFile) (name bytes : List ℕ) → IsAllocation m files placed name bytes
+pub some_bytes : (m : Memory) (files : List File) (placed : List PlacedFile) (name bytes : List ℕ) → IsAllocation m files placed name bytes
     → 0 < length bytes
 some_bytes m files placed name bytes allocation =
     subst (λ (bs : List ℕ). 0 < length bs) (sym (its_bytes m files placed name bytes allocation)) allocation.there.2
@@ -96,7 +95,7 @@ seen_low top placed seen is all =
     (All-from_recursion _ placed (each_is_placed top placed all)))
 
 -- a file that is allocated there is new
-allocation_new : (m : Memory) (files : List FileBytes) (placed : List PlacedFile) (name bytes : List ℕ) (zone : Zone) (align place : ℕ)
+allocation_new : (m : Memory) (files : List File) (placed : List PlacedFile) (name bytes : List ℕ) (zone : Zone) (align place : ℕ)
     → IsAllocation m files placed name bytes → IsLeastFree (zone_range m.top zone) (map placed_range placed) (length bytes) align place
     → IsNew m.top placed (record { name = name; place = place; size = length bytes })
 allocation_new m files placed name bytes zone align place allocation least =
@@ -132,7 +131,7 @@ least_is m zones zone placed seen bytes align seen_align place top is =
     (subst (λ (a : ℕ). IsLeastFree (range_in zones zone) (map placed_range seen) (length bytes) a place) is.align_is is.least))
 
 -- a copy of the bytes puts them there
-pub allocation_puts : (m new : Memory) (files : List FileBytes) (placed seen : List PlacedFile) (zones : Zones) (zone : Zone) (name bytes : List ℕ)
+pub allocation_puts : (m new : Memory) (files : List File) (placed seen : List PlacedFile) (zones : Zones) (zone : Zone) (name bytes : List ℕ)
     (align seen_align place top : ℕ) → IsAllocation m files placed name bytes
     → IsSeenLeast m zones zone placed seen bytes align seen_align place top → IsMemory m → new ≡ with_bytes m place bytes → Puts m new place bytes
 allocation_puts m new files placed seen zones zone name bytes align seen_align place top allocation is lawful with =
@@ -140,11 +139,11 @@ allocation_puts m new files placed seen zones zone name bytes align seen_align p
     puts_with m new place bytes lawful (allocation_new m files placed name bytes zone align place allocation least).ram with
 
 -- then the files are those that the command gives, at whatever least free place
-pub allocation_after : (m new : Memory) (files : List FileBytes) (placed seen items : List PlacedFile) (zones : Zones) (zone : Zone) (name bytes : List ℕ)
+pub allocation_after : (m new : Memory) (files : List File) (placed seen items : List PlacedFile) (zones : Zones) (zone : Zone) (name bytes : List ℕ)
     (align seen_align place top other : ℕ) → IsAllocation m files placed name bytes
     → IsSeenLeast m zones zone placed seen bytes align seen_align place top → IsPushed m new placed items name bytes place
-    → IsLeastFree (zone_range m.top zone) (map range_of (files_in m placed)) (length (bytes_of (read_only files) name)) align other
-    → files_in new items ≡ files_in m placed ++ record { name = name; place = other; bytes = bytes_of (read_only files) name } ∷ []
+    → IsLeastFree (zone_range m.top zone) (map range_of (files_in m placed)) (length (bytes_of files name)) align other
+    → files_in new items ≡ files_in m placed ++ record { name = name; place = other; bytes = bytes_of files name } ∷ []
 allocation_after m new files placed seen items zones zone name bytes align seen_align place top other allocation is pushed low =
     let least = least_is m zones zone placed seen bytes align seen_align place top is in
     let also : IsLeastFree (zone_range m.top zone) (map placed_range placed) (length bytes) align other =
@@ -157,7 +156,7 @@ allocation_after m new files placed seen items zones zone name bytes align seen_
     ∙ ap₂ (λ at bs. files_in m placed ++ record { name = name; place = at; bytes = bs } ∷ []) same allocation.found
 
 -- and the load goes on
-pub allocation_step : (m new : Memory) (files : List FileBytes) (placed seen items : List PlacedFile) (zones : Zones) (zone : Zone) (name bytes : List ℕ)
+pub allocation_step : (m new : Memory) (files : List File) (placed seen items : List PlacedFile) (zones : Zones) (zone : Zone) (name bytes : List ℕ)
     (align seen_align place top : ℕ) → IsAllocation m files placed name bytes
     → IsSeenLeast m zones zone placed seen bytes align seen_align place top → IsPushed m new placed items name bytes place
     → IsStep m new files placed items

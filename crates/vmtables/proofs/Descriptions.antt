@@ -1,5 +1,5 @@
 -- A description that is refused.
-use Rattle.std.proofs.Common.{◌≡◌, ℕ, List, Option, Result, Ok, Err, IfErr, inl, refl, sym, ◌∙◌}
+use Rattle.std.proofs.Common.{ℕ, List, Option, Result, Ok, Err, IfErr, inl, refl}
 use Rattle.std.specs.Result.{IsErrAnd}
 use Rattle.desc_toml.specs.declared.fault.DescFault.{DescFault}
 use Rattle.desc_toml.specs.declared.fault.DescFault.TheVariants as description

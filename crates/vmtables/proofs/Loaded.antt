@@ -1,31 +1,57 @@
 -- A world that was begun with a machine's image and then loaded is one in which the machine is loaded.
-use Rattle.std.proofs.Common.{◌≡◌, ℕ, ◌*◌, true, List, Option, Some, None, IfSome, IsSomeAnd, sym, subst, ◌∙◌}
-use Rattle.vt_bytes.specs.Memory.{Memory, IsRam, at, seen}
+use Rattle.std.proofs.Common.{◌≡◌, ℕ, true, List, [], ◌++◌, Option, Some, None, IfSome, IsSomeAnd, sym, subst, ◌∙◌, append-nil}
+use Rattle.std.specs.List.{flat_map}
+use Rattle.vt_bytes.specs.Memory.{Memory, IsRam, at}
 use Rattle.loader_script.specs.declared.entry.Entry.{Entry}
-use Rattle.machine_desc.specs.declared.machine.Machine.{Machine}
-use Rattle.table_model.specs.Inventory.{Shows, inventory_of}
-use Rattle.vmtables.specs.Boot.{IsLoaded}
-use Rattle.vmtables.specs.Image.{image_files, image_script}
-use Rattle.desc_toml.specs.Reading.{Reads}
-use Rattle.loader_script.specs.Run.{Placed}
+use Rattle.loader_script.specs.Run.{Placed, place_of}
 use Rattle.loader_script.specs.Left.{IsLeft}
-use Rattle.vmtables.specs.LowRun.{IsLowRun}
+use Rattle.cfg_directory.specs.declared.item.Item.{Item}
+use Rattle.machine_desc.specs.declared.machine.Machine.{Machine}
+use Rattle.desc_toml.specs.Reading.{Reads}
+use Rattle.image_files.specs.Script.{allocation, linking}
+use Rattle.image_files.specs.Items.{files_of}
+use Rattle.image_files.specs.Places.{ArePlaces}
+use Rattle.image_files.specs.Linked.{AreLinked}
+use Rattle.vm_image.specs.Image.{image_files, image_script, image_items}
+use Rattle.vm_image.specs.Promised.{top_of}
+use Rattle.vm_image.specs.Built.{IsBuilt}
+use Rattle.vmtables.specs.Boot.{IsLoaded}
+use Rattle.vmtables.specs.LowRun.{IsLowRun, AreLow, at_files}
 use Rattle.vmtables.specs.World.{Begun, IsBlank, IsBegun}
-use Rattle.vmtables.specs.declared.files.FileBytes.{FileBytes}
+use Rattle.vmtables.proofs.LowPlaces.{least_places, least_lawful, script_low}
 
--- the load keeps the files, the script, the top and the fill byte
+-- the load keeps the items, the script, the top and the fill byte
 abbrev pub KeepsImage : Begun → Begun → Type 0
-KeepsImage old new = (new.files ≡ old.files) × (new.script ≡ old.script) × (new.memory.top ≡ old.memory.top) × (new.memory.fill ≡ old.memory.fill)
+KeepsImage old new = (new.items ≡ old.items) × (new.script ≡ old.script) × (new.memory.top ≡ old.memory.top) × (new.memory.fill ≡ old.memory.fill)
 
--- the script of a machine's image runs
-abbrev pub ImageRuns : Machine → Type 0
-ImageRuns m = (places : List ℕ) × (placed : List Placed) × IsLowRun (m.top_mib * 0x100000) (image_files m) (image_script m) places placed
+-- The run of an image's script whose files are given the least places: they are lawful, and the files are linked there.
+pub record IsRun (m : Machine) : Type 0 where
+  pub places : List ℕ
+  pub placed : List Placed
+  pub lawful : ArePlaces (top_of m) [] (image_files m) places
+  pub linked : AreLinked (place_of placed) (image_files m) places placed
+  pub low : IsLowRun (top_of m) (files_of (image_items m)) (image_script m) places placed
 
--- and zeroed memory that it leaves shows the machine
-abbrev pub ImageShows : Machine → Type 0
-ImageShows m = (places : List ℕ) (placed : List Placed) (memory : Memory)
-    → IsLowRun (m.top_mib * 0x100000) (image_files m) (image_script m) places placed
-    → memory.top ≡ m.top_mib * 0x100000 → memory.fill ≡ 0 → IsLeft memory placed (λ _. memory.fill) → Shows memory.top (seen memory) (inventory_of m)
+-- there is one
+pub image_runs : (m : Machine) (items : List Item) (script : List Entry) → IsBuilt m items script → IsRun m
+image_runs m items script built =
+    let least = least_places (top_of m) (image_files m) built.room in
+    let lawful : ArePlaces (top_of m) [] (image_files m) least.0 = least_lawful least.1 in
+    let loaded = built.loaded least.0 lawful in
+    let there = rw built.items_are at built.there in
+    let low = script_low (top_of m) (image_files m) (files_of (image_items m)) least.0 there least.1 in
+    let all : (flat_map allocation (image_files m) ++ linking (image_files m)) ++ [] ≡ flat_map allocation (image_files m) ++ linking (image_files m) =
+    append-nil (flat_map allocation (image_files m) ++ linking (image_files m)) in
+    record {
+      places = least.0;
+      placed = loaded.0;
+      lawful = lawful;
+      linked = loaded.1;
+      low = record {
+        low = subst (λ those. AreLow (top_of m) those (at_files (files_of (image_items m)) [] least.0)) (sym all) low;
+        done = loaded.2;
+      };
+    }
 
 -- what is left in a memory that was filled
 left_filled : (old new : Memory) (placed : List Placed) → new.top ≡ old.top → new.fill ≡ old.fill → IsBlank old → IsLeft new placed (at old)
@@ -35,37 +61,47 @@ left_filled old new placed top fill blank left = record {
   others = λ address ram outside. left.others address ram outside ∙ blank address (subst (λ t. IsRam t address) top ram) ∙ sym fill;
 }
 
-pub loaded : (bytes : List ℕ) (m : Machine) (files : List FileBytes) (script : List Entry) (top : ℕ) (before after : Option Begun) → Reads bytes m
-    → ImageRuns m → ImageShows m
-    → files ≡ image_files m → script ≡ image_script m → top ≡ m.top_mib * 0x100000
-    → IsSomeAnd before (λ w. IsBegun w files script top 0)
+pub loaded : (bytes : List ℕ) (m : Machine) (items : List Item) (script : List Entry) (top : ℕ) (before after : Option Begun) → Reads bytes m
+    → IsBuilt m items script → top ≡ top_of m
+    → IsSomeAnd before (λ w. IsBegun w items script top 0)
     → IsSomeAnd after (λ w. w.done ≡ true)
     → IfSome before (λ old. IfSome after (λ new. (places : List ℕ) (placed : List Placed)
-    → IsLowRun old.memory.top old.files old.script places placed → IsLeft new.memory placed (at old.memory)))
+    → IsLowRun old.memory.top (files_of old.items) old.script places placed → IsLeft new.memory placed (at old.memory)))
     → IfSome before (λ old. IfSome after (λ new. KeepsImage old new))
     → IsSomeAnd after (IsLoaded bytes)
-loaded bytes m files script top (Some old) (Some new) read runs shows its_files its_script its_top begun done left same =
-    let old_files : old.files ≡ image_files m = begun.files ∙ its_files in
-    let old_script : old.script ≡ image_script m = begun.script ∙ its_script in
-    let old_top : old.memory.top ≡ m.top_mib * 0x100000 = begun.top ∙ its_top in
-    let new_files : new.files ≡ image_files m = same.0 ∙ old_files in
+loaded bytes m items script top (Some old) (Some new) read built its_top begun done left same =
+    let is : IsRun m = image_runs m items script built in
+    let old_items : old.items ≡ image_items m = begun.items ∙ built.items_are in
+    let old_script : old.script ≡ image_script m = begun.script ∙ built.script_is in
+    let old_top : old.memory.top ≡ top_of m = begun.top ∙ its_top in
+    let new_items : new.items ≡ image_items m = same.0 ∙ old_items in
     let new_script : new.script ≡ image_script m = same.1 ∙ old_script in
-    let new_top : new.memory.top ≡ m.top_mib * 0x100000 = same.2 ∙ old_top in
+    let new_top : new.memory.top ≡ top_of m = same.2 ∙ old_top in
     let zeros : new.memory.fill ≡ 0 = same.3 ∙ begun.fill in
-    let is_left : IsLeft new.memory runs.1 (λ _. new.memory.fill) =
-    left_filled old.memory new.memory runs.1 same.2 same.3 begun.filled (left runs.0 runs.1 (rw (old_top, old_files, old_script) runs.2)) in
+    let is_left : IsLeft new.memory is.placed (λ _. new.memory.fill) =
+    left_filled old.memory new.memory is.placed same.2 same.3 begun.filled (left is.places is.placed (rw (old_top, old_items, old_script) is.low)) in
     record {
       machine = m;
       read = read;
-      files = new_files;
+      items = new_items;
       script = new_script;
+      small = rw (same.0 ∙ begun.items) built.small;
       done = done;
-      places = runs.0;
-      placed = runs.1;
-      runs = rw (new_top, new_files, new_script) runs.2;
+      places = is.places;
+      placed = is.placed;
+      runs = rw (new_top, new_items, new_script) is.low;
       left = is_left;
       zeros = zeros;
-      shown = shows runs.0 runs.1 new.memory runs.2 new_top zeros is_left;
+      shown = built.shown is.places is.placed new.memory is.lawful is.linked new_top is_left;
     }
-loaded bytes m files script top None after read runs shows its_files its_script its_top begun done left same = absurd begun
-loaded bytes m files script top (Some old) None read runs shows its_files its_script its_top begun done left same = absurd done
+loaded bytes m items script top None after read built its_top begun done left same = absurd begun
+loaded bytes m items script top (Some old) None read built its_top begun done left same = absurd done
+
+-- the script of a machine's image runs in a world that was begun with it
+pub begun_runs : (m : Machine) (items : List Item) (script : List Entry) (top : ℕ) (begun : Option Begun) → IsBuilt m items script → top ≡ top_of m
+    → IsSomeAnd begun (λ w. IsBegun w items script top 0)
+    → IfSome begun (λ w. (places : List ℕ) × (placed : List Placed) × IsLowRun w.memory.top (files_of w.items) w.script places placed)
+begun_runs m items script top None built its_top is = tt
+begun_runs m items script top (Some w) built its_top is =
+    let run : IsRun m = image_runs m items script built in
+    (run.places, run.placed, rw (is.top ∙ its_top, is.items ∙ built.items_are, is.script ∙ built.script_is) run.low)

@@ -4,11 +4,11 @@ use Rattle.std.proofs.lemmas.Option.{same_Some}
 use Rattle.vt_outside.specs.Placement.{Range}
 use Rattle.loader_script.specs.declared.entry.Entry.{Entry}
 use Rattle.loader_script.specs.declared.entry.Entry.TheVariants.{Allocate, AddPointer, AddChecksum, WritePointer, Misnamed, Skipped}
-use Rattle.loader_script.specs.Run.{Placed, Progress, End, Done, bytes_of, allocated, with_pointer, with_sum, with_written, cause_of, carried_out, run_from}
+use Rattle.loader_script.specs.Run.{File, Placed, Progress, End, Done, bytes_of, allocated, with_pointer, with_sum, cause_of, carried_out, run_from}
 use Rattle.loader_script.specs.Left.{range_of}
 use Rattle.loader_script.proofs.Runs.{goes-on, done-on}
-use Rattle.vmtables.specs.declared.files.FileBytes.{FileBytes}
-use Rattle.vmtables.specs.Places.{zone_range, zone_numbered, IsLeastFree}
+use Rattle.image_files.specs.Zones.{zone_range, zone_numbered}
+use Rattle.vmtables.specs.Places.{IsLeastFree}
 use Rattle.vmtables.specs.LowRun.{at_files, IsLow, AreLow, IsLowRun}
 
 -- from how far the run is, each command gets a least free place where it needs one, isn't refused, and is carried out
@@ -39,14 +39,14 @@ leads-from top index (entry ∷ script) before after low done =
     (is.next, low.0, is.none, is.carried, leads-from top (suc index) script is.next after (low.1 is.next is.carried) is.rest)
 
 -- a run of a load's script
-pub low-run : (top : ℕ) (files : List FileBytes) (script : List Entry) (places : List ℕ) (placed : List Placed)
+pub low-run : (top : ℕ) (files : List File) (script : List Entry) (places : List ℕ) (placed : List Placed)
     → LeadsTo top script (at_files files [] places) (at_files files placed []) → IsLowRun top files script places placed
 low-run top files script places placed leads = record {
   low = leads-low top script (at_files files [] places) (at_files files placed []) leads;
   done = leads-done top 0 script (at_files files [] places) (at_files files placed []) leads;
 }
 
-pub low-run-leads : (top : ℕ) (files : List FileBytes) (script : List Entry) (places : List ℕ) (placed : List Placed)
+pub low-run-leads : (top : ℕ) (files : List File) (script : List Entry) (places : List ℕ) (placed : List Placed)
     → IsLowRun top files script places placed → LeadsTo top script (at_files files [] places) (at_files files placed [])
 low-run-leads top files script places placed is = leads-from top 0 script (at_files files [] places) (at_files files placed []) is.low is.done
 
@@ -107,15 +107,7 @@ as_far top (AddPointer dest src offset size) p q next other far low also carried
     far_placed (with_pointer dest src offset size) p q next other far carried also_carried
 as_far top (AddChecksum name offset start count) p q next other far low also carried also_carried =
     far_placed (with_sum name offset start count) p q next other far carried also_carried
-as_far top (WritePointer dest src dst_offset src_offset size) p q next other far low also carried also_carried =
-    let next_is = same_Some next (record p { files = with_written dest src dst_offset src_offset size p }) (sym carried) in
-    let other_is = same_Some other (record q { files = with_written dest src dst_offset src_offset size q }) (sym also_carried) in
-    record {
-      files = ap (λ (s : Progress). s.files) next_is
-          ∙ ap₂ (λ fs ps. with_written dest src dst_offset src_offset size (record { files = fs; placed = ps; places = [] })) far.files far.placed
-          ∙ sym (ap (λ (s : Progress). s.files) other_is);
-      placed = ap (λ (s : Progress). s.placed) next_is ∙ far.placed ∙ sym (ap (λ (s : Progress). s.placed) other_is);
-    }
+as_far top (WritePointer dest src dst_offset src_offset size) p q next other far low also carried also_carried = absurd low
 as_far top (Misnamed command) p q next other far low also carried also_carried = far_placed (λ placed. placed) p q next other far carried also_carried
 as_far top (Skipped command) p q next other far low also carried also_carried = far_placed (λ placed. placed) p q next other far carried also_carried
 
@@ -127,7 +119,7 @@ lead_as_far top [] p q after other far first second =
 lead_as_far top (entry ∷ script) p q after other far first second =
     lead_as_far top script first.0 second.0 after other (as_far top entry p q first.0 second.0 far first.1 second.1 first.3 second.3) first.4 second.4
 
-pub one_low_run : (top : ℕ) (files : List FileBytes) (script : List Entry) (places others : List ℕ) (placed also : List Placed)
+pub one_low_run : (top : ℕ) (files : List File) (script : List Entry) (places others : List ℕ) (placed also : List Placed)
     → IsLowRun top files script places placed → IsLowRun top files script others also → placed ≡ also
 one_low_run top files script places others placed also first second =
     lead_as_far top script (at_files files [] places) (at_files files [] others) (at_files files placed []) (at_files files also [])

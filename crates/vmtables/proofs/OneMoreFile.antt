@@ -8,8 +8,7 @@ use Rattle.std.proofs.lemmas.Slice.Eq.{bytes_eq-Decides}
 use Rattle.vt_bytes.specs.Memory.{Memory, IsRam, IsRamRange, bytes_at, Puts}
 use Rattle.vmtables.specs.declared.placing.PlacedFile.{PlacedFile}
 use Rattle.vt_outside.specs.Placement.{Apart}
-use Rattle.loader_script.specs.Run.{Placed}
-use Rattle.vmtables.specs.declared.files.FileBytes.{FileBytes}
+use Rattle.loader_script.specs.Run.{File, Placed}
 use Rattle.vmtables.specs.FilesInMemory.{placed_range, EndsLow, placed_in, files_in, AreApart, ArePlaced, IsOfSize, IsBeside, IsLoading, IsStep}
 use Rattle.vmtables.proofs.Writes.{stays}
 
@@ -76,7 +75,7 @@ files_pushed old new placed p bytes puts size all fresh =
     (ap (λ held. record { name = p.name; place = p.place; bytes = held }) held)
 
 -- and the load goes on
-pub step_pushed : (old new : Memory) (files : List FileBytes) (placed : List PlacedFile) (p : PlacedFile) (bytes : List ℕ)
+pub step_pushed : (old new : Memory) (files : List File) (placed : List PlacedFile) (p : PlacedFile) (bytes : List ℕ)
     → IsLoading old.top files placed → Puts old new p.place bytes → p.size ≡ length bytes → IsNew old.top placed p → IsOfSize files p
     → IsStep old new files placed (placed ++ p ∷ [])
 step_pushed old new files placed p bytes loading puts size fresh sized = record {

@@ -1,5 +1,5 @@
 -- One command of a script that isn't refused, and the rest of the script behind it.
-use Rattle.std.proofs.Common.{◌≡◌, ℕ, ◌+◌, ◌-◌, ◌%◌, ◌^◌, ◌<◌, ◌≤◌, ◌⊎◌, true, false, inl, inr, cond, List, [], ◌∷◌, ◌++◌, length, map, Some, None}
+use Rattle.std.proofs.Common.{◌≡◌, ℕ, ◌+◌, ◌-◌, ◌%◌, ◌^◌, ◌<◌, ◌≤◌, ◌⊎◌, true, List, [], ◌∷◌, ◌++◌, length, map, Some, None}
 use Rattle.std.proofs.Common.{slice_index, slice_set}
 use Rattle.std.proofs.Common.{refl, ap, sym, ◌∙◌, subst}
 use Rattle.std.specs.Int.{is_power_of_two}
@@ -7,7 +7,6 @@ use Rattle.std.specs.List.{AllByRecursion}
 use Rattle.std.specs.Option.{option_map_or}
 use Rattle.std.specs.Str.{bytes_eq}
 use lib.Count.{ones}
-use Rattle.std.proofs.lemmas.Bool.{cases_Bool, cond-true, cond-false}
 use Rattle.vt_bytes.specs.Numbers.{le, le_bytes, byte_sum}
 use Rattle.vt_bytes.specs.Parts.{part, put_at}
 use Rattle.vt_layout.specs.Rows.{IsPointerSize}
@@ -18,9 +17,9 @@ use Rattle.loader_script.specs.Run.{with_pointer, with_sum, carried_out}
 use Rattle.loader_script.specs.Left.{range_of}
 use Rattle.loader_script.proofs.Conditions.{conditions_suffice}
 use Rattle.loader_script.proofs.Named.{same_name, of_found, found_passes}
-use Rattle.vmtables.specs.declared.files.FileBytes.{FileBytes}
-use Rattle.vmtables.specs.Places.{zone_range, zone_numbered, IsLeastFree}
-use Rattle.vmtables.specs.LowRun.{read_only, at_files}
+use Rattle.image_files.specs.Zones.{zone_range, zone_numbered}
+use Rattle.vmtables.specs.Places.{IsLeastFree}
+use Rattle.vmtables.specs.LowRun.{at_files}
 use Rattle.vmtables.proofs.LowRuns.{LeadsTo}
 
 -- 16 and 64 are powers of two
@@ -33,44 +32,26 @@ unfolding ones
 sixteen = refl
 
 -- the files of a load have one of this name with these bytes
-abbrev pub Has : List FileBytes → List ℕ → List ℕ → Type 0
-Has files name bytes = file_of (read_only files) name ≡ Some (record { name = name; bytes = bytes; writable = false })
+abbrev pub Has : List File → List ℕ → List ℕ → Type 0
+Has files name bytes = (file : File) × (file_of files name ≡ Some file) × (file.bytes ≡ bytes)
 
 -- a placed file is one of the files, and has as many bytes
-abbrev pub IsOf : List FileBytes → Placed → Type 0
-IsOf files p = (file : File) × (file_of (read_only files) p.name ≡ Some file) × (length file.bytes ≡ length p.bytes)
+abbrev pub IsOf : List File → Placed → Type 0
+IsOf files p = (file : File) × (file_of files p.name ≡ Some file) × (length file.bytes ≡ length p.bytes)
 
-abbrev pub AreOf : List FileBytes → List Placed → Type 0
+abbrev pub AreOf : List File → List Placed → Type 0
 AreOf files placed = AllByRecursion (IsOf files) placed
 
 -- the placed file of a name is one of them
-pub of_placed : (files : List FileBytes) (placed : List Placed) (name : List ℕ) (d : Placed) → AreOf files placed → placed_of placed name ≡ Some d
-    → (file : File) × (file_of (read_only files) name ≡ Some file) × (length file.bytes ≡ length d.bytes)
+pub of_placed : (files : List File) (placed : List Placed) (name : List ℕ) (d : Placed) → AreOf files placed → placed_of placed name ≡ Some d
+    → (file : File) × (file_of files name ≡ Some file) × (length file.bytes ≡ length d.bytes)
 of_placed files placed name d are found =
     let is = of_found (IsOf files) (λ (p : Placed). bytes_eq p.name name) placed d found are in
     let named : d.name ≡ name = same_name d.name name (found_passes (λ (p : Placed). bytes_eq p.name name) placed d found) in
-    (is.0, ap (file_of (read_only files)) (sym named) ∙ is.1, is.2)
-
--- they still are where a file has as many other bytes
-is_of-with : (files : List FileBytes) (p : Placed) (name bytes : List ℕ) → IsOf files p
-    → ((file : File) → file_of (read_only files) name ≡ Some file → length file.bytes ≡ length bytes)
-    → IsOf files (cond (bytes_eq p.name name) (record p { bytes = bytes }) p)
-is_of-with files p name bytes is sized =
-    elim (cases_Bool (bytes_eq p.name name)) as (λ _. IsOf files (cond (bytes_eq p.name name) (record p { bytes = bytes }) p)) [
-      | inl named ↦
-          let there : file_of (read_only files) name ≡ Some is.0 = ap (file_of (read_only files)) (sym (same_name p.name name named)) ∙ is.1 in
-          let with_bytes : IsOf files (record p { bytes = bytes }) = (is.0, is.1, sized is.0 there) in
-          subst (IsOf files) (sym (cond-true _ (record p { bytes = bytes }) p named)) with_bytes
-      | inr other ↦ subst (IsOf files) (sym (cond-false _ (record p { bytes = bytes }) p other)) is
-    ]
-
-pub are_of-with : (files : List FileBytes) (placed : List Placed) (name bytes : List ℕ) → AreOf files placed
-    → ((file : File) → file_of (read_only files) name ≡ Some file → length file.bytes ≡ length bytes) → AreOf files (placed_with placed name bytes)
-are_of-with files [] name bytes are sized = tt
-are_of-with files (p ∷ placed) name bytes are sized = (is_of-with files p name bytes are.0 sized, are_of-with files placed name bytes are.1 sized)
+    (is.0, ap (file_of files) (sym named) ∙ is.1, is.2)
 
 -- an Allocate of a file that isn't empty and isn't placed yet
-pub allocate_leads : (top : ℕ) (files : List FileBytes) (placed : List Placed) (name bytes : List ℕ) (align zone place : ℕ) (others : List ℕ)
+pub allocate_leads : (top : ℕ) (files : List File) (placed : List Placed) (name bytes : List ℕ) (align zone place : ℕ) (others : List ℕ)
     (script : List Entry) (after : Progress) → Has files name bytes → placed_of placed name ≡ None → 0 < length bytes
     → is_power_of_two align ≡ true → (zone ≡ 1) ⊎ (zone ≡ 2)
     → IsLeastFree (zone_range top (zone_numbered zone)) (map range_of placed) (length bytes) align place
@@ -78,8 +59,8 @@ pub allocate_leads : (top : ℕ) (files : List FileBytes) (placed : List Placed)
     → LeadsTo top (Allocate name align zone ∷ script) (at_files files placed (place ∷ others)) after
 unfolding carried_out
 allocate_leads top files placed name bytes align zone place others script after has fresh some power known least rest =
-    let its_bytes : bytes_of (read_only files) name ≡ bytes = ap (λ o. option_map_or (λ (file : File). file.bytes) o []) has in (
-      at_files files (placed ++ record { name = name; place = place; bytes = bytes_of (read_only files) name } ∷ []) others,
+    let its_bytes : bytes_of files name ≡ bytes = ap (λ o. option_map_or (λ (file : File). file.bytes) o []) has.1 ∙ has.2 in (
+      at_files files (placed ++ record { name = name; place = place; bytes = bytes_of files name } ∷ []) others,
       (
         place,
         others,
@@ -87,10 +68,10 @@ allocate_leads top files placed name bytes align zone place others script after 
         subst (λ (bs : List ℕ). IsLeastFree (zone_range top (zone_numbered zone)) (map range_of placed) (length bs) align place) (sym its_bytes) least,
       ),
       conditions_suffice (Allocate name align zone) (at_files files placed (place ∷ others)) (record {
-        file = record { name = name; bytes = bytes; writable = false };
-        there = has;
+        file = has.0;
+        there = has.1;
         fresh = fresh;
-        some = some;
+        some = subst (λ (bs : List ℕ). 0 < length bs) (sym has.2) some;
         power = power;
         known_zone = known;
       }),
@@ -109,7 +90,7 @@ pub with_pointer-is : (placed : List Placed) (dest src : List ℕ) (offset size 
 with_pointer-is placed dest src offset size d s found source_found = rw (found, source_found) refl
 
 -- an AddPointer whose sum fits
-pub pointer_leads : (top : ℕ) (files : List FileBytes) (placed : List Placed) (dest src : List ℕ) (offset size : ℕ) (d s : Placed) (places : List ℕ)
+pub pointer_leads : (top : ℕ) (files : List File) (placed : List Placed) (dest src : List ℕ) (offset size : ℕ) (d s : Placed) (places : List ℕ)
     (script : List Entry) (after : Progress) → AreOf files placed → placed_of placed dest ≡ Some d → placed_of placed src ≡ Some s
     → IsPointerSize size → offset + size ≤ length d.bytes → le (part d.bytes offset size) + s.place < 256 ^ size
     → LeadsTo top script
@@ -144,7 +125,7 @@ pub with_sum-is : (placed : List Placed) (name : List ℕ) (offset start count :
 with_sum-is placed name offset start count d found = rw found refl
 
 -- an AddChecksum within its file
-pub checksum_leads : (top : ℕ) (files : List FileBytes) (placed : List Placed) (name : List ℕ) (offset start count : ℕ) (d : Placed) (places : List ℕ)
+pub checksum_leads : (top : ℕ) (files : List File) (placed : List Placed) (name : List ℕ) (offset start count : ℕ) (d : Placed) (places : List ℕ)
     (script : List Entry) (after : Progress) → AreOf files placed → placed_of placed name ≡ Some d
     → offset < length d.bytes → start + count ≤ length d.bytes
     → LeadsTo top script (at_files files (placed_with placed name

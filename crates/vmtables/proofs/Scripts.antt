@@ -1,24 +1,22 @@
 -- The commands of a script on memory, one after the other.
-use Rattle.std.proofs.Common.{◌≡◌, ℕ, ◌+◌, ◌<◌, ◌≤◌, inl, inr, true, false, List, [], ◌∷◌, ◌++◌, length, map, drop, get_or, Option, option_map, Some, None}
+use Rattle.std.proofs.Common.{◌≡◌, ℕ, ◌+◌, ◌<◌, ◌≤◌, List, [], ◌∷◌, ◌++◌, length, map, drop, get_or, Option, option_map, Some, None}
 use Rattle.std.proofs.Common.{arith, refl, ap, subst, sym}
-use Rattle.std.proofs.Common.{◌∙◌, true≢false}
+use Rattle.std.proofs.Common.{◌∙◌}
 use Rattle.std.specs.List.{AllByRecursion}
-use Rattle.std.specs.Str.{bytes_eq}
-use Rattle.std.proofs.lemmas.Bool.{cases_Bool, cond-true, cond-false}
 use Rattle.std.proofs.lemmas.List.{drop_more, drop_all}
 use Rattle.std.proofs.lemmas.Option.{same_Some, none-some}
 use Rattle.vt_bytes.specs.Memory.{Memory, IsRam}
 use Rattle.vt_bytes.proofs.Bytes.{length-bytes_at}
 use Rattle.loader_script.specs.declared.entry.Entry.{Entry}
-use Rattle.loader_script.specs.declared.entry.Entry.TheVariants.{Allocate, AddPointer, AddChecksum, WritePointer, Misnamed, Skipped}
+use Rattle.loader_script.specs.declared.entry.Entry.TheVariants.{Allocate, AddPointer, AddChecksum, Misnamed, Skipped}
 use Rattle.loader_script.specs.Run.{File, Placed, Progress, file_of, bytes_of, with_pointer, with_sum, cause_of, carried_out}
 use Rattle.loader_script.specs.Left.{range_of}
-use Rattle.loader_script.specs.Conditions.{CanAllocate, CanAddPointer, CanAddChecksum, CanWritePointer}
+use Rattle.loader_script.specs.Conditions.{CanAllocate, CanAddPointer, CanAddChecksum}
 use Rattle.loader_script.proofs.Conditions.{conditions_from}
-use Rattle.vmtables.specs.declared.files.FileBytes.{FileBytes}
 use Rattle.vmtables.specs.declared.placing.PlacedFile.{PlacedFile}
-use Rattle.vmtables.specs.Places.{zone_range, zone_numbered, IsLeastFree}
-use Rattle.vmtables.specs.LowRun.{read_only, at_files, IsLow, IsLowRun}
+use Rattle.image_files.specs.Zones.{zone_range, zone_numbered}
+use Rattle.vmtables.specs.Places.{IsLeastFree}
+use Rattle.vmtables.specs.LowRun.{at_files, IsLow, IsLowRun}
 use Rattle.vmtables.specs.FilesInMemory.{files_in, progress_in, IsOfSize, IsLoading, Stays, IsStep, CanPoint, CanSum}
 use Rattle.vmtables.proofs.LowRuns.{LeadsTo, allocate-leads, low-run-leads}
 use Rattle.vmtables.proofs.ScriptSteps.{AreOf, of_placed}
@@ -29,14 +27,14 @@ sized_from : (found : Option File) (size : ℕ) → option_map (λ (file : File)
 sized_from None size is = absurd (none-some size is)
 sized_from (Some file) size is = (file, refl, same_Some (length file.bytes) size is)
 
-pub are_of : (m : Memory) (files : List FileBytes) (placed : List PlacedFile) → AllByRecursion (IsOfSize files) placed → AreOf files (files_in m placed)
+pub are_of : (m : Memory) (files : List File) (placed : List PlacedFile) → AllByRecursion (IsOfSize files) placed → AreOf files (files_in m placed)
 are_of m files [] sizes = tt
 are_of m files (p ∷ placed) sizes =
-    let file = sized_from (file_of (read_only files) p.name) p.size sizes.0 in
+    let file = sized_from (file_of files p.name) p.size sizes.0 in
     ((file.0, file.1, file.2 ∙ sym (length-bytes_at m p.place p.size)), are_of m files placed sizes.1)
 
 -- what a command that isn't refused needs of the files in memory
-pub pointer_can : (m : Memory) (files : List FileBytes) (placed : List PlacedFile) (places : List ℕ) (dest src : List ℕ) (offset size : ℕ)
+pub pointer_can : (m : Memory) (files : List File) (placed : List PlacedFile) (places : List ℕ) (dest src : List ℕ) (offset size : ℕ)
     → IsLoading m.top files placed → cause_of (AddPointer dest src offset size) (progress_in m files placed places) ≡ None
     → CanPoint (files_in m placed) dest src offset size
 pointer_can m files placed places dest src offset size loading none =
@@ -54,7 +52,7 @@ pointer_can m files placed places dest src offset size loading none =
       fits = can.fits;
     }
 
-pub sum_can : (m : Memory) (files : List FileBytes) (placed : List PlacedFile) (places : List ℕ) (name : List ℕ) (offset start count : ℕ)
+pub sum_can : (m : Memory) (files : List File) (placed : List PlacedFile) (places : List ℕ) (name : List ℕ) (offset start count : ℕ)
     → IsLoading m.top files placed → cause_of (AddChecksum name offset start count) (progress_in m files placed places) ≡ None
     → CanSum (files_in m placed) name offset start count
 sum_can m files placed places name offset start count loading none =
@@ -70,35 +68,17 @@ sum_can m files placed places name offset start count loading none =
       range = subst (λ n. start + count ≤ n) size can.range;
     }
 
-pub allocates : (m : Memory) (files : List FileBytes) (placed : List PlacedFile) (places : List ℕ) (name : List ℕ) (align zone : ℕ)
+pub allocates : (m : Memory) (files : List File) (placed : List PlacedFile) (places : List ℕ) (name : List ℕ) (align zone : ℕ)
     → cause_of (Allocate name align zone) (progress_in m files placed places) ≡ None → CanAllocate (progress_in m files placed places) name align zone
 allocates m files placed places name align zone none = conditions_from (Allocate name align zone) (progress_in m files placed places) none
 
--- a command that writes to a file of fw_cfg is refused, since none is writable
-none_writable : (files : List FileBytes) (name : List ℕ) (file : File) → file_of (read_only files) name ≡ Some file → file.writable ≡ true → ⊥
-none_writable [] name file found writable = none-some file found
-none_writable (first ∷ files) name file found writable =
-    elim (cases_Bool (bytes_eq first.name name)) as (λ _. ⊥) [
-      | inl same ↦
-          let is : record { name = first.name; bytes = first.bytes; writable = false } ≡ file =
-          same_Some _ file (sym (cond-true _ _ _ same) ∙ found) in
-          true≢false (sym writable ∙ sym (ap (λ (f : File). f.writable) is))
-      | inr other ↦ none_writable files name file (sym (cond-false _ _ _ other) ∙ found) writable
-    ]
-
-pub write_refused : (m : Memory) (files : List FileBytes) (placed : List PlacedFile) (places : List ℕ) (dest src : List ℕ) (dst_offset src_offset size : ℕ)
-    → cause_of (WritePointer dest src dst_offset src_offset size) (progress_in m files placed places) ≡ None → ⊥
-write_refused m files placed places dest src dst_offset src_offset size none =
-    let can : CanWritePointer (progress_in m files placed places) dest src dst_offset src_offset size =
-    conditions_from (WritePointer dest src dst_offset src_offset size) (progress_in m files placed places) none in
-    none_writable files dest can.file can.there can.writable
-
-pub misnamed_refused : (m : Memory) (files : List FileBytes) (placed : List PlacedFile) (places : List ℕ) (command : ℕ)
+-- a command that names no file is refused
+pub misnamed_refused : (m : Memory) (files : List File) (placed : List PlacedFile) (places : List ℕ) (command : ℕ)
     → cause_of (Misnamed command) (progress_in m files placed places) ≡ None → ⊥
 misnamed_refused m files placed places command none = conditions_from (Misnamed command) (progress_in m files placed places) none
 
 -- what each command makes of how far the run is
-pub pointer_next : (m new : Memory) (files : List FileBytes) (placed : List PlacedFile) (places : List ℕ) (dest src : List ℕ) (offset size : ℕ)
+pub pointer_next : (m new : Memory) (files : List File) (placed : List PlacedFile) (places : List ℕ) (dest src : List ℕ) (offset size : ℕ)
     (next : Progress) → files_in new placed ≡ with_pointer dest src offset size (files_in m placed)
     → carried_out (AddPointer dest src offset size) (progress_in m files placed places) ≡ Some next → next ≡ progress_in new files placed next.places
 unfolding carried_out
@@ -106,7 +86,7 @@ pointer_next m new files placed places dest src offset size next after carried =
     let is : next ≡ at_files files (with_pointer dest src offset size (files_in m placed)) places = same_Some next _ (sym carried) in
     is ∙ ap (λ ps. at_files files ps places) (sym after) ∙ ap (at_files files (files_in new placed)) (sym (ap (λ (p : Progress). p.places) is))
 
-pub sum_next : (m new : Memory) (files : List FileBytes) (placed : List PlacedFile) (places : List ℕ) (name : List ℕ) (offset start count : ℕ)
+pub sum_next : (m new : Memory) (files : List File) (placed : List PlacedFile) (places : List ℕ) (name : List ℕ) (offset start count : ℕ)
     (next : Progress) → files_in new placed ≡ with_sum name offset start count (files_in m placed)
     → carried_out (AddChecksum name offset start count) (progress_in m files placed places) ≡ Some next → next ≡ progress_in new files placed next.places
 unfolding carried_out
@@ -114,17 +94,17 @@ sum_next m new files placed places name offset start count next after carried =
     let is : next ≡ at_files files (with_sum name offset start count (files_in m placed)) places = same_Some next _ (sym carried) in
     is ∙ ap (λ ps. at_files files ps places) (sym after) ∙ ap (at_files files (files_in new placed)) (sym (ap (λ (p : Progress). p.places) is))
 
-pub skipped_next : (m : Memory) (files : List FileBytes) (placed : List PlacedFile) (places : List ℕ) (command : ℕ) (next : Progress)
+pub skipped_next : (m : Memory) (files : List File) (placed : List PlacedFile) (places : List ℕ) (command : ℕ) (next : Progress)
     → carried_out (Skipped command) (progress_in m files placed places) ≡ Some next → next ≡ progress_in m files placed next.places
 unfolding carried_out
 skipped_next m files placed places command next carried =
     let is : next ≡ progress_in m files placed places = same_Some next _ (sym carried) in
     is ∙ ap (progress_in m files placed) (sym (ap (λ (p : Progress). p.places) is))
 
-pub allocate_next : (m new : Memory) (files : List FileBytes) (placed items : List PlacedFile) (places : List ℕ) (name : List ℕ) (top align zone : ℕ)
+pub allocate_next : (m new : Memory) (files : List File) (placed items : List PlacedFile) (places : List ℕ) (name : List ℕ) (top align zone : ℕ)
     (next : Progress)
-    → ((place : ℕ) → IsLeastFree (zone_range top (zone_numbered zone)) (map range_of (files_in m placed)) (length (bytes_of (read_only files) name)) align place
-    → files_in new items ≡ files_in m placed ++ record { name = name; place = place; bytes = bytes_of (read_only files) name } ∷ [])
+    → ((place : ℕ) → IsLeastFree (zone_range top (zone_numbered zone)) (map range_of (files_in m placed)) (length (bytes_of files name)) align place
+    → files_in new items ≡ files_in m placed ++ record { name = name; place = place; bytes = bytes_of files name } ∷ [])
     → IsLow top (Allocate name align zone) (progress_in m files placed places)
     → carried_out (Allocate name align zone) (progress_in m files placed places) ≡ Some next → next ≡ progress_in new files items next.places
 allocate_next m new files placed items places name top align zone next after low carried =
@@ -132,18 +112,18 @@ allocate_next m new files placed items places name top align zone next after low
     is ∙ ap (λ ps. at_files files ps low.1) (sym (after low.0 low.3)) ∙ ap (at_files files (files_in new items)) (sym (ap (λ (p : Progress). p.places) is))
 
 -- a step in which no file is placed
-pub same_files_step : (before now : Memory) (files : List FileBytes) (placed : List PlacedFile) → IsLoading before.top files placed
+pub same_files_step : (before now : Memory) (files : List File) (placed : List PlacedFile) → IsLoading before.top files placed
     → Stays before now placed placed → IsStep before now files placed placed
 same_files_step before now files placed loading stays =
     record { stays = stays; loading = subst (λ top. IsLoading top files placed) (sym stays.top) loading }
 
 -- and one in which nothing changes
-pub nothing_step : (m : Memory) (files : List FileBytes) (placed : List PlacedFile) → IsLoading m.top files placed → IsStep m m files placed placed
+pub nothing_step : (m : Memory) (files : List File) (placed : List PlacedFile) → IsLoading m.top files placed → IsStep m m files placed placed
 nothing_step m files placed loading =
     record { stays = record { top = refl; fill = refl; others = λ a ram beside. (beside, refl) }; loading = loading }
 
 -- two steps are one
-pub steps : (before between now : Memory) (files : List FileBytes) (none placed more : List PlacedFile) → IsStep before between files none placed
+pub steps : (before between now : Memory) (files : List File) (none placed more : List PlacedFile) → IsStep before between files none placed
     → IsStep between now files placed more → IsStep before now files none more
 steps before between now files none placed more first second = record {
   stays = record {
@@ -158,7 +138,7 @@ steps before between now files none placed more first second = record {
 }
 
 -- a load begins with no file
-pub none_step : (m : Memory) (files : List FileBytes) (placed : List PlacedFile) → placed ≡ [] → IsStep m m files placed placed
+pub none_step : (m : Memory) (files : List File) (placed : List PlacedFile) → placed ≡ [] → IsStep m m files placed placed
 none_step m files placed none =
     let empty : IsLoading m.top files [] = record { apart = tt; sizes = tt } in
     nothing_step m files placed (subst (IsLoading m.top files) (sym none) empty)
@@ -182,14 +162,14 @@ goes_on top now_top script i entry before after within is top_is leads =
     (runs.0, subst (λ t. IsLow t entry before) (sym top_is) runs.1, runs.2, runs.3, runs.4)
 
 -- a load that begins with no file leads to what the run leaves
-pub begins : (m : Memory) (files : List FileBytes) (placed : List PlacedFile) (script : List Entry) (places : List ℕ) (after : List Placed) → placed ≡ []
+pub begins : (m : Memory) (files : List File) (placed : List PlacedFile) (script : List Entry) (places : List ℕ) (after : List Placed) → placed ≡ []
     → IsLowRun m.top files script places after → LeadsTo m.top script (progress_in m files placed places) (at_files files after [])
 begins m files placed script places after none run =
     subst (λ (fs : List PlacedFile). LeadsTo m.top script (progress_in m files fs places) (at_files files after [])) (sym none)
     (low-run-leads m.top files script places after run)
 
 -- after a command the load leads on from how far it is then
-pub on_after : (top now_top : ℕ) (script : List Entry) (i : ℕ) (entry : Entry) (files : List FileBytes) (m new : Memory) (placed more : List PlacedFile)
+pub on_after : (top now_top : ℕ) (script : List Entry) (i : ℕ) (entry : Entry) (files : List File) (m new : Memory) (placed more : List PlacedFile)
     (places : List ℕ) (after : Progress) → i < length script → entry ≡ get_or script i entry → now_top ≡ top
     → ((left : List ℕ) (next : Progress) → IsLow now_top entry (progress_in m files placed left)
     → carried_out entry (progress_in m files placed left) ≡ Some next → next ≡ progress_in new files more next.places)
@@ -200,7 +180,7 @@ on_after top now_top script i entry files m new placed more places after within 
     (on.0.places, subst (λ (p : Progress). LeadsTo top (drop (i + 1) script) p after) (carries places on.0 on.1 on.3) on.4)
 
 -- a load that leads nowhere further has left the files
-pub ended : (top : ℕ) (script : List Entry) (i : ℕ) (files : List FileBytes) (m : Memory) (placed : List PlacedFile) (left : List ℕ) (after : List Placed)
+pub ended : (top : ℕ) (script : List Entry) (i : ℕ) (files : List File) (m : Memory) (placed : List PlacedFile) (left : List ℕ) (after : List Placed)
     → length script ≤ i → LeadsTo top (drop i script) (progress_in m files placed left) (at_files files after []) → files_in m placed ≡ after
 ended top script i files m placed left after past leads =
     let none : at_files files after [] ≡ progress_in m files placed left =

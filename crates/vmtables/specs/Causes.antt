@@ -4,8 +4,10 @@ use Rattle.vmtables.specs.declared.input.InputFault.{InputFault}
 use Rattle.vmtables.specs.declared.input.InputFault.TheVariants as input
 use Rattle.desc_toml.specs.declared.fault.DescFault.{DescFault}
 use Rattle.desc_toml.specs.declared.fault.DescFault.TheVariants as description
+use Rattle.image_files.specs.declared.image.ImageBuildFault.{ImageBuildFault}
+use Rattle.image_files.specs.declared.image.ImageBuildFault.TheVariants as image
 use Rattle.vmtables.specs.declared.fault.Fault.{Fault}
-use Rattle.vmtables.specs.declared.fault.Fault.TheVariants.{ReadFault, Description, OutOfMemory, InputTooLong}
+use Rattle.vmtables.specs.declared.fault.Fault.TheVariants.{ReadFault, Description, OutOfMemory, InputTooLong, ImageTooLarge}
 
 abbrev pub IsOfInput : InputFault → Fault → Type 0
 IsOfInput input.Failed fault = fault ≡ ReadFault
@@ -15,3 +17,7 @@ IsOfInput input.OutOfMemory fault = fault ≡ OutOfMemory
 abbrev pub IsOfDescription : DescFault → Fault → Type 0
 IsOfDescription description.OutOfMemory fault = fault ≡ OutOfMemory
 IsOfDescription refused fault = fault ≡ Description refused
+
+abbrev pub IsOfImage : ImageBuildFault → Fault → Type 0
+IsOfImage image.ImageTooLarge fault = fault ≡ ImageTooLarge
+IsOfImage image.OutOfMemory fault = fault ≡ OutOfMemory

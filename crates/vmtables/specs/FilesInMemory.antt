@@ -7,9 +7,8 @@ use Rattle.vt_outside.specs.Placement.{Range, Apart}
 use Rattle.vt_layout.specs.Rows.{IsPointerSize}
 use Rattle.vt_bytes.specs.Memory.{Memory, IsRam, IsRamRange, at, bytes_at}
 use Rattle.loader_script.specs.Run.{File, Placed, Progress, file_of, placed_of, pointer_sum}
-use Rattle.vmtables.specs.declared.files.FileBytes.{FileBytes}
 use Rattle.vmtables.specs.declared.placing.PlacedFile.{PlacedFile}
-use Rattle.vmtables.specs.LowRun.{read_only, at_files}
+use Rattle.vmtables.specs.LowRun.{at_files}
 
 -- the range of a placed file
 abbrev pub placed_range : PlacedFile → Range
@@ -37,7 +36,7 @@ abbrev pub files_in : Memory → List PlacedFile → List Placed
 files_in m placed = map (placed_in m) placed
 
 -- how far the run is that a load carries out, with these places still to be given
-abbrev pub progress_in : Memory → List FileBytes → List PlacedFile → List ℕ → Progress
+abbrev pub progress_in : Memory → List File → List PlacedFile → List ℕ → Progress
 progress_in m files placed places = at_files files (files_in m placed) places
 
 -- two placed files have no address in common, and different names
@@ -51,11 +50,11 @@ ArePlaced top [] = Unit {0}
 ArePlaced top (p ∷ placed) = IsRamRange top p.place p.size × EndsLow p × AllByRecursion (AreApart p) placed × ArePlaced top placed
 
 -- a placed file is one of the files of a load, with as many bytes
-abbrev pub IsOfSize : List FileBytes → PlacedFile → Type 0
-IsOfSize files p = option_map (λ (file : File). length file.bytes) (file_of (read_only files) p.name) ≡ Some p.size
+abbrev pub IsOfSize : List File → PlacedFile → Type 0
+IsOfSize files p = option_map (λ (file : File). length file.bytes) (file_of files p.name) ≡ Some p.size
 
 -- What a load keeps: the files stand in RAM and apart, each with as many bytes as it has in fw_cfg.
-pub record IsLoading (top : ℕ) (files : List FileBytes) (placed : List PlacedFile) : Type 0 where
+pub record IsLoading (top : ℕ) (files : List File) (placed : List PlacedFile) : Type 0 where
   pub apart : ArePlaced top placed
   pub sizes : AllByRecursion (IsOfSize files) placed
 
@@ -75,7 +74,7 @@ pub record Stays (before now : Memory) (placed_before placed : List PlacedFile) 
   pub others : OthersStay before now placed_before placed
 
 -- a step of a load, which goes on with these files
-pub record IsStep (before now : Memory) (files : List FileBytes) (placed_before placed : List PlacedFile) : Type 0 where
+pub record IsStep (before now : Memory) (files : List File) (placed_before placed : List PlacedFile) : Type 0 where
   pub stays : Stays before now placed_before placed
   pub loading : IsLoading now.top files placed
 

@@ -6,8 +6,6 @@ pub mod Dump
 pub mod Places
 pub mod LowRun
 pub mod FilesInMemory
-pub mod Image
-pub mod AcpiHeld
 pub mod World
 pub mod WorldInside
 pub mod Calls
@@ -21,8 +19,7 @@ pub use Rattle.vt_bytes.specs.Memory
 pub use Rattle.desc_toml.specs.Reading
 pub use Rattle.machine_desc.specs.Rules
 pub use Rattle.table_model.specs.Inventory
-pub use Rattle.blob_holes.specs.Blob
-pub use Rattle.blob_holes.specs.Grown
-pub use Rattle.blob_holes.specs.Held
-pub use Rattle.acpi_fixed.specs.Tables
-pub use Rattle.smbios_build.specs.Spelling
+pub use Rattle.cfg_directory.specs.Items as DirectoryItems
+pub use Rattle.image_files.specs.Zones
+pub use Rattle.image_files.specs.Items
+pub use Rattle.vm_image.specs.Image

@@ -14,6 +14,7 @@ status_of_fault (fault.Description refused) = status.DescriptionRefused
 status_of_fault fault.WriteFault = status.WriteFault
 status_of_fault fault.OutOfMemory = status.OutOfMemory
 status_of_fault fault.InputTooLong = status.InputTooLong
+status_of_fault fault.ImageTooLarge = status.ImageTooLarge
 
 -- the status of a call that ended so
 abbrev pub status_of : Result (Unit {0}) Fault → Status
@@ -28,6 +29,7 @@ line_of (fault.Description refused) = description_line refused
 line_of fault.WriteFault = codes "write fault" ++ 10 ∷ []
 line_of fault.OutOfMemory = codes "out of memory" ++ 10 ∷ []
 line_of fault.InputTooLong = codes "input too long" ++ 10 ∷ []
+line_of fault.ImageTooLarge = codes "image too large" ++ 10 ∷ []
 
 -- the number of a status, with which a process ends
 abbrev pub number_of : Status → ℕ
@@ -38,6 +40,7 @@ number_of status.DescriptionRefused = 3
 number_of status.WriteFault = 8
 number_of status.OutOfMemory = 9
 number_of status.InputTooLong = 10
+number_of status.ImageTooLarge = 11
 
 -- how many bytes an input may have
 abbrev pub input_limit : ℕ

@@ -6,7 +6,7 @@ use Rattle.vmtables.specs.World.{Begun, IsBlank}
 
 -- a load without what it keeps for itself
 abbrev pub begun_of : Option Load → Option Begun
-begun_of load = option_map (λ (l : Load). record { memory = l.memory; files = l.files; script = l.script; done = l.done }) load
+begun_of load = option_map (λ (l : Load). record { memory = l.memory; items = l.items; script = l.script; done = l.done }) load
 
 -- Before its load is done a world is as it was begun: memory is filled, no file is placed, and there is room for one a command.
 pub record IsKept (l : Load) : Type 0 where

@@ -4,6 +4,7 @@ ghost use Rattle.vmtables.specs.Outcome.{line_of, status_of_fault};
 use crate::input::InputFault;
 use crate::status::Status;
 use desc_toml::{DescFault, Line};
+use vm_image::ImageBuildFault;
 use vt_outside::OutOfMemory;
 
 /// Why a call didn't end with `Ok`.
@@ -21,6 +22,8 @@ pub(crate) enum Fault {
     OutOfMemory,
     /// The source gave more bytes than an input may have.
     InputTooLong,
+    /// The files of the machine have more bytes than an image may have.
+    ImageTooLarge,
 }
 
 impl Fault {
@@ -35,6 +38,7 @@ impl Fault {
             Fault::WriteFault => Status::WriteFault,
             Fault::OutOfMemory => Status::OutOfMemory,
             Fault::InputTooLong => Status::InputTooLong,
+            Fault::ImageTooLarge => Status::ImageTooLarge,
         }
     }
 
@@ -49,6 +53,7 @@ impl Fault {
             Fault::WriteFault => line("write fault\n"),
             Fault::OutOfMemory => line("out of memory\n"),
             Fault::InputTooLong => line("input too long\n"),
+            Fault::ImageTooLarge => line("image too large\n"),
         }
     }
 }
@@ -97,6 +102,19 @@ impl From<DescFault> for Fault {
         match fault {
             DescFault::OutOfMemory => Fault::OutOfMemory,
             refused => Fault::Description(refused),
+        }
+    }
+}
+
+impl From<ImageBuildFault> for Fault {
+    ghost use Rattle.vmtables.specs.Causes.{IsOfImage};
+
+    ghost from_gives = { IsOfImage };
+
+    fn from(fault: ImageBuildFault) -> Fault {
+        match fault {
+            ImageBuildFault::ImageTooLarge => Fault::ImageTooLarge,
+            ImageBuildFault::OutOfMemory => Fault::OutOfMemory,
         }
     }
 }

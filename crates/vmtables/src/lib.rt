@@ -5,27 +5,22 @@
 //! of a guest, and writes the memory as text.
 #![tactic(auto)]
 
-mod acpi;
 mod command;
 mod dump;
 mod fault;
-mod files;
-mod image;
 mod input;
 mod loading;
-mod names;
 mod output;
 mod placing;
-mod smbios;
 mod state;
 mod status;
 mod top_call;
 mod world;
 mod zones;
 
-pub use files::FileBytes;
+pub use image_files::Zone;
 pub use state::State;
 pub use status::Status;
 pub use top_call::top;
 pub use world::World;
-pub use zones::{Zone, Zones, zones_of};
+pub use zones::{Zones, zones_of};

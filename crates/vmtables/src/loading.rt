@@ -3,8 +3,10 @@ ghost use Rattle.std.specs.Int.{is_power_of_two};
 ghost use Rattle.vt_bytes.specs.Memory.{at};
 ghost use Rattle.loader_script.specs.Run.{File, Placed, Progress, file_of, placed_of, bytes_of, with_pointer, with_sum, cause_of, carried_out};
 ghost use Rattle.loader_script.specs.Left.{range_of, IsLeft};
-ghost use Rattle.vmtables.specs.Places.{zone_range, IsLeastFree};
-ghost use Rattle.vmtables.specs.LowRun.{read_only, IsLow, IsLowRun};
+ghost use Rattle.image_files.specs.Zones.{zone_range};
+ghost use Rattle.image_files.specs.Items.{files_of};
+ghost use Rattle.vmtables.specs.Places.{IsLeastFree};
+ghost use Rattle.vmtables.specs.LowRun.{IsLow, IsLowRun};
 ghost use Rattle.vmtables.specs.FilesInMemory.{
   files_in,
   progress_in,
@@ -17,57 +19,53 @@ ghost use Rattle.vmtables.specs.FilesInMemory.{
   CanSum,
 };
 
-use crate::files::FileBytes;
 use crate::placing::{PlacedFile, least_free};
-use crate::zones::{Zone, zones_of};
+use crate::zones::zones_of;
+use cfg_directory::Item;
 use guest_memory::GuestMemory;
+use image_files::Zone;
 use loader_script::Entry;
 use vt_outside::Name;
 
-/// Carries out the commands of `script` on `memory`, one after the other; none of them is refused. `files` are the files that a
+/// Carries out the commands of `script` on `memory`, one after the other; none of them is refused. `items` are the files that a
 /// command can place, and each gets the least free place of its zone. `placed` is empty, has room for a file for each command,
 /// and gets each file that is placed. It takes no memory.
 pub(crate) fn run_script(
     memory: &mut GuestMemory,
-    files: &[FileBytes],
+    items: &[Item],
     script: &[Entry],
     placed: &mut Vec<PlacedFile>,
 )
     requires none { placed.old.items ≡ [] }
     requires room { vec_len placed.old + length script.now ≤ vec_capacity placed.old }
-    requires runs { (places : ListOf ℕ) × (after : ListOf Placed) × IsLowRun memory.old.top files.now script.now places after }
-    ensures left { (places : ListOf ℕ) (after : ListOf Placed) → IsLowRun memory.old.top files.now script.now places after
+    requires runs { (places : ListOf ℕ) × (after : ListOf Placed) × IsLowRun memory.old.top (files_of items.now) script.now places after }
+    ensures left { (places : ListOf ℕ) (after : ListOf Placed) → IsLowRun memory.old.top (files_of items.now) script.now places after
         → IsLeft memory.new after (at memory.old) }
     ensures top { memory.new.top ≡ memory.old.top }
     ensures fill { memory.new.fill ≡ memory.old.fill }
 {
     for entry in script {
-        carry_out(memory, files, entry, placed);
+        carry_out(memory, items, entry, placed);
     }
 }
 
 // Carries out one command.
-fn carry_out(
-    memory: &mut GuestMemory,
-    files: &[FileBytes],
-    entry: &Entry,
-    placed: &mut Vec<PlacedFile>,
-)
-    requires loading { IsLoading memory.old.top files.now placed.old.items }
+fn carry_out(memory: &mut GuestMemory, items: &[Item], entry: &Entry, placed: &mut Vec<PlacedFile>)
+    requires loading { IsLoading memory.old.top (files_of items.now) placed.old.items }
     requires room { vec_len placed.old < vec_capacity placed.old }
-    requires lawful { (places : ListOf ℕ) × IsLow memory.old.top entry.now (progress_in memory.old files.now placed.old.items places)
-        × (cause_of entry.now (progress_in memory.old files.now placed.old.items places) ≡ None) }
+    requires lawful { (places : ListOf ℕ) × IsLow memory.old.top entry.now (progress_in memory.old (files_of items.now) placed.old.items places)
+        × (cause_of entry.now (progress_in memory.old (files_of items.now) placed.old.items places) ≡ None) }
     ensures after { (places : ListOf ℕ) (next : Progress)
-        → IsLow memory.old.top entry.now (progress_in memory.old files.now placed.old.items places)
-        → carried_out entry.now (progress_in memory.old files.now placed.old.items places) ≡ Some next
-        → next ≡ progress_in memory.new files.now placed.new.items next.places }
-    ensures step { IsStep memory.old memory.new files.now placed.old.items placed.new.items }
+        → IsLow memory.old.top entry.now (progress_in memory.old (files_of items.now) placed.old.items places)
+        → carried_out entry.now (progress_in memory.old (files_of items.now) placed.old.items places) ≡ Some next
+        → next ≡ progress_in memory.new (files_of items.now) placed.new.items next.places }
+    ensures step { IsStep memory.old memory.new (files_of items.now) placed.old.items placed.new.items }
     ensures len { vec_len placed.new ≤ vec_len placed.old + 1 }
     ensures capacity { vec_capacity placed.new ≡ vec_capacity placed.old }
 {
     match entry {
         Entry::Allocate { file, align, zone } => {
-            allocate(memory, files, file, *align, Zone::numbered(*zone), placed);
+            allocate(memory, items, file, *align, Zone::numbered(*zone), placed);
         }
         Entry::AddPointer {
             dest,
@@ -81,7 +79,7 @@ fn carry_out(
             start,
             length,
         } => add_checksum(memory, placed.as_slice(), file, *offset, *start, *length),
-        // No file of a load may be written by a guest.
+        // No command writes to fw_cfg yet.
         Entry::WritePointer { .. } | Entry::Misnamed(_) => unreachable!(),
         Entry::Skipped(_) => {}
     }
@@ -90,28 +88,28 @@ fn carry_out(
 // Takes the least free place for a file, and copies the file there.
 fn allocate(
     memory: &mut GuestMemory,
-    files: &[FileBytes],
+    items: &[Item],
     name: &Name,
     align: u32,
     zone: Zone,
     placed: &mut Vec<PlacedFile>,
 )
-    requires loading { IsLoading memory.old.top files.now placed.old.items }
+    requires loading { IsLoading memory.old.top (files_of items.now) placed.old.items }
     requires room { vec_len placed.old < vec_capacity placed.old }
-    requires there { (file : File) × (file_of (read_only files.now) name.now ≡ Some file) × (0 < length file.bytes) }
+    requires there { (file : File) × (file_of (files_of items.now) name.now ≡ Some file) × (0 < length file.bytes) }
     requires fresh { placed_of (files_in memory.old placed.old.items) name.now ≡ None }
     requires power { is_power_of_two align ≡ true }
     requires place { (place : ℕ) × IsLeastFree (zone_range memory.old.top zone) (map range_of (files_in memory.old placed.old.items))
-        (length (bytes_of (read_only files.now) name.now)) align place }
+        (length (bytes_of (files_of items.now) name.now)) align place }
     ensures after { (place : ℕ) → IsLeastFree (zone_range memory.old.top zone) (map range_of (files_in memory.old placed.old.items))
-        (length (bytes_of (read_only files.now) name.now)) align place
+        (length (bytes_of (files_of items.now) name.now)) align place
         → files_in memory.new placed.new.items ≡ files_in memory.old placed.old.items
-        ++ record { name = name.now; place = place; bytes = bytes_of (read_only files.now) name.now } ∷ [] }
-    ensures step { IsStep memory.old memory.new files.now placed.old.items placed.new.items }
+        ++ record { name = name.now; place = place; bytes = bytes_of (files_of items.now) name.now } ∷ [] }
+    ensures step { IsStep memory.old memory.new (files_of items.now) placed.old.items placed.new.items }
     ensures len { vec_len placed.new ≡ vec_len placed.old + 1 }
     ensures capacity { vec_capacity placed.new ≡ vec_capacity placed.old }
 {
-    let bytes = bytes_of(files, name);
+    let bytes = bytes_of(items, name);
     let place = least_free(
         &zones_of(memory.top()),
         zone,
@@ -169,12 +167,12 @@ fn add_checksum(
 }
 
 // The bytes of the file that has the name.
-fn bytes_of<'a>(files: &'a [FileBytes], name: &Name) -> &'a [u8]
-    requires { IsSome (file_of (read_only files.now) name.now) }
-    ensures { result.now ≡ bytes_of (read_only files.now) name.now }
+fn bytes_of<'a>(items: &'a [Item], name: &Name) -> &'a [u8]
+    requires { IsSome (file_of (files_of items.now) name.now) }
+    ensures { result.now ≡ bytes_of (files_of items.now) name.now }
 {
-    let file = files.iter().find(|file| file.name == *name).unwrap();
-    file.bytes.as_slice()
+    let item = items.iter().find(|item| item.name == *name).unwrap();
+    item.bytes.as_slice()
 }
 
 // The placed file that has the name.

@@ -4,7 +4,8 @@ ghost use Rattle.vt_outside.specs.Placement.{Apart, IsFree};
 ghost use Rattle.vmtables.specs.Places.{range_in, IsLeastFree};
 ghost use Rattle.vmtables.specs.FilesInMemory.{placed_range, Meets, EndsLow};
 
-use crate::zones::{Zone, Zones};
+use crate::zones::Zones;
+use image_files::Zone;
 use vt_outside::Name;
 
 /// Where a file was placed, and how many bytes it has there.

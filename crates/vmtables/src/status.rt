@@ -18,6 +18,8 @@ pub enum Status {
     OutOfMemory = 9,
     /// The source gave more than 67,108,864 bytes.
     InputTooLong = 10,
+    /// The files of the machine have more than 409,600 bytes.
+    ImageTooLarge = 11,
 }
 
 impl Status {

@@ -13,7 +13,6 @@ ghost use Rattle.desc_toml.specs.Reading.{Reads};
 use crate::command::{Command, read_words};
 use crate::dump::dump_to;
 use crate::fault::Fault;
-use crate::image::image_of;
 use crate::input::read_to_end;
 use crate::output::write_all;
 use crate::status::Status;
@@ -21,7 +20,8 @@ use crate::world::World;
 use desc_toml::read_machine;
 use machine_desc::Machine as Described;
 use std::alloc::Global;
-use vt_outside::{Failed, OutOfMemory, Sink, Source};
+use vm_image::{Image, image_of};
+use vt_outside::{Failed, Sink, Source};
 
 // How many bytes a MiB has.
 const MIB: u32 = 0x10_0000;
@@ -31,8 +31,8 @@ const MIB: u32 = 0x10_0000;
 /// flushes it. It takes its memory from `alloc`. Nothing is written to `out` before all but the writing is done.
 ///
 /// `Usage` means that `words` are no command; nothing is then read. `ReadFault` means that `source` failed, `InputTooLong` that
-/// it gave more than 67,108,864 bytes, `DescriptionRefused` that its bytes describe no accepted machine, `OutOfMemory` that
-/// memory ran out, and `WriteFault` that `out` failed. With `Ok` `out` took the whole dump, with `WriteFault` a part of it from
+/// it gave more than 67,108,864 bytes, `DescriptionRefused` that its bytes describe no accepted machine, `ImageTooLarge` that the
+/// machine's files have more than 409,600 bytes, `OutOfMemory` that memory ran out, and `WriteFault` that `out` failed. With `Ok` `out` took the whole dump, with `WriteFault` a part of it from
 /// its front, perhaps all, and with any other status nothing. With `Ok` and `WriteFault` the machine is loaded in `world`. With
 /// any other status `world` is as before, except that it may be idle after `OutOfMemory`.
 ///
@@ -151,13 +151,13 @@ fn load_machine(alloc: Global, description: &[u8], world: &mut World) -> Result<
 }
 
 // Loads the files of a machine that is read from these bytes into the world's memory.
-fn load_image(alloc: Global, machine: &Described, world: &mut World) -> Result<(), OutOfMemory>
+fn load_image(alloc: Global, machine: &Described, world: &mut World) -> Result<(), Fault>
     requires { IsAccepted machine.now }
     ensures ok { OnOk result ((bytes : List ℕ) → Reads bytes machine.now → IsSomeAnd world.new (IsLoaded bytes)) }
-    ensures err { OnErr result ((world.new ≡ world.old) ⊎ (world.new ≡ None)) }
+    ensures err { IfErr result (λ fault. (bytes : List ℕ) → Reads bytes machine.now → BootMakes bytes world.old world.new (Err fault)) }
 {
-    let image = image_of(alloc, machine)?;
-    world.begin(alloc, image.files, image.script, machine.top_mib * MIB, 0)?;
+    let Image { items, script } = image_of(alloc, machine, 0)?;
+    world.begin(alloc, items, script, machine.top_mib * MIB, 0)?;
     world.load();
     Ok(())
 }

@@ -5,12 +5,13 @@ ghost use Rattle.vmtables.specs.WorldInside.{IsKept};
 ghost use Rattle.vt_bytes.specs.Memory.{at};
 ghost use Rattle.loader_script.specs.Run.{Placed};
 ghost use Rattle.loader_script.specs.Left.{IsLeft};
+ghost use Rattle.image_files.specs.Items.{files_of};
 ghost use Rattle.vmtables.specs.LowRun.{IsLowRun};
 
-use crate::files::FileBytes;
 use crate::loading::run_script;
 use crate::placing::PlacedFile;
 use crate::state::State;
+use cfg_directory::Items;
 use guest_memory::GuestMemory;
 use loader_script::Entry;
 use std::alloc::Global;
@@ -27,7 +28,7 @@ pub struct World {
 #[derive(Drop)]
 struct Load {
     memory: GuestMemory,
-    files: List<FileBytes>,
+    items: Items,
     script: List<Entry>,
     // Room for a file for each command, so that the load takes no memory.
     placed: Vec<PlacedFile>,
@@ -52,18 +53,18 @@ impl Load {
         requires kept { IsKept self.old }
         requires running { self.old.done ≡ false }
         requires runs { (places : ListOf ℕ) × (after : ListOf Placed)
-            × IsLowRun self.old.memory.top self.old.files self.old.script places after }
+            × IsLowRun self.old.memory.top (files_of self.old.items) self.old.script places after }
         ensures done { self.new.done ≡ true }
-        ensures left { (places : ListOf ℕ) (after : ListOf Placed) → IsLowRun self.old.memory.top self.old.files self.old.script places after
+        ensures left { (places : ListOf ℕ) (after : ListOf Placed) → IsLowRun self.old.memory.top (files_of self.old.items) self.old.script places after
             → IsLeft self.new.memory after (at self.old.memory) }
-        ensures files { self.new.files ≡ self.old.files }
+        ensures items { self.new.items ≡ self.old.items }
         ensures script { self.new.script ≡ self.old.script }
         ensures top { self.new.memory.top ≡ self.old.memory.top }
         ensures fill { self.new.memory.fill ≡ self.old.memory.fill }
     {
         run_script(
             &mut self.memory,
-            self.files.as_slice(),
+            self.items.all(),
             self.script.as_slice(),
             &mut self.placed,
         );
@@ -79,19 +80,19 @@ impl World {
         World { load: None }
     }
 
-    /// Begins a load of `files` by `script`, into memory below the address `top`, in which every byte is `fill`. `top` is a
+    /// Begins a load of `items` by `script`, into memory below the address `top`, in which every byte is `fill`. `top` is a
     /// multiple of 1 MiB from 0x4000000 to 0xC0000000. A load that was begun before is dropped. It takes all memory that the
     /// load needs from `alloc`. Returns `OutOfMemory` when memory runs out; the world is then idle.
     pub fn begin(
         &mut self,
         alloc: Global,
-        files: List<FileBytes>,
+        items: Items,
         script: List<Entry>,
         top: u32,
         fill: u8,
     ) -> Result<(), OutOfMemory>
         requires { IsTop top }
-        ensures ok { OnOk result (IsSomeAnd self.new (λ w. IsBegun w files script top fill)) }
+        ensures ok { OnOk result (IsSomeAnd self.new (λ w. IsBegun w items script top fill)) }
         ensures err { OnErr result (self.new ≡ None) }
     {
         self.load = None;
@@ -99,7 +100,7 @@ impl World {
         let memory = GuestMemory::begin(alloc, top, fill)?;
         self.load = Some(Load {
             memory,
-            files,
+            items,
             script,
             placed,
             done: false,
@@ -111,12 +112,12 @@ impl World {
     /// refused. Each file takes the least free place of its zone. It takes no memory. The load is then done.
     pub fn load(&mut self)
         requires running { IsSomeAnd self.old (λ w. w.done ≡ false) }
-        requires runs { IfSome self.old (λ w. (places : ListOf ℕ) × (after : ListOf Placed) × IsLowRun w.memory.top w.files w.script places after) }
+        requires runs { IfSome self.old (λ w. (places : ListOf ℕ) × (after : ListOf Placed) × IsLowRun w.memory.top (files_of w.items) w.script places after) }
         ensures done { IsSomeAnd self.new (λ w. w.done ≡ true) }
         ensures left { IfSome self.old (λ old. IfSome self.new (λ new. (places : ListOf ℕ) (after : ListOf Placed)
-            → IsLowRun old.memory.top old.files old.script places after → IsLeft new.memory after (at old.memory))) }
+            → IsLowRun old.memory.top (files_of old.items) old.script places after → IsLeft new.memory after (at old.memory))) }
         ensures same { IfSome self.old (λ old. IfSome self.new (λ new.
-            (new.files ≡ old.files) × (new.script ≡ old.script) × (new.memory.top ≡ old.memory.top) × (new.memory.fill ≡ old.memory.fill))) }
+            (new.items ≡ old.items) × (new.script ≡ old.script) × (new.memory.top ≡ old.memory.top) × (new.memory.fill ≡ old.memory.fill))) }
     {
         match &mut self.load {
             Some(load) => load.run(),

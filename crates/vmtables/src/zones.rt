@@ -1,15 +1,8 @@
 ghost use Rattle.std.specs.Prelude.{◌≡◌, ◌≤◌};
 ghost use Rattle.vt_outside.specs.Placement.{high_zone, f_segment};
-ghost use Rattle.vmtables.specs.Places.{range_in, zone_numbered, number_of_zone};
+ghost use Rattle.vmtables.specs.Places.{range_in};
 
-/// A zone of memory, in which a loader script asks for a place for a file (QEMU, hw/acpi/bios-linker-loader.c).
-#[derive(Clone, Copy, Debug, PartialEq, Eq)]
-pub enum Zone {
-    /// High memory: the 16 MiB that end at the top.
-    High,
-    /// The F segment, 0xF0000 to 0xFFFFF, where a guest looks for an RSDP and an anchor.
-    Fseg,
-}
+use image_files::Zone;
 
 /// The addresses of the zones of a memory. An end isn't in its zone.
 #[derive(Clone, Copy, Debug, PartialEq, Eq)]
@@ -48,28 +41,6 @@ impl Zones {
         match zone {
             Zone::High => self.high_start,
             Zone::Fseg => self.fseg_start,
-        }
-    }
-}
-
-impl Zone {
-    /// Returns the zone of the number in an Allocate, which is 1 for `High` and 2 for `Fseg`.
-    pub(crate) fn numbered(number: u8) -> Zone
-        ensures { result ≡ zone_numbered number }
-    {
-        match number {
-            1 => Zone::High,
-            _ => Zone::Fseg,
-        }
-    }
-
-    /// Returns the number of this zone in an Allocate.
-    pub(crate) fn number(self) -> u8
-        ensures { result ≡ number_of_zone self }
-    {
-        match self {
-            Zone::High => 1,
-            Zone::Fseg => 2,
         }
     }
 }

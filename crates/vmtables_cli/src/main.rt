@@ -16,7 +16,7 @@ boot       reads a machine's description (TOML) from standard input, builds its 
 --version  prints the version
 
 Status: 0 done, 1 read fault, 2 usage, 3 description refused, 8 write fault, 9 out of memory, 10 input too
-long. With a status other than 0 a line on standard error says which. That of 3 names the key that is wrong,
+long, 11 image too large. With a status other than 0 a line on standard error says which. That of 3 names the key that is wrong,
 or the rule that is broken; docs/FORMATS.md has the keys and the rules.
 ";
 

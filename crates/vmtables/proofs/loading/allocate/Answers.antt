@@ -1,5 +1,6 @@
 use Rattle.std.proofs.Common.{IsSome, refl, subst, sym}
 use Rattle.vt_bytes.specs.Memory.{IsTop}
+use Rattle.image_files.specs.Items.{files_of}
 use Rattle.vmtables.proofs.Allocations.{AreZones, IsAllocation, IsSeenLeast, IsPushed, zone_small, some_bytes, seen_least, seen_low}
 use Rattle.vmtables.proofs.Allocations.{allocation_puts, allocation_after, allocation_step}
 use Rattle.vmtables.proofs.loading.allocate.Goals as goal
@@ -20,7 +21,7 @@ least_free-place-requires-clause-small c =
 
 pub least_free-place-requires-clause-size : goal.least_free-place-requires-clause-size
 least_free-place-requires-clause-size c =
-    let allocation : IsAllocation c.args.memory.now c.args.files.now c.args.placed.now.items c.args.name.now c.bytes_of-bytes.result.now =
+    let allocation : IsAllocation c.args.memory.now (files_of c.args.items.now) c.args.placed.now.items c.args.name.now c.bytes_of-bytes.result.now =
     record {
       loading = c.requires.loading;
       top = c.top.ensures.lawful.top;
@@ -48,7 +49,7 @@ least_free-place-requires-clause-some c =
     )
 
 allocation_of : (c : goal.After-push_reserved)
-    → IsAllocation c.args.memory.now c.args.files.now c.args.placed.now.items c.args.name.now c.bytes_of-bytes.result.now
+    → IsAllocation c.args.memory.now (files_of c.args.items.now) c.args.placed.now.items c.args.name.now c.bytes_of-bytes.result.now
 allocation_of c = record {
   loading = c.requires.loading;
   top = c.top.ensures.lawful.top;

@@ -1,0 +1,12 @@
+pub mod Among
+pub mod Filling
+pub mod Standing
+pub mod Steps
+pub mod Allocates
+pub mod LinkedFiles
+pub mod Room
+pub mod ByName
+pub mod InTurn
+pub mod Sorted
+pub mod ItemsAdded
+pub mod Writable

@@ -1,0 +1,9 @@
+//! Tests of images: the files and the commands of machines, and how files are linked.
+#![tactic(auto)]
+
+#[cfg(test)]
+mod links;
+#[cfg(test)]
+mod machines;
+#[cfg(test)]
+mod told;

@@ -1,0 +1,33 @@
+-- An RSDP that a view holds with its holes filled.
+use Rattle.std.proofs.Common.{◌≡◌, ℕ, ◌+◌, ◌-◌, ◌%◌, ◌^◌, ◌<◌, ◌≤◌, inr, refl, List, length, replicate, arith, length-append}
+use Rattle.std.proofs.lemmas.List.{length-replicate}
+use Rattle.std.specs.List.{AllByRecursion}
+use Rattle.vt_bytes.specs.View.{View}
+use Rattle.vt_layout.specs.Rows.{IsRow}
+use Rattle.vt_layout.specs.Shown.{LayoutHeld}
+use Rattle.vt_layout.proofs.Shows.{shown_rows}
+use Rattle.table_model.specs.Header.{padded}
+use Rattle.table_model.specs.Rsdp.{rsdp_rows, IsRsdp}
+use Rattle.acpi_fixed.specs.Tables.{tables_name, table_pointer}
+
+-- a padded text fills its field
+pub length-padded : (count : ℕ) (text : List ℕ) → length text ≤ count → length (padded count text) ≡ count
+length-padded count text short = omega (arith, length-append text (replicate (count - length text) 0x20), length-replicate {A = ℕ} (count - length text) 0x20)
+
+-- the rows of an RSDP fit
+rsdp_fits : (oem_id : List ℕ) (xsdt : ℕ) → length oem_id ≡ 6 → xsdt < 2 ^ 32 → AllByRecursion IsRow (rsdp_rows oem_id (table_pointer xsdt))
+rsdp_fits oem_id xsdt six few = (
+  refl,
+  (tt, (six, ((omega arith, omega arith), ((omega arith, omega arith), ((omega arith, omega arith), ((inr (inr (inr refl)), omega arith), (tt, (tt, tt)))))))),
+)
+
+-- an RSDP that is held in the F segment, at a multiple of 16, is valid and leads to the XSDT
+pub rsdp_shown : (view : View) (place_of : List ℕ → ℕ) (address : ℕ) (oem_id : List ℕ) (xsdt : ℕ) → length oem_id ≡ 6 → xsdt < 2 ^ 32
+    → 0xF0000 ≤ address → address % 16 ≡ 0 → address + 36 ≤ 0x100000
+    → LayoutHeld view place_of address (rsdp_rows oem_id (table_pointer xsdt)) → IsRsdp view address oem_id (xsdt + place_of tables_name)
+rsdp_shown view place_of address oem_id xsdt six few from aligned within held = record {
+  from = omega arith;
+  aligned = aligned;
+  within = within;
+  shown = shown_rows view place_of address address (rsdp_rows oem_id (table_pointer xsdt)) (rsdp_fits oem_id xsdt six few) held;
+}

@@ -1,0 +1,58 @@
+-- What is known of the files of a machine's ACPI tables, and of a view that holds them filled.
+use Rattle.std.specs.Prelude.{◌≡◌, ℕ, ◌+◌, ◌*◌, ◌<◌, ◌≤◌, List, [], ◌∷◌, length, map}
+use Rattle.vt_bytes.specs.View.{View}
+use Rattle.vt_layout.specs.Rows.{size}
+use Rattle.vt_layout.specs.Shown.{LayoutHeld}
+use Rattle.machine_desc.specs.declared.machine.Acpi.{Acpi}
+use Rattle.table_model.specs.declared.header.Head.{Head}
+use Rattle.table_model.specs.declared.acpi.Table.{Table}
+use Rattle.table_model.specs.Header.{padded, head_of}
+use Rattle.table_model.specs.Xsdt.{IsXsdt}
+use Rattle.table_model.specs.Rsdp.{rsdp_rows}
+use Rattle.table_model.specs.Acpi.{rows_of, linked_table}
+use Rattle.table_model.specs.Walked.{AreAt}
+use Rattle.blob_holes.specs.Blob.{BlobState, IsBlob}
+use Rattle.blob_holes.specs.Grown.{IsLinkable}
+use Rattle.blob_holes.specs.Held.{HoldsFilled, WhereHeld}
+use Rattle.image_files.specs.Files.{whole}
+use Rattle.acpi_fixed.specs.Tables.{tables_name, table_pointer}
+use Rattle.vm_image.specs.Image.{AcpiImage, with_tables, places_in, xsdt_place}
+
+-- the most bytes that tables take, with zeros in front of each and its entry in the XSDT
+abbrev pub most_bytes : List Table → ℕ
+most_bytes [] = 0
+most_bytes (table ∷ tables) = 24 + size (rows_of table) + most_bytes tables
+
+-- Tables were appended to an empty file: it can be linked, has few bytes, and wherever it stands filled each table stands at its place.
+pub record AreAppended (tables : List Table) (places : List ℕ) (file : BlobState) : Type 0 where
+  pub file_is : file ≡ with_tables (whole []) tables
+  pub places_are : places ≡ places_in (whole []) tables
+  pub linkable : IsLinkable file
+  pub few : length file.bytes + 8 * length places ≤ most_bytes tables
+  pub stand : WhereHeld file (λ view address place_of. AreAt view (map (λ place. address + place) places)
+      (map (linked_table place_of) tables))
+
+-- The XSDT stands at the address and names the tables.
+pub record HoldsTables (view : View) (place_of : List ℕ → ℕ) (xsdt : ℕ) (head : Head) (tables : List Table) : Type 0 where
+  pub addresses : List ℕ
+  pub listed : IsXsdt view xsdt head addresses
+  pub stand : AreAt view addresses (map (linked_table place_of) tables)
+
+-- A file of tables can be linked, has some bytes and few, and wherever it stands filled the XSDT stands at its place.
+pub record IsTablesFile (head : Head) (tables : List Table) (file : BlobState) : Type 0 where
+  pub linkable : IsLinkable file
+  pub some : 0 < length file.bytes
+  pub few : length file.bytes ≤ 52 + most_bytes tables
+  pub behind : xsdt_place tables ≤ length file.bytes
+  pub held : (view : View) (address : ℕ) (place_of : List ℕ → ℕ) → HoldsFilled view address file place_of → place_of tables_name ≡ address
+      → 0 < address → HoldsTables view place_of (xsdt_place tables + address) head tables
+
+-- Both files are so, and wherever the RSDP's stands filled it leads to the XSDT.
+pub record IsAcpiImage (acpi : Acpi) (tables : List Table) (files : AcpiImage) : Type 0 where
+  pub tables_file : IsTablesFile (head_of acpi 1) tables files.tables
+  pub tables_blob : IsBlob files.tables
+  pub rsdp_blob : IsBlob files.rsdp
+  pub rsdp_linkable : IsLinkable files.rsdp
+  pub rsdp_size : length files.rsdp.bytes ≡ 36
+  pub rsdp_held : (view : View) (address : ℕ) (place_of : List ℕ → ℕ) → HoldsFilled view address files.rsdp place_of
+      → LayoutHeld view place_of address (rsdp_rows (padded 6 acpi.oem_id) (table_pointer (xsdt_place tables)))

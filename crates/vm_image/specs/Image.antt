@@ -1,0 +1,94 @@
+-- The image of a machine: its files with their holes, in the order in which they are placed.
+use Rattle.std.specs.Prelude.{ℕ, false, List, [], ◌∷◌, ◌++◌, length, codes, Option, Some, None}
+use Rattle.loader_script.specs.declared.entry.Entry.{Entry}
+use Rattle.cfg_directory.specs.declared.item.Item.{Item}
+use Rattle.machine_desc.specs.declared.machine.Machine.{Machine}
+use Rattle.machine_desc.specs.declared.machine.Acpi.{Acpi}
+use Rattle.blob_holes.specs.Blob.{BlobState, next_place}
+use Rattle.blob_holes.specs.Rows.{with_rows}
+use Rattle.acpi_fixed.specs.Tables.{with_table, with_xsdt, with_rsdp, tables_name as acpi_tables_name}
+use Rattle.smbios_build.specs.Spelling.{structures_bytes}
+use Rattle.table_model.specs.declared.acpi.Table.{Table}
+use Rattle.table_model.specs.Header.{head_of, padded}
+use Rattle.table_model.specs.Acpi.{tables_of}
+use Rattle.table_model.specs.Anchor.{anchor_rows, anchor_of}
+use Rattle.table_model.specs.Smbios.{structures_of}
+use Rattle.vt_layout.specs.declared.row.Row.TheVariants.{Pointer}
+use Rattle.image_files.specs.declared.zone.Zone.{Zone}
+use Rattle.image_files.specs.declared.zone.Zone.TheVariants.{High, Fseg}
+use Rattle.image_files.specs.Files.{ImageFile, whole}
+use Rattle.image_files.specs.Script.{script_of}
+use Rattle.image_files.specs.Items.{items_of}
+
+abbrev pub anchor_name : List ℕ
+anchor_name = codes "etc/smbios/smbios-anchor"
+
+abbrev pub structures_name : List ℕ
+structures_name = codes "etc/smbios/smbios-tables"
+
+abbrev pub rsdp_name : List ℕ
+rsdp_name = codes "etc/acpi/rsdp"
+
+-- a file that a guest can't write in fw_cfg, and for which a place is asked in a zone
+abbrev pub placed_file : List ℕ → BlobState → Zone → ℕ → ImageFile
+placed_file name blob zone align = record { name = name; blob = blob; placing = Some (record { zone = zone; align = align }); writable = false }
+
+-- the files of the ACPI tables with their holes: the RSDP, and the tables that it leads to
+pub record AcpiImage : Type 0 where
+  pub rsdp : BlobState
+  pub tables : BlobState
+
+-- a file of tables with more of them, one after the other
+abbrev pub with_tables : BlobState → List Table → BlobState
+with_tables file [] = file
+with_tables file (table ∷ tables) = with_tables (with_table file table) tables
+
+-- where each of them stands in the file
+abbrev pub places_in : BlobState → List Table → List ℕ
+places_in file [] = []
+places_in file (table ∷ tables) = next_place 16 file ∷ places_in (with_table file table) tables
+
+-- where the XSDT stands behind the tables that it names
+abbrev pub xsdt_place : List Table → ℕ
+xsdt_place tables = next_place 16 (with_tables (whole []) tables)
+
+-- the files of a maker's ACPI tables
+abbrev pub acpi_files : Acpi → List Table → AcpiImage
+acpi_files acpi tables = record {
+  rsdp = with_rsdp (whole []) (padded 6 acpi.oem_id) (xsdt_place tables);
+  tables = with_xsdt (with_tables (whole []) tables) (head_of acpi 1) (places_in (whole []) tables);
+}
+
+-- The tables of each kind go to high memory, and what leads to them to the F segment, where a guest looks for it (ACPI 6.5, 5.2.5.1;
+-- DSP0134, 5.2.2).
+abbrev pub acpi_placed : AcpiImage → List ImageFile
+acpi_placed files = placed_file acpi_tables_name files.tables High 64 ∷ placed_file rsdp_name files.rsdp Fseg 16 ∷ []
+
+-- the files of a machine's ACPI tables, where it has some
+abbrev pub acpi_part : Machine → Option Acpi → List ImageFile
+acpi_part m None = []
+acpi_part m (Some acpi) = acpi_placed (acpi_files acpi (tables_of m acpi))
+
+-- the file of a machine's structures
+abbrev pub structures_file : Machine → List ℕ
+structures_file m = structures_bytes (structures_of m.system)
+
+-- the file of the anchor of structures that have so many bytes
+abbrev pub anchor_blob : ℕ → BlobState
+anchor_blob size = with_rows (whole []) (anchor_rows (anchor_of size) (Pointer 8 structures_name 0))
+
+-- the files of structures and of their anchor
+abbrev pub smbios_placed : List ℕ → List ImageFile
+smbios_placed structures =
+    placed_file structures_name (whole structures) High 16 ∷ placed_file anchor_name (anchor_blob (length structures)) Fseg 16 ∷ []
+
+-- the files of a machine: those of each part that it has
+abbrev pub image_files : Machine → List ImageFile
+image_files m = acpi_part m m.acpi ++ smbios_placed (structures_file m)
+
+-- their script, and what fw_cfg holds
+abbrev pub image_script : Machine → List Entry
+image_script m = script_of (image_files m) []
+
+abbrev pub image_items : Machine → List Item
+image_items m = items_of (image_files m) []

@@ -1,0 +1,16 @@
+pub mod Image
+pub mod AcpiHeld
+pub mod Promised
+pub mod Built
+pub use Rattle.image_files.specs.Files
+pub use Rattle.image_files.specs.Script
+pub use Rattle.image_files.specs.Items
+pub use Rattle.image_files.specs.Places
+pub use Rattle.image_files.specs.Linked
+pub use Rattle.image_files.specs.Room
+pub use Rattle.image_files.specs.Zones
+pub use Rattle.image_files.specs.Linkable
+pub use Rattle.vt_bytes.specs.Memory
+pub use Rattle.machine_desc.specs.Rules
+pub use Rattle.table_model.specs.Inventory
+pub use Rattle.acpi_fixed.specs.Tables

@@ -1,0 +1,122 @@
+//! The files of a machine's ACPI tables.
+
+ghost use Rattle.std.specs.Prelude.{◌≡◌, ◌≤◌, [], ◌++◌, IfOk, OnOk};
+ghost use Rattle.std.specs.List.{AllByRecursion};
+ghost use Rattle.machine_desc.specs.Rules.{IsAccepted};
+ghost use Rattle.table_model.specs.Header.{FitsHead, head_of};
+ghost use Rattle.table_model.specs.Acpi.{IsWritable, tables_of};
+ghost use Rattle.acpi_fixed.specs.Tables.{with_xsdt};
+ghost use Rattle.image_files.specs.Files.{whole};
+ghost use Rattle.vm_image.specs.Image.{acpi_part, acpi_placed, acpi_files, with_tables, places_in, xsdt_place};
+ghost use Rattle.vm_image.specs.Promised.{AreAcpiKnown};
+ghost use Rattle.vm_image.specs.AcpiHeld.{IsAcpiImage, IsTablesFile, AreAppended, most_bytes};
+
+use crate::names::{acpi_tables_name, rsdp_name};
+use crate::placed::placed_file;
+use acpi_fixed::{put_rsdp, put_table, put_xsdt};
+use blob_holes::{Blob, Parts};
+use image_files::{ImageFile, Zone};
+use machine_desc::{Acpi, Machine};
+use std::alloc::Global;
+use std::marker::Model;
+use table_model::{Head, Table, head_of, tables_of};
+use vt_outside::{List, OutOfMemory};
+
+/// The files of a machine's ACPI tables, with their holes.
+#[derive(Drop)]
+pub(crate) struct AcpiFiles {
+    pub(crate) rsdp: Parts,
+    pub(crate) tables: Parts,
+}
+
+impl Model for AcpiFiles {
+    ghost use Rattle.vm_image.specs.Image.{AcpiImage};
+
+    ghost Value = { AcpiImage };
+
+    ghost view = { λ f. record {
+      rsdp = record { bytes = f.rsdp.bytes; pointers = f.rsdp.pointers; sums = f.rsdp.sums };
+      tables = record { bytes = f.tables.bytes; pointers = f.tables.pointers; sums = f.tables.sums };
+    } };
+}
+
+// Adds the files of the ACPI tables of `machine`, which is accepted, where it has some.
+pub(crate) fn push_acpi(
+    alloc: Global,
+    files: &mut Vec<ImageFile>,
+    machine: &Machine,
+) -> Result<(), OutOfMemory>
+    requires { IsAccepted machine.now }
+    ensures files { OnOk result (files.new.items ≡ files.old.items ++ acpi_part machine.now machine.now.acpi) }
+    ensures known { OnOk result (AreAcpiKnown machine.now machine.now.acpi) }
+{
+    match &machine.acpi {
+        Some(acpi) => {
+            let tables = tables_of(alloc, machine, acpi)?;
+            push_placed(files, files_of(alloc, acpi, tables.as_slice())?)
+        }
+        None => Ok(()),
+    }
+}
+
+// Adds files of ACPI tables: the tables go to high memory, and the RSDP to the F segment, where a guest looks for it (ACPI 6.5,
+// 5.2.5.1).
+fn push_placed(files: &mut Vec<ImageFile>, acpi: AcpiFiles) -> Result<(), OutOfMemory>
+    ensures { OnOk result (files.new.items ≡ files.old.items ++ acpi_placed acpi) }
+{
+    let AcpiFiles { rsdp, tables } = acpi;
+    files.push(placed_file(acpi_tables_name(), tables, Zone::High, 64))?;
+    files.push(placed_file(rsdp_name(), rsdp, Zone::Fseg, 16))?;
+    Ok(())
+}
+
+// The files of `tables`, made by the maker `acpi`.
+fn files_of(alloc: Global, acpi: &Acpi, tables: &[Table]) -> Result<AcpiFiles, OutOfMemory>
+    requires fits { FitsHead acpi.now }
+    requires writable { AllByRecursion IsWritable tables.now }
+    requires few { most_bytes tables.now ≤ 2000 }
+    ensures files { IfOk result (λ files. files ≡ acpi_files acpi.now tables.now) }
+    ensures held { OnOk result (IsAcpiImage acpi.now tables.now (acpi_files acpi.now tables.now)) }
+{
+    let head = head_of(acpi, 1);
+    let mut file = Blob::new(alloc);
+    let xsdt = append_tables(alloc, &mut file, &head, tables)?;
+    let mut rsdp = Blob::new(alloc);
+    put_rsdp(&mut rsdp, &head.oem_id, xsdt)?;
+    Ok(AcpiFiles {
+        rsdp: rsdp.finish(),
+        tables: file.finish(),
+    })
+}
+
+// Appends `tables` to an empty file, and the XSDT that names them, and gives the place of the XSDT.
+fn append_tables(
+    alloc: Global,
+    file: &mut Blob,
+    head: &Head,
+    tables: &[Table],
+) -> Result<u32, OutOfMemory>
+    requires empty { file.old ≡ whole [] }
+    requires writable { AllByRecursion IsWritable tables.now }
+    requires few { most_bytes tables.now ≤ 2000 }
+    ensures place { IfOk result (λ place. place ≡ xsdt_place tables.now) }
+    ensures file { OnOk result (file.new ≡ with_xsdt (with_tables (whole []) tables.now) head.now (places_in (whole []) tables.now)) }
+    ensures held { OnOk result (IsTablesFile head.now tables.now file.new) }
+{
+    let places = append_each(alloc, file, tables)?;
+    put_xsdt(file, head, places.as_slice())
+}
+
+// Appends `tables` to an empty file, and gives their places.
+fn append_each(alloc: Global, file: &mut Blob, tables: &[Table]) -> Result<List<u32>, OutOfMemory>
+    requires empty { file.old ≡ whole [] }
+    requires writable { AllByRecursion IsWritable tables.now }
+    requires few { most_bytes tables.now ≤ 2000 }
+    ensures { IfOk result (λ places. AreAppended tables.now places file.new) }
+{
+    let mut places = List::new(alloc);
+    for table in tables {
+        places.push(put_table(file, table)?)?;
+    }
+    Ok(places)
+}

@@ -1,0 +1,16 @@
+//! The image of a machine: its files of fw_cfg, with SMBIOS structures (DMTF DSP0134) and ACPI tables, and the script by which a
+//! firmware places and links them.
+//!
+//! The contract says which items and which commands they are, and that memory shows exactly the machine once the script has run,
+//! whatever lawful places the files were given, and whatever byte filled memory.
+#![tactic(auto)]
+
+mod acpi;
+mod image;
+pub mod laws;
+mod names;
+mod placed;
+mod smbios;
+
+pub use image::image_of;
+pub use image_files::{Image, ImageBuildFault};

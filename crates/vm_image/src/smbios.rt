@@ -1,0 +1,71 @@
+//! The files of a machine's SMBIOS structures.
+
+ghost use Rattle.std.specs.Prelude.{◌≡◌, ◌<◌, ◌++◌, IfOk, OnOk};
+ghost use Rattle.machine_desc.specs.Rules.{IsAccepted};
+ghost use Rattle.table_model.specs.Smbios.{AreStructures, structures_of};
+ghost use Rattle.image_files.specs.Files.{whole};
+ghost use Rattle.vm_image.specs.Image.{anchor_blob, anchor_name, smbios_placed, structures_file, structures_name, placed_file};
+
+use crate::names::{anchor_name, structures_name};
+use crate::placed::placed_file;
+use blob_holes::{Blob, Parts, append_rows};
+use image_files::{ImageFile, Zone};
+use machine_desc::Machine;
+use smbios_build::{SmbiosBuildFault, build_smbios};
+use std::alloc::Global;
+use table_model::{anchor_of, anchor_rows, structures_of};
+use vt_layout::Row;
+use vt_outside::{Bytes, List, OutOfMemory};
+
+// Adds the files of the SMBIOS structures of `machine`, which is accepted, and of their anchor.
+pub(crate) fn push_smbios(
+    alloc: Global,
+    files: &mut Vec<ImageFile>,
+    machine: &Machine,
+) -> Result<(), OutOfMemory>
+    requires { IsAccepted machine.now }
+    ensures files { OnOk result (files.new.items ≡ files.old.items ++ smbios_placed (structures_file machine.now)) }
+    ensures read { OnOk result (AreStructures (structures_file machine.now) (structures_of machine.now.system)) }
+{
+    let bytes = structures_file(alloc, machine)?;
+    let anchor = placed_anchor(alloc, bytes.len() as u32)?;
+    files.push(placed_structures(alloc, bytes))?;
+    files.push(anchor)?;
+    Ok(())
+}
+
+// The file of structures, which goes to high memory. Their anchor goes to the F segment, where a guest looks for it (DSP0134, 5.2.2).
+fn placed_structures(alloc: Global, bytes: Bytes) -> ImageFile
+    ensures { result ≡ placed_file structures_name (whole bytes) Zone.High 16 }
+{
+    let parts = Parts {
+        bytes,
+        pointers: List::new(alloc),
+        sums: List::new(alloc),
+    };
+    placed_file(structures_name(), parts, Zone::High, 16)
+}
+
+// The structures of a machine as bytes, which are few.
+fn structures_file(alloc: Global, machine: &Machine) -> Result<Bytes, OutOfMemory>
+    requires { IsAccepted machine.now }
+    ensures bytes { IfOk result (λ bytes. bytes ≡ structures_file machine.now) }
+    ensures read { OnOk result (AreStructures (structures_file machine.now) (structures_of machine.now.system)) }
+{
+    let structures = structures_of(alloc, &machine.system)?;
+    match build_smbios(alloc, structures.as_slice()) {
+        Ok(bytes) => Ok(bytes),
+        Err(SmbiosBuildFault::OutOfMemory) => Err(OutOfMemory),
+        Err(SmbiosBuildFault::TableTooLarge) => unreachable!(),
+    }
+}
+
+// The file of the anchor of structures that have `size` bytes. It gets their address.
+fn placed_anchor(alloc: Global, size: u32) -> Result<ImageFile, OutOfMemory>
+    ensures { IfOk result (λ file. file ≡ placed_file anchor_name (anchor_blob size) Zone.Fseg 16) }
+{
+    let structures = Row::Pointer(8, structures_name(), 0);
+    let mut file = Blob::new(alloc);
+    append_rows(&mut file, &anchor_rows(&anchor_of(size), structures))?;
+    Ok(placed_file(anchor_name(), file.finish(), Zone::Fseg, 16))
+}

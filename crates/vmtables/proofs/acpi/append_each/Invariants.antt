@@ -1,6 +1,0 @@
-use Rattle.std.proofs.Common.{take}
-use Rattle.vmtables.specs.AcpiHeld.{AreAppended}
-use Rattle.vmtables.proofs.acpi.append_each.Given as goal
-
-abbrev pub invariant-loop-table : goal.invariant-loop-table
-invariant-loop-table l = AreAppended (take l.table-index l.tables) l.places l.file
