@@ -15,9 +15,9 @@ use Rattle.loader_script.specs.Run.{File, Placed, Progress, placed_of, bytes_of,
 use Rattle.loader_script.proofs.Conditions.{conditions_suffice}
 use Rattle.loader_script.proofs.Runs.{goes-on}
 use Rattle.image_files.specs.declared.file.Placing.{Placing}
-use Rattle.image_files.specs.declared.zone.Zone.{Zone}
-use Rattle.image_files.specs.declared.zone.Zone.TheVariants.{High, Fseg}
-use Rattle.image_files.specs.Zones.{zone_range, number_of_zone}
+use Rattle.zone_alloc.specs.declared.zone.Zone.{Zone}
+use Rattle.zone_alloc.specs.declared.zone.Zone.TheVariants.{High, Fseg}
+use Rattle.zone_alloc.specs.Zones.{zone_range, number_of_zone}
 use Rattle.image_files.specs.Files.{ImageFile}
 use Rattle.image_files.specs.Script.{allocation}
 use Rattle.image_files.specs.Linkable.{AreDistinct, HasNoHoles, CanBePlaced, IsLinkableFile}

@@ -10,10 +10,10 @@ use Rattle.std.proofs.Math.Nat.{suc-mul}
 use Rattle.vt_bytes.proofs.Each.{each_append, each_front, each_back, each_weaker, each_midst}
 use Rattle.vt_outside.specs.Placement.{Range, Apart, IsFree}
 use Rattle.image_files.specs.declared.file.Placing.{Placing}
-use Rattle.image_files.specs.declared.zone.Zone.{Zone}
-use Rattle.image_files.specs.declared.zone.Zone.TheVariants.{High, Fseg}
+use Rattle.zone_alloc.specs.declared.zone.Zone.{Zone}
+use Rattle.zone_alloc.specs.declared.zone.Zone.TheVariants.{High, Fseg}
 use Rattle.image_files.specs.Files.{ImageFile}
-use Rattle.image_files.specs.Zones.{zone_range}
+use Rattle.zone_alloc.specs.Zones.{zone_range}
 use Rattle.image_files.specs.Places.{range_at, MayStand, ArePlaces, ranges_at}
 use Rattle.image_files.specs.Room.{HaveRoom, small_part, IsSmall, AreSmall}
 

@@ -8,7 +8,7 @@ use Rattle.loader_script.specs.declared.entry.Entry.TheVariants.{Allocate}
 use Rattle.loader_script.specs.Spelling.{CanBeWritten}
 use Rattle.image_files.specs.declared.file.Placing.{Placing}
 use Rattle.image_files.specs.Files.{ImageFile, by_name}
-use Rattle.image_files.specs.Zones.{number_of_zone}
+use Rattle.zone_alloc.specs.Zones.{number_of_zone}
 use Rattle.image_files.specs.Script.{allocation, add_pointer, add_pointers, add_checksum, add_checksums, linking, script_of}
 use Rattle.image_files.proofs.InTurn.{each_flat_map}
 

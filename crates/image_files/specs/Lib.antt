@@ -1,4 +1,4 @@
-pub mod Zones
+pub use Rattle.zone_alloc.specs.Zones
 pub mod Files
 pub mod Script
 pub mod Items

@@ -4,7 +4,7 @@ use Rattle.std.specs.Option.{option_map_or}
 use Rattle.vt_outside.specs.Placement.{Range, IsFree}
 use Rattle.image_files.specs.declared.file.Placing.{Placing}
 use Rattle.image_files.specs.Files.{ImageFile}
-use Rattle.image_files.specs.Zones.{zone_range}
+use Rattle.zone_alloc.specs.Zones.{zone_range}
 
 -- the range of a file at a place
 abbrev pub range_at : ImageFile → ℕ → Range

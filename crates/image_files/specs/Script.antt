@@ -7,7 +7,7 @@ use Rattle.loader_script.specs.declared.entry.Entry.TheVariants.{Allocate, AddPo
 use Rattle.blob_holes.specs.declared.hole.PointerHole.{PointerHole}
 use Rattle.blob_holes.specs.declared.hole.SumHole.{SumHole}
 use Rattle.image_files.specs.declared.file.Placing.{Placing}
-use Rattle.image_files.specs.Zones.{number_of_zone}
+use Rattle.zone_alloc.specs.Zones.{number_of_zone}
 use Rattle.image_files.specs.Files.{ImageFile, by_name}
 
 -- the command that places a file, where it is to be placed

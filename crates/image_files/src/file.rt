@@ -1,9 +1,9 @@
 ghost use Rattle.std.specs.Prelude.{◌≡◌, false, length, Some};
 
-use crate::zone::Zone;
 use blob_holes::Parts;
 use std::marker::Model;
 use vt_outside::Name;
+use zone_alloc::Zone;
 
 /// Where a script asks for a place for a file.
 #[derive(Clone, Copy, Debug, PartialEq, Eq)]

@@ -11,8 +11,7 @@ mod image;
 mod items;
 pub mod laws;
 mod script;
-mod zone;
 
 pub use file::{ImageFile, Placing};
 pub use image::{Image, ImageBuildFault, link};
-pub use zone::Zone;
+pub use zone_alloc::Zone;

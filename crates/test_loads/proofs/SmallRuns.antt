@@ -9,7 +9,7 @@ use Rattle.loader_script.specs.declared.entry.Entry.TheVariants.{Allocate, AddPo
 use Rattle.loader_script.specs.Run.{Placed}
 use Rattle.loader_script.specs.Left.{IsLeft}
 use Rattle.vmtables.specs.Items.{files_of}
-use Rattle.vmtables.specs.Places.{IsLeastFree}
+use Rattle.zone_alloc.specs.Places.{IsLeastFree}
 use Rattle.vmtables.specs.LowRun.{at_files, IsLowRun}
 use Rattle.vmtables.specs.World.{Begun, IsBegun}
 use Rattle.vmtables.proofs.LowRuns.{LeadsTo, low-run}

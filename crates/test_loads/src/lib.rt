@@ -1,9 +1,7 @@
-//! Tests of a load through the calls of a world, of other files by another script than `boot`'s; and of the zones of memory.
+//! Tests of a load through the calls of a world, of other files by another script than `boot`'s.
 #![tactic(auto)]
 
 #[cfg(test)]
 mod loads;
 #[cfg(test)]
 mod small;
-#[cfg(test)]
-mod zones;

@@ -5,10 +5,9 @@ use std::alloc::Global;
 use std::test::Fail;
 use vt_outside::{ListSource, Source};
 
-const NO_COMMANDS: [&[&str]; 22] = [
+const NO_COMMANDS: [&[&str]; 23] = [
     &[],
     // other commands, now or later
-    &["build"],
     &["load"],
     &["decode"],
     &["lint"],
@@ -26,8 +25,10 @@ const NO_COMMANDS: [&[&str]; 22] = [
     &[" boot"],
     &["boot\n"],
     &["boot\0"],
+    &["Build"],
     // too many words
     &["boot", "boot"],
+    &["build", "boot"],
     &["boot", ""],
     &["", "boot"],
     &["boot", "--help"],

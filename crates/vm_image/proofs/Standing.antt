@@ -10,10 +10,10 @@ use Rattle.loader_script.specs.Run.{Placed}
 use Rattle.loader_script.specs.Left.{Holds, IsOutside}
 use Rattle.blob_holes.specs.Held.{HoldsFilled}
 use Rattle.image_files.specs.declared.file.Placing.{Placing}
-use Rattle.image_files.specs.declared.zone.Zone.{Zone}
-use Rattle.image_files.specs.declared.zone.Zone.TheVariants.{High, Fseg}
+use Rattle.zone_alloc.specs.declared.zone.Zone.{Zone}
+use Rattle.zone_alloc.specs.declared.zone.Zone.TheVariants.{High, Fseg}
 use Rattle.image_files.specs.Files.{ImageFile}
-use Rattle.image_files.specs.Zones.{zone_range}
+use Rattle.zone_alloc.specs.Zones.{zone_range}
 use Rattle.image_files.specs.Places.{range_at, MayStand, ArePlaces}
 use Rattle.image_files.specs.Linked.{IsLinked, AreLinked}
 use Rattle.vm_image.proofs.Named.{places_by, StandsFirst}

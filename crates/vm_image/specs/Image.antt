@@ -14,8 +14,8 @@ use Rattle.table_model.specs.Acpi.{tables_of}
 use Rattle.table_model.specs.Anchor.{anchor_rows, anchor_of}
 use Rattle.table_model.specs.Smbios.{structures_of}
 use Rattle.vt_layout.specs.declared.row.Row.TheVariants.{Pointer}
-use Rattle.image_files.specs.declared.zone.Zone.{Zone}
-use Rattle.image_files.specs.declared.zone.Zone.TheVariants.{High, Fseg}
+use Rattle.zone_alloc.specs.declared.zone.Zone.{Zone}
+use Rattle.zone_alloc.specs.declared.zone.Zone.TheVariants.{High, Fseg}
 use Rattle.image_files.specs.Files.{ImageFile, whole}
 use Rattle.image_files.specs.Script.{script_of}
 use Rattle.image_files.specs.Items.{items_of}

@@ -8,7 +8,7 @@ pub use Rattle.image_files.specs.Items
 pub use Rattle.image_files.specs.Places
 pub use Rattle.image_files.specs.Linked
 pub use Rattle.image_files.specs.Room
-pub use Rattle.image_files.specs.Zones
+pub use Rattle.zone_alloc.specs.Zones
 pub use Rattle.image_files.specs.Linkable
 pub use Rattle.vt_bytes.specs.Memory
 pub use Rattle.machine_desc.specs.Rules

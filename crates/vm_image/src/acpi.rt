@@ -15,12 +15,13 @@ use crate::names::{acpi_tables_name, rsdp_name};
 use crate::placed::placed_file;
 use acpi_fixed::{put_rsdp, put_table, put_xsdt};
 use blob_holes::{Blob, Parts};
-use image_files::{ImageFile, Zone};
+use image_files::ImageFile;
 use machine_desc::{Acpi, Machine};
 use std::alloc::Global;
 use std::marker::Model;
 use table_model::{Head, Table, head_of, tables_of};
 use vt_outside::{List, OutOfMemory};
+use zone_alloc::Zone;
 
 /// The files of a machine's ACPI tables, with their holes.
 #[derive(Drop)]

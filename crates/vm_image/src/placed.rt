@@ -2,8 +2,9 @@ ghost use Rattle.std.specs.Prelude.{◌≡◌};
 ghost use Rattle.vm_image.specs.Image.{placed_file};
 
 use blob_holes::Parts;
-use image_files::{ImageFile, Placing, Zone};
+use image_files::{ImageFile, Placing};
 use vt_outside::Name;
+use zone_alloc::Zone;
 
 // A file that a guest can't write in fw_cfg, and for which a place is asked in a zone, at a multiple of `align`.
 pub(crate) fn placed_file(name: Name, parts: Parts, zone: Zone, align: u32) -> ImageFile

@@ -9,13 +9,14 @@ ghost use Rattle.vm_image.specs.Image.{anchor_blob, anchor_name, smbios_placed, 
 use crate::names::{anchor_name, structures_name};
 use crate::placed::placed_file;
 use blob_holes::{Blob, Parts, append_rows};
-use image_files::{ImageFile, Zone};
+use image_files::ImageFile;
 use machine_desc::Machine;
 use smbios_build::{SmbiosBuildFault, build_smbios};
 use std::alloc::Global;
 use table_model::{anchor_of, anchor_rows, structures_of};
 use vt_layout::Row;
 use vt_outside::{Bytes, List, OutOfMemory};
+use zone_alloc::Zone;
 
 // Adds the files of the SMBIOS structures of `machine`, which is accepted, and of their anchor.
 pub(crate) fn push_smbios(

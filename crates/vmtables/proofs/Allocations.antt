@@ -14,11 +14,11 @@ use Rattle.loader_script.specs.Run.{File, file_of, placed_of, bytes_of}
 use Rattle.loader_script.specs.Left.{range_of}
 use Rattle.loader_script.proofs.Named.{none_passes}
 use Rattle.vmtables.specs.declared.placing.PlacedFile.{PlacedFile}
-use Rattle.image_files.specs.declared.zone.Zone.{Zone}
-use Rattle.image_files.specs.declared.zone.Zone.TheVariants.{High, Fseg}
-use Rattle.vmtables.specs.declared.zones.Zones.{Zones}
-use Rattle.image_files.specs.Zones.{zone_range}
-use Rattle.vmtables.specs.Places.{range_in, IsLeastFree}
+use Rattle.zone_alloc.specs.declared.zone.Zone.{Zone}
+use Rattle.zone_alloc.specs.declared.zone.Zone.TheVariants.{High, Fseg}
+use Rattle.zone_alloc.specs.declared.zones.Zones.{Zones}
+use Rattle.zone_alloc.specs.Zones.{zone_range}
+use Rattle.zone_alloc.specs.Places.{range_in, IsLeastFree}
 use Rattle.vmtables.specs.FilesInMemory.{placed_range, EndsLow, files_in, ArePlaced, IsOfSize, IsLoading, IsStep}
 use Rattle.vmtables.proofs.LowRuns.{one_least_free}
 use Rattle.vmtables.proofs.NamedInMemory.{none_named}

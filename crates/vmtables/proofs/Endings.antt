@@ -34,6 +34,13 @@ pub usage_ran : (command : Option Command) (world : Option Begun) (left taken : 
 usage_ran command world left taken none =
     rw none (record { input = Unread; made = Err fault.Usage; did = refl; read = refl; wrote = (refl, refl) })
 
+-- a command that the words are
+pub commanded : (known command : Option Command) (r : Result (Unit {0}) Fault) (before after : Option Begun)
+    (left left_after taken taken_after : Option (List ℕ)) → known ≡ command → Ran (Does known before after) r left left_after taken taken_after
+    → Ran (Does command before after) r left left_after taken taken_after
+commanded known command r before after left left_after taken taken_after is =
+    subst (λ those. Ran (Does those before after) r left left_after taken taken_after) is
+
 -- A command that reads its whole input ends with the fault of the reading.
 pub cut_off : (Makes : List ℕ → Option Begun → Option Begun → Made → Type 0) (f : InputFault) (r : Result (Unit {0}) Fault) (world : Option Begun)
     (left left_after taken : Option (List ℕ)) → IsErrAnd r (IsOfInput f) → Ran (ReadsAll Makes world world) r left left_after taken taken
@@ -56,6 +63,17 @@ refused Makes bytes lent f (Err ended) before after left left_after taken given 
     let did : Makes bytes before after (Err f) = subst (λ b. Makes b before after (Err f)) same made in
     record { input = Whole bytes; made = Err f; did = did; read = (given, end); wrote = (is, refl) }
 
+-- A command that reads its whole input, and wrote the text that it made of it, or a part of that.
+pub wrote : (Makes : List ℕ → Option Begun → Option Begun → Made → Type 0) (r : Result (Unit {0}) Fault) (bytes text : List ℕ)
+    (before after : Option Begun) (left left_after taken taken_after : Option (List ℕ))
+    → left ≡ in_front bytes left_after → IfSome left_after (λ rest. rest ≡ []) → Makes bytes before after (Ok text)
+    → OnOk r (Took taken taken_after text) → IfErr r (λ f. f ≡ fault.WriteFault) → OnErr r (TookFront taken taken_after text)
+    → Ran (ReadsAll Makes before after) r left left_after taken taken_after
+wrote Makes (Ok done) bytes text before after left left_after taken taken_after given end makes took failed front =
+    record { input = Whole bytes; made = Ok text; did = makes; read = (given, end); wrote = took }
+wrote Makes (Err f) bytes text before after left left_after taken taken_after given end makes took failed front =
+    record { input = Whole bytes; made = Ok text; did = makes; read = (given, end); wrote = (failed, front) }
+
 -- A boot that loaded its machine, and wrote the dump or a part of it.
 pub boot_wrote : (r : Result (Unit {0}) Fault) (bytes : List ℕ) (before after : Option Begun) (left left_after taken taken_after : Option (List ℕ))
     → left ≡ in_front bytes left_after → IfSome left_after (λ rest. rest ≡ []) → IsSomeAnd after (IsLoaded bytes)
@@ -64,10 +82,8 @@ pub boot_wrote : (r : Result (Unit {0}) Fault) (bytes : List ℕ) (before after 
     → OnErr r (IsSomeAnd after (λ w. TookFront taken taken_after (dump w.memory)))
     → Ran (ReadsAll BootMakes before after) r left left_after taken taken_after
 boot_wrote r bytes before None left left_after taken taken_after given end loaded dumped failed front = absurd loaded
-boot_wrote (Ok done) bytes before (Some w) left left_after taken taken_after given end loaded dumped failed front =
-    record { input = Whole bytes; made = Ok (dump w.memory); did = (loaded, refl); read = (given, end); wrote = dumped }
-boot_wrote (Err f) bytes before (Some w) left left_after taken taken_after given end loaded dumped failed front =
-    record { input = Whole bytes; made = Ok (dump w.memory); did = (loaded, refl); read = (given, end); wrote = (failed, front) }
+boot_wrote r bytes before (Some w) left left_after taken taken_after given end loaded dumped failed front =
+    wrote BootMakes r bytes (dump w.memory) before (Some w) left left_after taken taken_after given end (loaded, refl) dumped failed front
 
 -- The streams of a command that read its whole input, made a text of it, and wrote that or a part of it.
 pub wrote_streams : (r : Result (Unit {0}) Fault) (bytes : List ℕ) (source source_after : SourceSeen) (out out_after : SinkSeen)

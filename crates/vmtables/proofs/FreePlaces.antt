@@ -4,7 +4,7 @@ use Rattle.std.specs.List.{AllByRecursion}
 use Rattle.vmtables.specs.declared.placing.PlacedFile.{PlacedFile}
 use Rattle.vt_outside.specs.Placement.{Range, Apart, IsFree}
 use Rattle.vmtables.specs.FilesInMemory.{placed_range, Meets}
-use Rattle.vmtables.proofs.Multiples.{next_is_least}
+use Rattle.zone_alloc.proofs.Multiples.{next_is_least}
 
 -- what holds of each range holds of that of each file
 of_each : (P : Range → Type 0) (placed : List PlacedFile) (p : PlacedFile) → AllByRecursion P (map placed_range placed) → Contains placed p → P (placed_range p)

@@ -4,7 +4,7 @@ use Rattle.std.specs.List.{AllByRecursion}
 use Rattle.std.proofs.lemmas.Bool.{cases_lt}
 use Rattle.std.proofs.Math.Nat.{mul-le-mul_right}
 use Rattle.vt_outside.specs.Placement.{Range, Apart, IsFree}
-use Rattle.vmtables.specs.Places.{IsLeastFree}
+use Rattle.zone_alloc.specs.Places.{IsLeastFree}
 
 -- something holds, or it doesn't
 abbrev Decided : Type 0 → Type 0

@@ -8,7 +8,6 @@ pub mod Rows
 pub mod Lines
 pub mod Parts
 pub mod Endings
-pub mod Multiples
 pub mod FreePlaces
 pub mod NamedInMemory
 pub mod Writes
@@ -20,3 +19,4 @@ pub mod Allocations
 pub mod Scripts
 pub mod LeftMemory
 pub mod Descriptions
+pub mod BuildRefused

@@ -11,16 +11,16 @@ use Rattle.loader_script.specs.declared.entry.Entry.TheVariants.{Allocate, AddPo
 use Rattle.loader_script.specs.Run.{File, Placed, Progress, bytes_of}
 use Rattle.loader_script.specs.Left.{range_of}
 use Rattle.image_files.specs.declared.file.Placing.{Placing}
-use Rattle.image_files.specs.declared.zone.Zone.{Zone}
-use Rattle.image_files.specs.declared.zone.Zone.TheVariants.{High, Fseg}
-use Rattle.image_files.specs.Zones.{zone_range, zone_numbered, number_of_zone}
+use Rattle.zone_alloc.specs.declared.zone.Zone.{Zone}
+use Rattle.zone_alloc.specs.declared.zone.Zone.TheVariants.{High, Fseg}
+use Rattle.zone_alloc.specs.Zones.{zone_range, zone_numbered, number_of_zone}
 use Rattle.image_files.specs.Files.{ImageFile, by_name}
 use Rattle.image_files.specs.Script.{allocation, add_pointer, add_pointers, add_checksum, add_checksums, linking}
 use Rattle.image_files.specs.Places.{range_at, MayStand, ArePlaces, ranges_at}
 use Rattle.image_files.specs.Linked.{BeginsWith}
 use Rattle.image_files.specs.Room.{HaveRoom}
 use Rattle.image_files.proofs.InTurn.{each_flat_map}
-use Rattle.vmtables.specs.Places.{IsLeastFree}
+use Rattle.zone_alloc.specs.Places.{IsLeastFree}
 use Rattle.vmtables.specs.LowRun.{at_files, AreLow}
 use Rattle.vmtables.proofs.LowRuns.{allocate-leads}
 use Rattle.vmtables.proofs.LeastPlaces.{least_place}

@@ -7,8 +7,8 @@ use Rattle.loader_script.specs.declared.entry.Entry.TheVariants.{Allocate, AddPo
 use Rattle.loader_script.specs.Run.{File, Placed, Progress, End, Done, bytes_of, allocated, with_pointer, with_sum, cause_of, carried_out, run_from}
 use Rattle.loader_script.specs.Left.{range_of}
 use Rattle.loader_script.proofs.Runs.{goes-on, done-on}
-use Rattle.image_files.specs.Zones.{zone_range, zone_numbered}
-use Rattle.vmtables.specs.Places.{IsLeastFree}
+use Rattle.zone_alloc.specs.Zones.{zone_range, zone_numbered}
+use Rattle.zone_alloc.specs.Places.{IsLeastFree}
 use Rattle.vmtables.specs.LowRun.{at_files, IsLow, AreLow, IsLowRun}
 
 -- from how far the run is, each command gets a least free place where it needs one, isn't refused, and is carried out

@@ -17,8 +17,8 @@ use Rattle.loader_script.specs.Run.{with_pointer, with_sum, carried_out}
 use Rattle.loader_script.specs.Left.{range_of}
 use Rattle.loader_script.proofs.Conditions.{conditions_suffice}
 use Rattle.loader_script.proofs.Named.{same_name, of_found, found_passes}
-use Rattle.image_files.specs.Zones.{zone_range, zone_numbered}
-use Rattle.vmtables.specs.Places.{IsLeastFree}
+use Rattle.zone_alloc.specs.Zones.{zone_range, zone_numbered}
+use Rattle.zone_alloc.specs.Places.{IsLeastFree}
 use Rattle.vmtables.specs.LowRun.{at_files}
 use Rattle.vmtables.proofs.LowRuns.{LeadsTo}
 

@@ -14,8 +14,8 @@ use Rattle.loader_script.specs.Left.{range_of}
 use Rattle.loader_script.specs.Conditions.{CanAllocate, CanAddPointer, CanAddChecksum}
 use Rattle.loader_script.proofs.Conditions.{conditions_from}
 use Rattle.vmtables.specs.declared.placing.PlacedFile.{PlacedFile}
-use Rattle.image_files.specs.Zones.{zone_range, zone_numbered}
-use Rattle.vmtables.specs.Places.{IsLeastFree}
+use Rattle.zone_alloc.specs.Zones.{zone_range, zone_numbered}
+use Rattle.zone_alloc.specs.Places.{IsLeastFree}
 use Rattle.vmtables.specs.LowRun.{at_files, IsLow, IsLowRun}
 use Rattle.vmtables.specs.FilesInMemory.{files_in, progress_in, IsOfSize, IsLoading, Stays, IsStep, CanPoint, CanSum}
 use Rattle.vmtables.proofs.LowRuns.{LeadsTo, allocate-leads, low-run-leads}

@@ -2,6 +2,7 @@
 use Rattle.std.specs.Prelude.{◌≡◌, ◌⊎◌, ℕ, ◌<◌, ◌≤◌, true, List, Option, None, IsSomeAnd, Ok, Err}
 use Rattle.machine_desc.specs.declared.machine.Machine.{Machine}
 use Rattle.vmtables.specs.Calls.{Made}
+use Rattle.vmtables.specs.Described.{IsTooLarge}
 use Rattle.vmtables.specs.Dump.{dump}
 use Rattle.desc_toml.specs.Reading.{Reads, read_of}
 use Rattle.loader_script.specs.Run.{Placed}
@@ -38,7 +39,6 @@ pub record IsLoaded (bytes : List ℕ) (w : Begun) : Type 0 where
 abbrev pub BootMakes : List ℕ → Option Begun → Option Begun → Made → Type 0
 BootMakes bytes before after (Ok text) = IsSomeAnd after (λ w. IsLoaded bytes w × (text ≡ dump w.memory))
 BootMakes bytes before after (Err (fault.Description refused)) = (read_of bytes ≡ Err refused) × (after ≡ before)
-BootMakes bytes before after (Err fault.ImageTooLarge) =
-    (machine : Machine) × Reads bytes machine × (image_limit < total_size (image_items machine)) × (after ≡ before)
+BootMakes bytes before after (Err fault.ImageTooLarge) = IsTooLarge bytes × (after ≡ before)
 BootMakes bytes before after (Err fault.OutOfMemory) = (after ≡ before) ⊎ (after ≡ None)
 BootMakes bytes before after (Err _) = ⊥

@@ -3,13 +3,14 @@ pub mod Causes
 pub mod Outcome
 pub mod Output
 pub mod Dump
-pub mod Places
 pub mod LowRun
 pub mod FilesInMemory
 pub mod World
 pub mod WorldInside
 pub mod Calls
+pub mod Described
 pub mod Boot
+pub mod Build
 pub mod Does
 pub use Rattle.vt_outside.specs.Stream
 pub use Rattle.vt_outside.specs.Name
@@ -20,6 +21,7 @@ pub use Rattle.desc_toml.specs.Reading
 pub use Rattle.machine_desc.specs.Rules
 pub use Rattle.table_model.specs.Inventory
 pub use Rattle.cfg_directory.specs.Items as DirectoryItems
-pub use Rattle.image_files.specs.Zones
+pub use Rattle.cfg_directory.specs.Container
+pub use Rattle.zone_alloc.specs.Zones
 pub use Rattle.image_files.specs.Items
 pub use Rattle.vm_image.specs.Image

@@ -4,8 +4,8 @@ use Rattle.loader_script.specs.declared.entry.Entry.{Entry}
 use Rattle.loader_script.specs.declared.entry.Entry.TheVariants.{Allocate, AddPointer, AddChecksum, WritePointer, Misnamed, Skipped}
 use Rattle.loader_script.specs.Run.{File, Placed, Progress, Done, bytes_of, carried_out, opening, run}
 use Rattle.loader_script.specs.Left.{range_of}
-use Rattle.image_files.specs.Zones.{zone_range, zone_numbered}
-use Rattle.vmtables.specs.Places.{IsLeastFree}
+use Rattle.zone_alloc.specs.Zones.{zone_range, zone_numbered}
+use Rattle.zone_alloc.specs.Places.{IsLeastFree}
 
 -- how far a run over files is
 abbrev pub at_files : List File → List Placed → List ℕ → Progress

@@ -1,8 +1,8 @@
-//! The top call of the program: words and a description in, the dump of a guest's memory out.
+//! The top call of the program: words and a description in, the dump of a guest's memory or a container of files out.
 //!
 //! `boot` reads a machine's description (TOML), builds the files that a firmware loads (SMBIOS structures and
 //! their anchor, DSP0134) and the script that places, patches and checksums them, runs that script on the memory
-//! of a guest, and writes the memory as text.
+//! of a guest, and writes the memory as text. `build` writes these files as one container.
 #![tactic(auto)]
 
 mod command;
@@ -16,11 +16,9 @@ mod state;
 mod status;
 mod top_call;
 mod world;
-mod zones;
 
-pub use image_files::Zone;
 pub use state::State;
 pub use status::Status;
 pub use top_call::top;
 pub use world::World;
-pub use zones::{Zones, zones_of};
+pub use zone_alloc::{Zone, Zones, zones_of};

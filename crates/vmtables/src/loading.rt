@@ -3,9 +3,9 @@ ghost use Rattle.std.specs.Int.{is_power_of_two};
 ghost use Rattle.vt_bytes.specs.Memory.{at};
 ghost use Rattle.loader_script.specs.Run.{File, Placed, Progress, file_of, placed_of, bytes_of, with_pointer, with_sum, cause_of, carried_out};
 ghost use Rattle.loader_script.specs.Left.{range_of, IsLeft};
-ghost use Rattle.image_files.specs.Zones.{zone_range};
+ghost use Rattle.zone_alloc.specs.Zones.{zone_range};
 ghost use Rattle.image_files.specs.Items.{files_of};
-ghost use Rattle.vmtables.specs.Places.{IsLeastFree};
+ghost use Rattle.zone_alloc.specs.Places.{IsLeastFree};
 ghost use Rattle.vmtables.specs.LowRun.{IsLow, IsLowRun};
 ghost use Rattle.vmtables.specs.FilesInMemory.{
   files_in,
@@ -20,12 +20,11 @@ ghost use Rattle.vmtables.specs.FilesInMemory.{
 };
 
 use crate::placing::{PlacedFile, least_free};
-use crate::zones::zones_of;
 use cfg_directory::Item;
 use guest_memory::GuestMemory;
-use image_files::Zone;
 use loader_script::Entry;
 use vt_outside::Name;
+use zone_alloc::{Zone, zones_of};
 
 /// Carries out the commands of `script` on `memory`, one after the other; none of them is refused. `items` are the files that a
 /// command can place, and each gets the least free place of its zone. `placed` is empty, has room for a file for each command,

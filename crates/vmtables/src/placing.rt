@@ -1,12 +1,11 @@
 ghost use Rattle.std.specs.Prelude.{ℕ, ◌+◌, ◌<◌, ◌^◌, map, IfNone, IfSome};
 ghost use Rattle.std.specs.List.{All, AllByRecursion};
 ghost use Rattle.vt_outside.specs.Placement.{Apart, IsFree};
-ghost use Rattle.vmtables.specs.Places.{range_in, IsLeastFree};
+ghost use Rattle.zone_alloc.specs.Places.{range_in, IsLeastFree};
 ghost use Rattle.vmtables.specs.FilesInMemory.{placed_range, Meets, EndsLow};
 
-use crate::zones::Zones;
-use image_files::Zone;
 use vt_outside::Name;
+use zone_alloc::{Zone, Zones};
 
 /// Where a file was placed, and how many bytes it has there.
 #[derive(Clone, Copy, Debug)]

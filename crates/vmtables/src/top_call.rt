@@ -1,7 +1,10 @@
-ghost use Rattle.std.specs.Prelude.{◌≡◌, ◌≢◌, ℕ, ◌<◌, ◌↔◌, ◌⊎◌, List, map, string_bytes, Err, None, IfSome, IsSome, IfErr, OnOk, OnErr, IsSomeAnd};
+ghost use Rattle.std.specs.Prelude.{◌≡◌, ◌≢◌, ℕ, ◌<◌, ◌↔◌, List, map, string_bytes, Err, None, Option};
+ghost use Rattle.std.specs.Prelude.{IfSome, IsSome, IfOk, IfErr, OnOk, OnErr, IsSomeAnd};
 ghost use Rattle.vt_outside.specs.Stream.{Rose};
 ghost use Rattle.machine_desc.specs.Rules.{IsAccepted};
 ghost use Rattle.vmtables.specs.Boot.{IsLoaded, BootMakes};
+ghost use Rattle.vmtables.specs.Build.{IsImage, BuildMakes};
+ghost use Rattle.vmtables.specs.World.{Begun};
 ghost use Rattle.vmtables.specs.Calls.{ReadsAll, Ran, Said, Answered, Streams};
 ghost use Rattle.vmtables.specs.Command.{command_of};
 ghost use Rattle.vmtables.specs.Does.{Does};
@@ -17,24 +20,27 @@ use crate::input::read_to_end;
 use crate::output::write_all;
 use crate::status::Status;
 use crate::world::World;
+use cfg_directory::write_image;
 use desc_toml::read_machine;
 use machine_desc::Machine as Described;
 use std::alloc::Global;
 use vm_image::{Image, image_of};
-use vt_outside::{Failed, Sink, Source};
+use vt_outside::{Bytes, Failed, Sink, Source};
 
 // How many bytes a MiB has.
 const MIB: u32 = 0x10_0000;
 
 /// Carries out the command that `words`, those after the program's name, ask for, and returns how it ended. `boot` reads a
 /// description from `source`, builds the machine's files, loads them into the memory of `world`, writes its dump to `out` and
-/// flushes it. It takes its memory from `alloc`. Nothing is written to `out` before all but the writing is done.
+/// flushes it. `build` writes the container of these files, and leaves `world` as it was. It takes its memory from `alloc`.
+/// Nothing is written to `out` before all but the writing is done.
 ///
 /// `Usage` means that `words` are no command; nothing is then read. `ReadFault` means that `source` failed, `InputTooLong` that
 /// it gave more than 67,108,864 bytes, `DescriptionRefused` that its bytes describe no accepted machine, `ImageTooLarge` that the
-/// machine's files have more than 409,600 bytes, `OutOfMemory` that memory ran out, and `WriteFault` that `out` failed. With `Ok` `out` took the whole dump, with `WriteFault` a part of it from
-/// its front, perhaps all, and with any other status nothing. With `Ok` and `WriteFault` the machine is loaded in `world`. With
-/// any other status `world` is as before, except that it may be idle after `OutOfMemory`.
+/// machine's files have more than 409,600 bytes, `OutOfMemory` that memory ran out, and `WriteFault` that `out` failed. With `Ok`
+/// `out` took the whole text, with `WriteFault` a part of it from its front, perhaps all, and with any other status nothing. With
+/// `Ok` and `WriteFault` of `boot` the machine is loaded in `world`. With any other status of `boot`, `world` is as before, except
+/// that it may be idle after `OutOfMemory`.
 ///
 /// `say` takes the line of a status other than `Ok`. What becomes of that line changes nothing else.
 pub fn top<S: Source, K: Sink, E: Sink>(
@@ -115,6 +121,7 @@ fn carry_out<S: Source, K: Sink>(
 {
     match read_words(words) {
         Some(Command::Boot) => boot(alloc, source, out, world),
+        Some(Command::Build) => build(alloc, source, out),
         None => Err(Fault::Usage),
     }
 }
@@ -174,6 +181,57 @@ fn write_dump<K: Sink>(world: &World, out: &mut K) -> Result<(), Fault>
     ensures sound { OnOk result (K.faults out.new ≡ K.faults out.old) }
 {
     match dump_to(world.memory(), out) {
+        Ok(()) => flush(out),
+        Err(Failed) => Err(Fault::WriteFault),
+    }
+}
+
+// Reads a description, and writes the container of its machine's files.
+fn build<S: Source, K: Sink>(alloc: Global, source: &mut S, out: &mut K) -> Result<(), Fault>
+    ensures ran { (world : Option Begun) → Ran (ReadsAll BuildMakes world world) result
+        (S.left source.old) (S.left source.new) (K.taken out.old) (K.taken out.new) }
+    ensures known { result ≢ Err Fault.Usage }
+    ensures streams { Streams (status_of result)
+        (record { left = S.left source.old; faults = S.faults source.old })
+        (record { left = S.left source.new; faults = S.faults source.new })
+        (record { taken = K.taken out.old; flushed = K.flushed out.old; faults = K.faults out.old })
+        (record { taken = K.taken out.new; flushed = K.flushed out.new; faults = K.faults out.new }) }
+{
+    let bytes = read_to_end(alloc, source)?;
+    let text = container_of(alloc, bytes.as_slice())?;
+    write_text(text.as_slice(), out)
+}
+
+// The container of the files of the machine that a description describes.
+fn container_of(alloc: Global, description: &[u8]) -> Result<Bytes, Fault>
+    ensures ok { IfOk result (λ text. IsImage description.now text) }
+    ensures err { IfErr result (λ fault. BuildMakes description.now None None (Err fault)) }
+{
+    let machine = read_machine(alloc, description)?;
+    image_container(alloc, &machine)
+}
+
+// The container of the files of a machine that is read from these bytes.
+fn image_container(alloc: Global, machine: &Described) -> Result<Bytes, Fault>
+    requires { IsAccepted machine.now }
+    ensures ok { IfOk result (λ text. (bytes : List ℕ) → Reads bytes machine.now → IsImage bytes text) }
+    ensures err { IfErr result (λ fault. (bytes : List ℕ) → Reads bytes machine.now → BuildMakes bytes None None (Err fault)) }
+{
+    let image = image_of(alloc, machine, 0)?;
+    Ok(write_image(alloc, &image.items)?)
+}
+
+// Writes a text, and flushes it.
+fn write_text<K: Sink>(text: &[u8], out: &mut K) -> Result<(), Fault>
+    ensures taken { OnOk result (Took (K.taken out.old) (K.taken out.new) text.now) }
+    ensures flushed { OnOk result (AllFlushed (K.taken out.new) (K.flushed out.new)) }
+    ensures fault { IfErr result (λ fault. fault ≡ Fault.WriteFault) }
+    ensures front { OnErr result (TookFront (K.taken out.old) (K.taken out.new) text.now) }
+    ensures unflushed { OnErr result (K.flushed out.new ≡ K.flushed out.old) }
+    ensures write_fault { OnErr result (Rose (K.faults out.old) (K.faults out.new)) }
+    ensures sound { OnOk result (K.faults out.new ≡ K.faults out.old) }
+{
+    match write_all(out, text) {
         Ok(()) => flush(out),
         Err(Failed) => Err(Fault::WriteFault),
     }

@@ -9,9 +9,11 @@ use vt_outside::{ReadSource, WriteSink};
 
 const HELP: &str = "\
 usage: vmtables boot < DESCRIPTION > DUMP
+       vmtables build < DESCRIPTION > CONTAINER
 
 boot       reads a machine's description (TOML) from standard input, builds its tables and the script that
            loads them, loads them into a guest's memory, and writes a dump of that memory to standard output
+build      reads a machine's description, and writes the files that a firmware loads, in one container
 --help     prints this text
 --version  prints the version
 

@@ -1,5 +1,5 @@
 use Rattle.std.proofs.Common.{length, ◌++◌, ◌∷◌, [], arith, ap, ◌∙◌}
-use Rattle.image_files.specs.declared.zone.Zone.TheVariants.{Fseg}
+use Rattle.zone_alloc.specs.declared.zone.Zone.TheVariants.{Fseg}
 use Rattle.vm_image.specs.Image.{placed_file, anchor_name, anchor_blob, smbios_placed}
 use Rattle.vm_image.proofs.Pushed.{two_more}
 use Rattle.vm_image.proofs.StructuresSize.{structures_size}

@@ -1,5 +1,5 @@
 use Rattle.std.proofs.Common.{◌/◌, ◌<◌, ◌≤◌, arith}
-use Rattle.vmtables.proofs.Multiples.{multiple_of, next_is_least}
+use Rattle.zone_alloc.proofs.Multiples.{multiple_of, next_is_least}
 use Rattle.vmtables.proofs.FreePlaces.{past_next}
 use Rattle.vmtables.proofs.placing.least_free.Goals as goal
 

@@ -1,6 +1,6 @@
 use Rattle.std.proofs.Common.{◌≡◌, ℕ, ◌-◌, ◌*◌, ◌≤◌, map}
 use Rattle.vt_outside.specs.Placement.{IsFree}
-use Rattle.vmtables.specs.Places.{range_in}
+use Rattle.zone_alloc.specs.Places.{range_in}
 use Rattle.vmtables.specs.FilesInMemory.{placed_range}
 use Rattle.vmtables.proofs.placing.least_free.Given as goal
 

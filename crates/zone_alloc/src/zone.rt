@@ -1,5 +1,5 @@
 ghost use Rattle.std.specs.Prelude.{◌≡◌};
-ghost use Rattle.image_files.specs.Zones.{zone_numbered, number_of_zone};
+ghost use Rattle.zone_alloc.specs.Zones.{zone_numbered, number_of_zone};
 
 /// A zone of memory, in which a loader script asks for a place for a file (QEMU, hw/acpi/bios-linker-loader.c).
 #[derive(Clone, Copy, Debug, PartialEq, Eq)]

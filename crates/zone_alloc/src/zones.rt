@@ -1,8 +1,8 @@
 ghost use Rattle.std.specs.Prelude.{◌≡◌, ◌≤◌};
 ghost use Rattle.vt_outside.specs.Placement.{high_zone, f_segment};
-ghost use Rattle.vmtables.specs.Places.{range_in};
+ghost use Rattle.zone_alloc.specs.Places.{range_in};
 
-use image_files::Zone;
+use crate::zone::Zone;
 
 /// The addresses of the zones of a memory. An end isn't in its zone.
 #[derive(Clone, Copy, Debug, PartialEq, Eq)]
@@ -35,12 +35,21 @@ pub fn zones_of(top: u32) -> Zones
 
 impl Zones {
     /// Returns the first address of `zone`.
-    pub(crate) fn start_of(&self, zone: Zone) -> u64
+    pub fn start_of(&self, zone: Zone) -> u64
         ensures { result ≡ (range_in self.now zone).start }
     {
         match zone {
             Zone::High => self.high_start,
             Zone::Fseg => self.fseg_start,
+        }
+    }
+    /// Returns the address past the last one of `zone`.
+    pub fn end_of(&self, zone: Zone) -> u64
+        ensures { result ≡ (range_in self.now zone).end }
+    {
+        match zone {
+            Zone::High => self.high_end,
+            Zone::Fseg => self.fseg_end,
         }
     }
 }

@@ -1,8 +1,8 @@
 -- The zones of memory in which an Allocate asks for a place (QEMU, hw/acpi/bios-linker-loader.c).
 use Rattle.std.specs.Prelude.{ℕ, zero, suc}
 use Rattle.vt_outside.specs.Placement.{Range, high_zone, f_segment}
-use Rattle.image_files.specs.declared.zone.Zone.{Zone}
-use Rattle.image_files.specs.declared.zone.Zone.TheVariants.{High, Fseg}
+use Rattle.zone_alloc.specs.declared.zone.Zone.{Zone}
+use Rattle.zone_alloc.specs.declared.zone.Zone.TheVariants.{High, Fseg}
 
 -- the addresses of a zone below a top
 abbrev pub zone_range : ℕ → Zone → Range

@@ -1,7 +1,7 @@
 //! The zones of memory below a few tops: 16 MiB, which is the least that there may be, 64 MiB, and 3 GiB.
 
 use std::process::Abort;
-use vmtables::{Zones, zones_of};
+use zone_alloc::{Zones, zones_of};
 
 #[test]
 fn zones_below_a_top(rt: HostRuntime) {

@@ -1,0 +1,80 @@
+//! The container of the minimal machine, worked by hand: `build` writes it, and it is read again.
+
+use crate::endings::{build, built};
+use crate::spelled::{put_allocate, put_checksum, put_file, put_pointer};
+use cfg_directory::read_image;
+use fixtures::{MINIMAL, ends, is_same};
+use std::alloc::Global;
+use std::test::Fail;
+use vt_outside::{Bytes, OutOfMemory};
+
+const ANCHOR: &str = "etc/smbios/smbios-anchor";
+
+const STRUCTURES: &str = "etc/smbios/smbios-tables";
+
+// The anchor before it is linked, with zeros for its sum and for the address of the structures.
+const ANCHOR_BYTES: [u8; 24] = [
+    0x5F, 0x53, 0x4D, 0x33, 0x5F, 0, 0x18, 3, 0, 0, 1, 0, 42, 0, 0, 0, 0, 0, 0, 0, 0, 0, 0, 0,
+];
+
+const STRUCTURES_BYTES: [u8; 42] = [
+    0x01, 0x1B, 0x00, 0x01, 1, 2, 0, 0, 0x33, 0x22, 0x11, 0x00, 0x55, 0x44, 0x77, 0x66, 0x88, 0x99,
+    0xAA, 0xBB, 0xCC, 0xDD, 0xEE, 0xFF, 6, 0, 0, 0x41, 0x43, 0x4D, 0x45, 0, 0x56, 0x4D, 0, 0, 0x7F,
+    4, 0x00, 0x7F, 0, 0,
+];
+
+#[test]
+fn the_container_of_the_minimal_machine(rt: HostRuntime) -> Result<(), Fail> {
+    let container = minimal_container(rt.alloc())?;
+    is_built(rt.alloc(), container.as_slice())
+}
+
+#[test]
+fn it_is_read_again(rt: HostRuntime) -> Result<(), Fail> {
+    let container = minimal_container(rt.alloc())?;
+    has_files(rt.alloc(), container.as_slice())
+}
+
+fn is_built(alloc: Global, container: &[u8]) -> Result<(), Fail> {
+    ends(
+        alloc,
+        &build("minimal", MINIMAL.as_bytes()),
+        &built(container),
+    )
+}
+
+fn has_files(alloc: Global, container: &[u8]) -> Result<(), Fail> {
+    match read_image(alloc, container) {
+        Ok(items) => is_same("minimal", "files", &items.all().len(), &3),
+        Err(_) => Err(Fail::new("no container")),
+    }
+}
+
+fn minimal_container(alloc: Global) -> Result<Bytes, OutOfMemory> {
+    let mut bytes = Bytes::new(alloc);
+    put_directory(&mut bytes)?;
+    put_contents(&mut bytes)?;
+    put_script(&mut bytes)?;
+    Ok(bytes)
+}
+
+// Three files, none of which a guest may write.
+fn put_directory(bytes: &mut Bytes) -> Result<(), OutOfMemory> {
+    bytes.extend(&[0, 0, 0, 3])?;
+    put_file(bytes, 24, 0x20, ANCHOR)?;
+    put_file(bytes, 42, 0x21, STRUCTURES)?;
+    put_file(bytes, 512, 0x22, "etc/table-loader")?;
+    bytes.extend(&[0, 0, 0])
+}
+
+fn put_contents(bytes: &mut Bytes) -> Result<(), OutOfMemory> {
+    bytes.extend(&ANCHOR_BYTES)?;
+    bytes.extend(&STRUCTURES_BYTES)
+}
+
+fn put_script(bytes: &mut Bytes) -> Result<(), OutOfMemory> {
+    put_allocate(bytes, STRUCTURES, 16, 1)?;
+    put_allocate(bytes, ANCHOR, 16, 2)?;
+    put_pointer(bytes, ANCHOR, STRUCTURES, 16, 8)?;
+    put_checksum(bytes, ANCHOR, 5, 0, 24)
+}

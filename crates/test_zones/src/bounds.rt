@@ -1,0 +1,37 @@
+//! What is said through the trait of what an allocator gives, and what follows of a shelf.
+
+ghost use Rattle.std.specs.Prelude.{◌≡◌, ℕ, true, ◌<◌, length, IsOk};
+ghost use Rattle.std.specs.Result.{result_ok};
+ghost use Rattle.vt_outside.specs.Placement.{IsFree};
+ghost use Rattle.zone_alloc.specs.declared.zone.Zone.TheVariants.{High};
+ghost use Rattle.zone_alloc.specs.Places.{range_in};
+
+use std::process::Abort;
+use std::test::Fail;
+use zone_alloc::{NoRoom, Policy, ShelfAlloc, Zone, ZoneAlloc, zones_of};
+
+#[test]
+fn a_shelf_through_the_trait(rt: HostRuntime) -> Result<(), Fail> {
+    let mut shelf = ShelfAlloc::new();
+    shelf.begin(rt.alloc(), zones_of(0x400_0000), Policy::Low)?;
+    assert_eq!(rt; place_on(&mut shelf), Ok(0x300_0000));
+    Ok(())
+}
+
+// A shelf isn't refused a place where one is free.
+fn place_on(shelf: &mut ShelfAlloc) -> Result<u64, NoRoom>
+    requires begun { shelf.old.begun ≡ true }
+    requires room { length shelf.old.handed < 1024 }
+    ensures { (place : ℕ) → IsFree (range_in shelf.old.zones High) shelf.old.handed 16 16 place → IsOk result }
+{
+    place_by(shelf)
+}
+
+// A place for 16 bytes, by any allocator.
+fn place_by<A: ZoneAlloc>(alloc: &mut A) -> Result<u64, NoRoom>
+    requires begun { A.begun alloc.old ≡ true }
+    requires room { length (A.handed alloc.old) < 1024 }
+    ensures { A.gives alloc.old High 16 16 (result_ok result) }
+{
+    alloc.place(Zone::High, 16, 16)
+}

@@ -1,0 +1,68 @@
+//! What a refusal leaves: its count, and the request that was refused.
+
+ghost use Rattle.std.specs.Prelude.{◌≡◌, true, ◌<◌, [], Some, None, length};
+ghost use Rattle.std.specs.Int.{is_power_of_two};
+ghost use Rattle.vt_outside.specs.Stream.{next_count};
+ghost use Rattle.zone_alloc.specs.declared.zone.Zone.TheVariants.{Fseg};
+
+use std::process::Abort;
+use std::test::Fail;
+use zone_alloc::Zone::{Fseg, High};
+use zone_alloc::{NoRoom, Policy, Request, ShelfAlloc, ZoneAlloc, zones_of};
+
+#[test]
+fn refusals(rt: HostRuntime) -> Result<(), Fail> {
+    let mut shelf = ShelfAlloc::new();
+    shelf.begin(rt.alloc(), zones_of(0x400_0000), Policy::Low)?;
+    two_refusals(&rt, &mut shelf);
+    a_place(&rt, &mut shelf);
+    shelf.begin(rt.alloc(), zones_of(0x400_0000), Policy::Low)?;
+    a_place(&rt, &mut shelf);
+    Ok(())
+}
+
+// Two requests for more than the F segment are refused and counted, and the last one is kept.
+fn two_refusals(rt: &impl Abort, shelf: &mut ShelfAlloc)
+    requires begun { shelf.old.begun ≡ true }
+    requires none { (shelf.old.handed ≡ []) × (shelf.old.refusals ≡ 0) }
+    ensures count { shelf.new.refusals ≡ 2 }
+    ensures asked { shelf.new.refused ≡ Some (record { zone = Fseg; size = 0x10002; align = 16 }) }
+    ensures none { shelf.new.handed ≡ [] }
+    ensures begun { shelf.new.begun ≡ true }
+{
+    let first = Request {
+        zone: Fseg,
+        size: 0x1_0001,
+        align: 1,
+    };
+    let second = Request {
+        zone: Fseg,
+        size: 0x1_0002,
+        align: 16,
+    };
+    is_refused(rt, shelf, first);
+    is_refused(rt, shelf, second);
+}
+
+// A request is refused: it is counted and kept, and all else is what it was.
+fn is_refused(rt: &impl Abort, shelf: &mut ShelfAlloc, asked: Request)
+    requires begun { shelf.old.begun ≡ true }
+    requires room { length shelf.old.handed < 1024 }
+    requires size { 0 < asked.size }
+    requires align { is_power_of_two asked.align ≡ true }
+    ensures { shelf.new ≡ record shelf.old { refusals = next_count shelf.old.refusals; refused = Some asked } }
+{
+    let given = shelf.place(asked.zone, asked.size, asked.align);
+    assert_eq!(rt; given, Err(NoRoom));
+}
+
+// A place is given, which leaves the count as it was, and no request that was refused.
+fn a_place(rt: &impl Abort, shelf: &mut ShelfAlloc)
+    requires begun { shelf.old.begun ≡ true }
+    requires none { shelf.old.handed ≡ [] }
+    ensures count { shelf.new.refusals ≡ shelf.old.refusals }
+    ensures clear { shelf.new.refused ≡ None }
+{
+    let given = shelf.place(High, 0x10, 0x10);
+    assert_eq!(rt; given, Ok(0x300_0000));
+}

@@ -1,0 +1,2 @@
+pub mod Multiples
+mod Walk

@@ -1,0 +1,6 @@
+pub mod Zones
+pub mod Places
+pub mod Ranges
+pub mod Allocators
+pub use Rattle.vt_outside.specs.Placement
+pub use Rattle.vt_outside.specs.Stream

@@ -1,0 +1,123 @@
+ghost use Rattle.std.specs.Prelude.{◌≡◌, true, false, ◌+◌, ◌<◌, ◌≤◌, ◌↔◌, [], ◌∷◌, ◌++◌, length, Some, None, IfOk, OnErr, is_ok, Contains, IsTrue};
+ghost use Rattle.std.specs.Int.{is_power_of_two};
+ghost use Rattle.std.specs.Result.{result_ok};
+ghost use Rattle.vt_outside.specs.Placement.{IsFree};
+ghost use Rattle.vt_outside.specs.Stream.{next_count};
+ghost use Rattle.zone_alloc.specs.declared.policy.Policy.TheVariants.{Low};
+ghost use Rattle.zone_alloc.specs.Places.{range_in, HaveAddresses};
+ghost use Rattle.zone_alloc.specs.Allocators.{failing_gives, no_zones};
+
+use crate::alloc::{NoRoom, ZoneAlloc};
+use crate::policy::Policy;
+use crate::shelf::ShelfAlloc;
+use crate::zone::Zone;
+use crate::zones::Zones;
+use std::alloc::Global;
+use std::marker::Model;
+use vt_outside::{List, OutOfMemory};
+
+/// A [`ShelfAlloc`] that refuses some of the calls of `place`, where the caller says so.
+#[derive(Debug, Drop)]
+pub struct FailingAlloc {
+    shelf: ShelfAlloc,
+    fails: List<u32>,
+    calls: u64,
+}
+
+impl Model for FailingAlloc {
+    ghost use Rattle.zone_alloc.specs.Allocators.{FailingState};
+
+    ghost Value = { FailingState };
+
+    ghost view = { λ f. record { shelf = f.shelf; fails = f.fails; calls = f.calls } };
+}
+
+impl FailingAlloc {
+    /// Makes an allocator that has no zones yet and has refused nothing. `fails` lists the calls of `place` that are refused, each
+    /// by its number: all these calls are counted, from 0, and the count goes on over each `begin`. It takes no memory.
+    pub fn new(fails: List<u32>) -> FailingAlloc
+        ensures { result ≡ record {
+          shelf = record { handed = []; zones = no_zones; policy = Low; refusals = 0; refused = None; begun = false };
+          fails = fails;
+          calls = 0;
+        } }
+    {
+        FailingAlloc {
+            shelf: ShelfAlloc::new(),
+            fails,
+            calls: 0,
+        }
+    }
+}
+
+impl ZoneAlloc for FailingAlloc {
+    ghost handed = { λ f. f.shelf.handed };
+
+    ghost zones = { λ f. f.shelf.zones };
+
+    ghost policy = { λ f. f.shelf.policy };
+
+    ghost refusals = { λ f. f.shelf.refusals };
+
+    ghost refused = { λ f. f.shelf.refused };
+
+    ghost begun = { λ f. f.shelf.begun };
+
+    ghost gives = { failing_gives };
+
+    fn begin(&mut self, alloc: Global, within: Zones, by: Policy) -> Result<(), OutOfMemory>
+        requires { HaveAddresses within }
+        ensures { self.new ≡ record self.old {
+          shelf = record {
+            handed = [];
+            zones = within;
+            policy = by;
+            refusals = self.old.shelf.refusals;
+            refused = None;
+            begun = is_ok result;
+          };
+        } }
+    {
+        self.shelf.begin(alloc, within, by)
+    }
+
+    fn place(&mut self, zone: Zone, size: u32, align: u32) -> Result<u64, NoRoom>
+        requires begun { self.old.shelf.begun ≡ true }
+        requires room { length self.old.shelf.handed < 1024 }
+        requires size { 0 < size }
+        requires align { is_power_of_two align ≡ true }
+        // A listed call is refused, and another one is answered as by a `ShelfAlloc`.
+        ensures gives { failing_gives self.old zone size align (result_ok result) }
+        ensures lawful { IfOk result (λ place. IsFree (range_in self.old.shelf.zones zone) self.old.shelf.handed size align place) }
+        ensures ok { IfOk result (λ place. self.new ≡ record self.old {
+          shelf = record self.old.shelf {
+            handed = self.old.shelf.handed ++ record { start = place; end = place + size } ∷ [];
+            refused = None;
+          };
+          calls = next_count self.old.calls;
+        }) }
+        ensures err { OnErr result (self.new ≡ record self.old {
+          shelf = record self.old.shelf {
+            refusals = next_count self.old.shelf.refusals;
+            refused = Some (record { zone = zone; size = size; align = align });
+          };
+          calls = next_count self.old.calls;
+        }) }
+        ensures never_falls { self.old.shelf.refusals ≤ self.new.shelf.refusals }
+    {
+        let call = self.calls;
+        self.calls = self.calls.saturating_add(1);
+        if is_listed(self.fails.as_slice(), call) {
+            self.shelf.refuse(zone, size, align);
+            return Err(NoRoom);
+        }
+        self.shelf.place(zone, size, align)
+    }
+}
+
+// Whether `fails` lists the number `call`.
+fn is_listed(fails: &[u32], call: u64) -> bool
+    ensures { IsTrue result ↔ Contains fails.now call }
+{
+    fails.iter().any(|number| u64::from(*number) == call)
+}
