@@ -1,5 +1,5 @@
 //! Tests of the command `boot`, through the top call over streams in memory: descriptions that are refused and accepted, the dumps
-//! of the machines that they describe, streams that fail, inputs of the greatest length, and worlds over many runs.
+//! of the machines that they describe, other fill bytes, streams that fail, inputs of the greatest length, and worlds over many runs.
 #![tactic(auto)]
 
 #[cfg(test)]
@@ -8,6 +8,8 @@ mod descriptions;
 mod dumps;
 #[cfg(test)]
 mod endless;
+#[cfg(test)]
+mod fills;
 #[cfg(test)]
 mod limits;
 #[cfg(test)]

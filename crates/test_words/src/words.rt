@@ -5,7 +5,7 @@ use std::alloc::Global;
 use std::test::Fail;
 use vt_outside::{ListSource, Source};
 
-const NO_COMMANDS: [&[&str]; 23] = [
+const NO_COMMANDS: [&[&str]; 35] = [
     &[],
     // other commands, now or later
     &["load"],
@@ -32,6 +32,19 @@ const NO_COMMANDS: [&[&str]; 23] = [
     &["boot", ""],
     &["", "boot"],
     &["boot", "--help"],
+    // a fill byte is two lower-case digits behind `boot --fill`, once
+    &["--fill", "a5"],
+    &["boot", "--fill"],
+    &["boot", "--fill", ""],
+    &["boot", "--fill", "0"],
+    &["boot", "--fill", "000"],
+    &["boot", "--fill", "A5"],
+    &["boot", "--fill", "g0"],
+    &["boot", "--fill", "0/"],
+    &["boot", "--fill", ":0"],
+    &["boot", "--Fill", "a5"],
+    &["boot", "--fill", "a5", "--fill"],
+    &["build", "--fill", "a5"],
 ];
 
 #[test]

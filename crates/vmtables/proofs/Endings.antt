@@ -75,15 +75,15 @@ wrote Makes (Err f) bytes text before after left left_after taken taken_after gi
     record { input = Whole bytes; made = Ok text; did = makes; read = (given, end); wrote = (failed, front) }
 
 -- A boot that loaded its machine, and wrote the dump or a part of it.
-pub boot_wrote : (r : Result (Unit {0}) Fault) (bytes : List ℕ) (before after : Option Begun) (left left_after taken taken_after : Option (List ℕ))
-    → left ≡ in_front bytes left_after → IfSome left_after (λ rest. rest ≡ []) → IsSomeAnd after (IsLoaded bytes)
+pub boot_wrote : (fill : ℕ) (r : Result (Unit {0}) Fault) (bytes : List ℕ) (before after : Option Begun) (left left_after taken taken_after : Option (List ℕ))
+    → left ≡ in_front bytes left_after → IfSome left_after (λ rest. rest ≡ []) → IsSomeAnd after (IsLoaded fill bytes)
     → OnOk r (IsSomeAnd after (λ w. Took taken taken_after (dump w.memory)))
     → IfErr r (λ f. f ≡ fault.WriteFault)
     → OnErr r (IsSomeAnd after (λ w. TookFront taken taken_after (dump w.memory)))
-    → Ran (ReadsAll BootMakes before after) r left left_after taken taken_after
-boot_wrote r bytes before None left left_after taken taken_after given end loaded dumped failed front = absurd loaded
-boot_wrote r bytes before (Some w) left left_after taken taken_after given end loaded dumped failed front =
-    wrote BootMakes r bytes (dump w.memory) before (Some w) left left_after taken taken_after given end (loaded, refl) dumped failed front
+    → Ran (ReadsAll (BootMakes fill) before after) r left left_after taken taken_after
+boot_wrote fill r bytes before None left left_after taken taken_after given end loaded dumped failed front = absurd loaded
+boot_wrote fill r bytes before (Some w) left left_after taken taken_after given end loaded dumped failed front =
+    wrote (BootMakes fill) r bytes (dump w.memory) before (Some w) left left_after taken taken_after given end (loaded, refl) dumped failed front
 
 -- The streams of a command that read its whole input, made a text of it, and wrote that or a part of it.
 pub wrote_streams : (r : Result (Unit {0}) Fault) (bytes : List ℕ) (source source_after : SourceSeen) (out out_after : SinkSeen)

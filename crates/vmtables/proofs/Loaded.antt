@@ -61,15 +61,15 @@ left_filled old new placed top fill blank left = record {
   others = λ address ram outside. left.others address ram outside ∙ blank address (subst (λ t. IsRam t address) top ram) ∙ sym fill;
 }
 
-pub loaded : (bytes : List ℕ) (m : Machine) (items : List Item) (script : List Entry) (top : ℕ) (before after : Option Begun) → Reads bytes m
+pub loaded : (bytes : List ℕ) (m : Machine) (items : List Item) (script : List Entry) (top fill : ℕ) (before after : Option Begun) → Reads bytes m
     → IsBuilt m items script → top ≡ top_of m
-    → IsSomeAnd before (λ w. IsBegun w items script top 0)
+    → IsSomeAnd before (λ w. IsBegun w items script top fill)
     → IsSomeAnd after (λ w. w.done ≡ true)
     → IfSome before (λ old. IfSome after (λ new. (places : List ℕ) (placed : List Placed)
     → IsLowRun old.memory.top (files_of old.items) old.script places placed → IsLeft new.memory placed (at old.memory)))
     → IfSome before (λ old. IfSome after (λ new. KeepsImage old new))
-    → IsSomeAnd after (IsLoaded bytes)
-loaded bytes m items script top (Some old) (Some new) read built its_top begun done left same =
+    → IsSomeAnd after (IsLoaded fill bytes)
+loaded bytes m items script top fill (Some old) (Some new) read built its_top begun done left same =
     let is : IsRun m = image_runs m items script built in
     let old_items : old.items ≡ image_items m = begun.items ∙ built.items_are in
     let old_script : old.script ≡ image_script m = begun.script ∙ built.script_is in
@@ -77,7 +77,7 @@ loaded bytes m items script top (Some old) (Some new) read built its_top begun d
     let new_items : new.items ≡ image_items m = same.0 ∙ old_items in
     let new_script : new.script ≡ image_script m = same.1 ∙ old_script in
     let new_top : new.memory.top ≡ top_of m = same.2 ∙ old_top in
-    let zeros : new.memory.fill ≡ 0 = same.3 ∙ begun.fill in
+    let filled : new.memory.fill ≡ fill = same.3 ∙ begun.fill in
     let is_left : IsLeft new.memory is.placed (λ _. new.memory.fill) =
     left_filled old.memory new.memory is.placed same.2 same.3 begun.filled (left is.places is.placed (rw (old_top, old_items, old_script) is.low)) in
     record {
@@ -91,17 +91,17 @@ loaded bytes m items script top (Some old) (Some new) read built its_top begun d
       placed = is.placed;
       runs = rw (new_top, new_items, new_script) is.low;
       left = is_left;
-      zeros = zeros;
+      filled = filled;
       shown = built.shown is.places is.placed new.memory is.lawful is.linked new_top is_left;
     }
-loaded bytes m items script top None after read built its_top begun done left same = absurd begun
-loaded bytes m items script top (Some old) None read built its_top begun done left same = absurd done
+loaded bytes m items script top fill None after read built its_top begun done left same = absurd begun
+loaded bytes m items script top fill (Some old) None read built its_top begun done left same = absurd done
 
 -- the script of a machine's image runs in a world that was begun with it
-pub begun_runs : (m : Machine) (items : List Item) (script : List Entry) (top : ℕ) (begun : Option Begun) → IsBuilt m items script → top ≡ top_of m
-    → IsSomeAnd begun (λ w. IsBegun w items script top 0)
+pub begun_runs : (m : Machine) (items : List Item) (script : List Entry) (top fill : ℕ) (begun : Option Begun) → IsBuilt m items script → top ≡ top_of m
+    → IsSomeAnd begun (λ w. IsBegun w items script top fill)
     → IfSome begun (λ w. (places : List ℕ) × (placed : List Placed) × IsLowRun w.memory.top (files_of w.items) w.script places placed)
-begun_runs m items script top None built its_top is = tt
-begun_runs m items script top (Some w) built its_top is =
+begun_runs m items script top fill None built its_top is = tt
+begun_runs m items script top fill (Some w) built its_top is =
     let run : IsRun m = image_runs m items script built in
     (run.places, run.placed, rw (is.top ∙ its_top, is.items ∙ built.items_are, is.script ∙ built.script_is) run.low)

@@ -16,10 +16,10 @@ use Rattle.table_model.specs.Inventory.{Shows, inventory_of}
 use Rattle.vmtables.specs.World.{Begun}
 use Rattle.vmtables.specs.declared.fault.Fault.TheVariants as fault
 
--- A world in which the machine of a description is loaded: the machine is read from the bytes, the items of its image, which have few
--- bytes, and its script are the world's, the load is done, memory is what the run of the script leaves, and it shows, from its
--- RSDP and its anchor, exactly the machine's inventory.
-pub record IsLoaded (bytes : List ℕ) (w : Begun) : Type 0 where
+-- A world in which the machine of a description is loaded, into memory that held this fill byte: the machine is read from the bytes,
+-- the items of its image, which have few bytes, and its script are the world's, the load is done, memory is what the run of the script
+-- leaves, and it shows, from its RSDP and its anchor, exactly the machine's inventory.
+pub record IsLoaded (fill : ℕ) (bytes : List ℕ) (w : Begun) : Type 0 where
   pub machine : Machine
   pub read : Reads bytes machine
   pub items : w.items ≡ image_items machine
@@ -30,15 +30,15 @@ pub record IsLoaded (bytes : List ℕ) (w : Begun) : Type 0 where
   pub placed : List Placed
   pub runs : IsLowRun w.memory.top (files_of w.items) w.script places placed
   pub left : IsLeft w.memory placed (λ _. w.memory.fill)
-  pub zeros : w.memory.fill ≡ 0
+  pub filled : w.memory.fill ≡ fill
   pub shown : Shows w.memory.top (seen w.memory) (inventory_of machine)
 
--- What `boot` makes of the bytes of its input: it loads the machine that they describe, and makes the dump of the world's
--- memory. It refuses bytes that describe no machine, and a machine whose files have too many bytes, and then leaves the world as it was.
--- Where memory runs out the world stays as it was or becomes idle.
-abbrev pub BootMakes : List ℕ → Option Begun → Option Begun → Made → Type 0
-BootMakes bytes before after (Ok text) = IsSomeAnd after (λ w. IsLoaded bytes w × (text ≡ dump w.memory))
-BootMakes bytes before after (Err (fault.Description refused)) = (read_of bytes ≡ Err refused) × (after ≡ before)
-BootMakes bytes before after (Err fault.ImageTooLarge) = IsTooLarge bytes × (after ≡ before)
-BootMakes bytes before after (Err fault.OutOfMemory) = (after ≡ before) ⊎ (after ≡ None)
-BootMakes bytes before after (Err _) = ⊥
+-- What `boot` makes, with this fill byte, of the bytes of its input: it loads the machine that they describe, and makes the dump of the
+-- world's memory. It refuses bytes that describe no machine, and a machine whose files have too many bytes, and then leaves the world
+-- as it was. Where memory runs out the world stays as it was or becomes idle.
+abbrev pub BootMakes : ℕ → List ℕ → Option Begun → Option Begun → Made → Type 0
+BootMakes fill bytes before after (Ok text) = IsSomeAnd after (λ w. IsLoaded fill bytes w × (text ≡ dump w.memory))
+BootMakes fill bytes before after (Err (fault.Description refused)) = (read_of bytes ≡ Err refused) × (after ≡ before)
+BootMakes fill bytes before after (Err fault.ImageTooLarge) = IsTooLarge bytes × (after ≡ before)
+BootMakes fill bytes before after (Err fault.OutOfMemory) = (after ≡ before) ⊎ (after ≡ None)
+BootMakes fill bytes before after (Err _) = ⊥

@@ -15,5 +15,5 @@ IsUsage before after _ _ = ⊥
 -- what the command does that the words are
 abbrev pub Does : Option Command → Doing
 Does None = IsUsage
-Does (Some Boot) = ReadsAll BootMakes
+Does (Some (Boot fill)) = ReadsAll (BootMakes fill)
 Does (Some Build) = ReadsAll BuildMakes

@@ -31,8 +31,8 @@ use vt_outside::{Bytes, Failed, Sink, Source};
 const MIB: u32 = 0x10_0000;
 
 /// Carries out the command that `words`, those after the program's name, ask for, and returns how it ended. `boot` reads a
-/// description from `source`, builds the machine's files, loads them into the memory of `world`, writes its dump to `out` and
-/// flushes it. `build` writes the container of these files, and leaves `world` as it was. It takes its memory from `alloc`.
+/// description from `source`, builds the machine's files, loads them into the memory of `world`, which holds the fill byte of the
+/// words at the beginning, writes its dump to `out` and flushes it. `build` writes the container of these files, and leaves `world` as it was. It takes its memory from `alloc`.
 /// Nothing is written to `out` before all but the writing is done.
 ///
 /// `Usage` means that `words` are no command; nothing is then read. `ReadFault` means that `source` failed, `InputTooLong` that
@@ -120,7 +120,7 @@ fn carry_out<S: Source, K: Sink>(
     ensures unread { result ≡ Err Fault.Usage → S.left source.new ≡ S.left source.old }
 {
     match read_words(words) {
-        Some(Command::Boot) => boot(alloc, source, out, world),
+        Some(Command::Boot(fill)) => boot(alloc, fill, source, out, world),
         Some(Command::Build) => build(alloc, source, out),
         None => Err(Fault::Usage),
     }
@@ -129,11 +129,12 @@ fn carry_out<S: Source, K: Sink>(
 // Reads a description, loads its machine, and writes the dump.
 fn boot<S: Source, K: Sink>(
     alloc: Global,
+    fill: u8,
     source: &mut S,
     out: &mut K,
     world: &mut World,
 ) -> Result<(), Fault>
-    ensures ran { Ran (ReadsAll BootMakes world.old world.new) result
+    ensures ran { Ran (ReadsAll (BootMakes fill) world.old world.new) result
         (S.left source.old) (S.left source.new) (K.taken out.old) (K.taken out.new) }
     ensures known { result ≢ Err Fault.Usage }
     ensures streams { Streams (status_of result)
@@ -143,28 +144,28 @@ fn boot<S: Source, K: Sink>(
         (record { taken = K.taken out.new; flushed = K.flushed out.new; faults = K.faults out.new }) }
 {
     let bytes = read_to_end(alloc, source)?;
-    load_machine(alloc, bytes.as_slice(), world)?;
+    load_machine(alloc, fill, bytes.as_slice(), world)?;
     write_dump(world, out)
 }
 
 // Reads a machine's description, and loads its files into the world's memory.
-fn load_machine(alloc: Global, description: &[u8], world: &mut World) -> Result<(), Fault>
-    ensures ok { OnOk result (IsSomeAnd world.new (IsLoaded description.now)) }
-    ensures err { IfErr result (λ fault. BootMakes description.now world.old world.new (Err fault)) }
+fn load_machine(alloc: Global, fill: u8, description: &[u8], world: &mut World) -> Result<(), Fault>
+    ensures ok { OnOk result (IsSomeAnd world.new (IsLoaded fill description.now)) }
+    ensures err { IfErr result (λ fault. BootMakes fill description.now world.old world.new (Err fault)) }
 {
     let machine = read_machine(alloc, description)?;
-    load_image(alloc, &machine, world)?;
+    load_image(alloc, fill, &machine, world)?;
     Ok(())
 }
 
-// Loads the files of a machine that is read from these bytes into the world's memory.
-fn load_image(alloc: Global, machine: &Described, world: &mut World) -> Result<(), Fault>
+// Loads the files of a machine that is read from these bytes into the world's memory, in which each byte is `fill` before.
+fn load_image(alloc: Global, fill: u8, machine: &Described, world: &mut World) -> Result<(), Fault>
     requires { IsAccepted machine.now }
-    ensures ok { OnOk result ((bytes : List ℕ) → Reads bytes machine.now → IsSomeAnd world.new (IsLoaded bytes)) }
-    ensures err { IfErr result (λ fault. (bytes : List ℕ) → Reads bytes machine.now → BootMakes bytes world.old world.new (Err fault)) }
+    ensures ok { OnOk result ((bytes : List ℕ) → Reads bytes machine.now → IsSomeAnd world.new (IsLoaded fill bytes)) }
+    ensures err { IfErr result (λ fault. (bytes : List ℕ) → Reads bytes machine.now → BootMakes fill bytes world.old world.new (Err fault)) }
 {
     let Image { items, script } = image_of(alloc, machine, 0)?;
-    world.begin(alloc, items, script, machine.top_mib * MIB, 0)?;
+    world.begin(alloc, items, script, machine.top_mib * MIB, fill)?;
     world.load();
     Ok(())
 }

@@ -8,11 +8,12 @@ use vmtables::{Status, World, top};
 use vt_outside::{ReadSource, WriteSink};
 
 const HELP: &str = "\
-usage: vmtables boot < DESCRIPTION > DUMP
+usage: vmtables boot [--fill XX] < DESCRIPTION > DUMP
        vmtables build < DESCRIPTION > CONTAINER
 
 boot       reads a machine's description (TOML) from standard input, builds its tables and the script that
-           loads them, loads them into a guest's memory, and writes a dump of that memory to standard output
+           loads them, loads them into a guest's memory, and writes a dump of that memory to standard output;
+           each byte of memory is XX before, two lower-case hexadecimal digits, or zero
 build      reads a machine's description, and writes the files that a firmware loads, in one container
 --help     prints this text
 --version  prints the version

@@ -3,21 +3,21 @@ use Rattle.vmtables.proofs.Endings.{cut_off, refused, boot_wrote, wrote_streams}
 use Rattle.vmtables.proofs.top_call.boot.Goals as goal
 
 pub returns-in_err-bytes-clause-ran : goal.returns-in_err-bytes-clause-ran
-returns-in_err-bytes-clause-ran g c = cut_off BootMakes c.in_err-bytes.field-0.0 c.from_residual.result _ _ _ _ c.from_residual.ensures.1
+returns-in_err-bytes-clause-ran g c = cut_off (BootMakes c.args.fill) c.in_err-bytes.field-0.0 c.from_residual.result _ _ _ _ c.from_residual.ensures.1
 
 pub returns-in_err-load_machine-clause-ran : goal.returns-in_err-load_machine-clause-ran
 returns-in_err-load_machine-clause-ran g c =
     let read = c.in_ok-bytes.ensures in
     let failed = c.in_err-load_machine in
     let answer = c.from_residual-in_err-load_machine in
-    refused BootMakes c.in_ok-bytes.bytes c.as_slice.result.now failed.field-0.0 answer.result _ _ _ _ _ read.given read.end c.as_slice.ensures
+    refused (BootMakes c.args.fill) c.in_ok-bytes.bytes c.as_slice.result.now failed.field-0.0 answer.result _ _ _ _ _ read.given read.end c.as_slice.ensures
     failed.ensures.err answer.ensures.1
 
 pub returns-clause-ran : goal.returns-clause-ran
 returns-clause-ran g c =
     let read = c.in_ok-bytes.ensures in
     let written = c.write_dump.ensures in
-    boot_wrote c.write_dump.result c.in_ok-bytes.bytes c.args.world.now c.load_machine.new.world _ _ _ _ read.given read.end
+    boot_wrote c.args.fill c.write_dump.result c.in_ok-bytes.bytes c.args.world.now c.load_machine.new.world _ _ _ _ read.given read.end
     (rw c.as_slice.ensures at c.in_ok-load_machine.ensures.ok) written.dumped written.fault written.front
 
 pub returns-clause-streams : goal.returns-clause-streams

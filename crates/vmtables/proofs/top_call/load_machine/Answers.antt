@@ -7,7 +7,7 @@ load_image-requires c = read_accepted c.args.description.now c.in_ok-machine.mac
 
 pub returns-in_err-machine-clause-err : goal.returns-in_err-machine-clause-err
 returns-in_err-machine-clause-err c =
-    description_failed c.args.description.now c.args.world.now c.in_err-machine.field-0.0 c.from_residual.result c.in_err-machine.ensures
+    description_failed c.args.fill c.args.description.now c.args.world.now c.in_err-machine.field-0.0 c.from_residual.result c.in_err-machine.ensures
     c.from_residual.ensures.1
 
 pub returns-clause-ok : goal.returns-clause-ok
