@@ -1,7 +1,9 @@
 #!/usr/bin/env bash
 # Has programs that others wrote read the memory that `vmtables boot` leaves for each description of examples/: dmidecode reads
 # the SMBIOS structures, and iasl the ACPI tables. Each must print what is described and find no fault; and each must find one
-# where a bit of a checksum is flipped, or it would be no judge. Nothing is proved here.
+# where a bit of a checksum is flipped, or it would be no judge. Then `vmtables load` is given files that QEMU made for machines of
+# its own, and what `vmtables build` makes for each description, and judge_load.py judges the memory that it leaves of them; of a
+# description it must be the memory that `boot` leaves. Nothing is proved here.
 #
 # usage: judges/run.sh [PROGRAM]     PROGRAM stands for ./vmtables
 #
@@ -13,24 +15,42 @@ here=$(dirname "$(readlink -f "$0")")
 root=$(dirname "$here")
 program=$(readlink -f "${1:-$root/vmtables}")
 PATH=$PATH:/usr/sbin # where Debian has dmidecode
+export PYTHONDONTWRITEBYTECODE=1
 work=$(mktemp -d)
 trap 'rm -rf "$work"' EXIT
-judges=(dmidecode iasl)
-asked=() # the judges that were asked
+judges=(dmidecode iasl qemu-system-x86_64)
+packages=(dmidecode acpica-tools qemu-system-x86) # the package of each judge in Debian
+asked=()                                          # the judges that were asked
+machines=(pc q35)                                 # the machines of QEMU whose files are loaded
 faults=0
 
 has() {
     command -v "$1" >/dev/null
 }
 
-install_judges() {
-    DEBIAN_FRONTEND=noninteractive timeout 300 apt-get install -y -qq dmidecode acpica-tools >/dev/null 2>&1 </dev/null
+# Installs the package of each judge that isn't there.
+install_packages() {
+    local at
+    for at in "${!judges[@]}"; do
+        has "${judges[at]}" || DEBIAN_FRONTEND=noninteractive timeout 300 \
+            apt-get install -y -qq --no-install-recommends "${packages[at]}" >/dev/null 2>&1 </dev/null
+    done
+}
+
+has_all_judges() {
+    local judge
+    for judge in "${judges[@]}"; do
+        has "$judge" || return 1
+    done
 }
 
 install_missing_judges() {
-    has dmidecode && has iasl && return
+    has_all_judges && return
     has apt-get && [ "$(id -u)" -eq 0 ] || return
-    install_judges || { timeout 300 apt-get update -qq >/dev/null 2>&1 </dev/null && install_judges; }
+    install_packages
+    has_all_judges && return
+    timeout 300 apt-get update -qq >/dev/null 2>&1 </dev/null
+    install_packages
 }
 
 # fault TOOL FILE TEXT: counts and prints a fault with what the tool said.
@@ -89,10 +109,15 @@ was_asked() {
     [[ " ${asked[*]} " == *" $1 "* ]]
 }
 
+# note_asked TOOL: has the tool among those that were asked.
+note_asked() {
+    was_asked "$1" || asked+=("$1")
+}
+
 # ask TOOL JUDGE FILE CHECKSUM: has the tool judge a file, and then a copy with a bit flipped in the byte at CHECKSUM.
 ask() {
     local said
-    was_asked "$1" || asked+=("$1")
+    note_asked "$1"
     said=$("$2" "$folder" "$3" 2>&1) || { fault "$1" "$3" "$said"; return; }
     rm -rf "$folder.flipped"
     cp -r "$folder" "$folder.flipped"
@@ -134,6 +159,55 @@ find_described_tables() {
     done
 }
 
+# judge_load TOP FILL [WORD..]: has the program load the folder's container with the words, and judges the dump, which must be one
+# of that top, in MiB, and that fill byte.
+judge_load() {
+    local said top=$1 fill=$2 words="load ${*:3}"
+    words=${words% }
+    said=$("$program" load "${@:3}" 2>&1 >"$folder/loaded" <"$folder/container") || { fault vmtables "$words" "$said"; return 1; }
+    said=$(python3 "$here/judge_load.py" "$folder/container" "$folder/loaded" "$top" "$fill" 2>&1) ||
+        { fault judge_load.py "$words" "$said"; return 1; }
+    echo "  $words: $said"
+}
+
+# Builds the description's container, which must load into the memory that boot leaves.
+judge_container() {
+    local said top
+    said=$("$program" build 2>&1 >"$folder/container" <"$description") || { fault vmtables build "$said"; return; }
+    top=$(python3 -c 'import sys, tomllib; print(tomllib.load(sys.stdin.buffer)["top_mib"])' <"$description")
+    judge_load "$top" 00 --top "$top" || return
+    if said=$(cmp "$folder/dump" "$folder/loaded" 2>&1); then
+        echo "  build, then load: the dump that boot gives"
+    else
+        fault cmp "the dumps of boot and load" "$said"
+    fi
+}
+
+# judge_machine NAME: has the program load the files of a machine of QEMU, with the default words and with others.
+judge_machine() {
+    local said
+    description="the machine $1 of QEMU"
+    folder=$work/qemu-$1
+    echo "$description"
+    mkdir "$folder"
+    said=$(python3 "$here/qemu_files.py" "$1" "$folder/container" 2>&1)
+    case $? in
+    0) ;;
+    3) echo "  skipped: $said"; return ;;
+    *) fault qemu_files.py "the container" "$said"; return ;;
+    esac
+    note_asked qemu-system-x86_64
+    judge_load 64 00
+    judge_load 3072 a5 --fill a5 --top 3072
+}
+
+judge_machines() {
+    local machine
+    for machine in "${machines[@]}"; do
+        judge_machine "$machine"
+    done
+}
+
 judge_description() {
     description=$1
     folder=$work/$(basename "$1" .toml)
@@ -142,6 +216,7 @@ judge_description() {
     find_described_tables
     ! has dmidecode || ask dmidecode judge_structures smbios.bin 5
     ! has iasl || ask_iasl
+    judge_container
 }
 
 # Whether there is what makes files for the judges.
@@ -153,11 +228,16 @@ can_make_files() {
 
 judge_examples() {
     local at
-    "$program" --version || exit 1 # builds ./vmtables where it isn't built, in sight
-    cd "$root" || exit 1
     for at in examples/*.toml; do
         judge_description "$at"
     done
+}
+
+judge_all() {
+    "$program" --version || exit 1 # builds ./vmtables where it isn't built, in sight
+    cd "$root" || exit 1
+    judge_examples
+    ! has qemu-system-x86_64 || judge_machines
 }
 
 # listed NAME..: the names with commas between them, after how many they are.
@@ -174,12 +254,12 @@ report() {
     echo "judges: faults found: $faults"
     echo "judges: asked $(listed "${asked[@]}")"
     echo "judges: skipped $(listed "${skipped[@]}")"
-    [ "${#asked[@]}" -gt 0 ] || echo "judges: ALL WERE SKIPPED, so nothing that the program writes was judged"
+    [ "${#asked[@]}" -gt 0 ] || echo "judges: ALL WERE SKIPPED, so no program that others wrote judged anything"
 }
 
 main() {
     install_missing_judges
-    ! can_make_files || judge_examples
+    ! can_make_files || judge_all
     report
     [ "$faults" -eq 0 ]
 }

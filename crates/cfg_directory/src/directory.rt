@@ -1,4 +1,4 @@
-ghost use Rattle.std.specs.Prelude.{◌≡◌, ◌<◌, ◌^◌, ◌++◌, length, IfOk, OnOk};
+ghost use Rattle.std.specs.Prelude.{◌≡◌, ◌+◌, ◌*◌, ◌<◌, ◌^◌, ◌++◌, length, IfOk, OnOk};
 ghost use Rattle.std.specs.List.{AllByRecursion};
 ghost use Rattle.vt_outside.specs.Name.{IsName};
 ghost use Rattle.vt_layout.specs.Rows.{IsRow};
@@ -13,7 +13,8 @@ use vt_outside::{Bytes, Name, OutOfMemory};
 /// Writes the directory of `items`, which a device gives as item 0x0019 (QEMU, docs/specs/fw_cfg), in memory from `alloc`: the
 /// number of files, high byte first, and an entry of 64 bytes for each. It fails with `OutOfMemory` only where memory runs out.
 pub fn directory_bytes(alloc: Global, items: &Items) -> Result<Bytes, OutOfMemory>
-    ensures { IfOk result (λ bytes. bytes ≡ directory_of items.now) }
+    ensures directory { IfOk result (λ bytes. bytes ≡ directory_of items.now) }
+    ensures size { IfOk result (λ bytes. length bytes ≡ 4 + 64 * length items.now) }
 {
     let mut bytes = Bytes::new(alloc);
     put_directory(&mut bytes, items.all())?;

@@ -1,3 +1,5 @@
+pub mod Frames
+pub mod RamRange
 pub use Rattle.vt_bytes.specs.Numbers
 pub use Rattle.vt_bytes.specs.View
 pub use Rattle.vt_bytes.specs.Memory

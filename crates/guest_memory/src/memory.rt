@@ -1,6 +1,7 @@
-ghost use Rattle.std.specs.Prelude.{◌≡◌, ℕ, ◌+◌, ◌<◌, ◌≤◌, ◌%◌, ◌↔◌, [], ◌∷◌, length, IsTrue, IfOk, slice_index};
+ghost use Rattle.std.specs.Prelude.{◌≡◌, ℕ, ◌+◌, ◌<◌, ◌≤◌, ◌%◌, ◌↔◌, [], ◌∷◌, length, IsTrue, IfOk, slice_index, false};
 ghost use Rattle.std.specs.Borrow.{Lends, Array, u8, sem};
 ghost use Rattle.vt_bytes.specs.Memory.{IsTop, IsRam, IsMemory, high_start, ram_ranges, at, bytes_at, with_bytes};
+ghost use Rattle.guest_memory.specs.Frames.{frame_limit, HoldsFill};
 ghost use Rattle.guest_memory.specs.contracts.memory.GuestMemory.{the_row};
 
 use std::alloc::Global;
@@ -162,6 +163,16 @@ impl GuestMemory {
             let place = self.place_in_high(address);
             self.high.slice_mut(place..place + len as usize)
         }
+    }
+
+    /// Tells whether a frame of 4,096 bytes may hold other bytes than the fill byte. `frame` must be below 8,448: the first 256
+    /// frames are those of the first MiB, and the others those of the 32 MiB that end at the top. Today each frame counts as
+    /// touched.
+    pub fn touched(&self, frame: u32) -> bool
+        requires { frame < frame_limit }
+        ensures { result ≡ false → HoldsFill self.now frame }
+    {
+        true
     }
 
     // Where the range below the top has the byte of an address past 1 MiB.

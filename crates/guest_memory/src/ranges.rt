@@ -1,11 +1,32 @@
-ghost use Rattle.std.specs.Prelude.{◌≡◌, ◌+◌, ◌%◌, ◌<◌, ◌≤◌, length, take};
+ghost use Rattle.std.specs.Prelude.{◌≡◌, ◌+◌, ◌%◌, ◌<◌, ◌≤◌, ◌↔◌, length, take, IsTrue};
 ghost use Rattle.vt_bytes.specs.Numbers.{byte_sum, le};
 ghost use Rattle.vt_bytes.specs.Memory.{IsRam, IsRamRange, IsMemory, bytes_at, with_bytes};
+ghost use Rattle.guest_memory.specs.RamRange.{is_ram_range, LieInARange};
 
-use crate::memory::{FRAME_BYTES, GuestMemory};
-use vt_bytes::{byte_sum, get_le};
+use crate::memory::{FRAME_BYTES, GuestMemory, ram_ranges};
+use vt_bytes::{AddressRange, byte_sum, get_le};
 
 impl GuestMemory {
+    /// Tells whether each of the `len` bytes from the guest address `address` on is RAM. No bytes are, wherever they are said to
+    /// begin.
+    pub fn is_ram_range(&self, address: u64, len: u32) -> bool
+        ensures value { result ≡ is_ram_range self.now.top address len }
+        ensures ram { IsTrue result ↔ IsRamRange self.now.top address len }
+    {
+        len == 0 || self.lie_in_a_range(address, len)
+    }
+
+    // Whether so many bytes from an address on lie in a range of RAM.
+    fn lie_in_a_range(&self, address: u64, len: u32) -> bool
+        ensures range { IsTrue result ↔ LieInARange self.now.top address len }
+        ensures lawful { IsMemory self.now }
+    {
+        let [low, bios, high] = ram_ranges(self.top());
+        is_within(low, address, len)
+            || is_within(bios, address, len)
+            || is_within(high, address, len)
+    }
+
     /// Writes `bytes` at the guest address `address`. Each of those addresses must be RAM, and each other byte stays. Where
     /// `bytes` is empty, `address` may be any number and nothing changes.
     pub fn copy_in(&mut self, address: u64, bytes: &[u8])
@@ -53,8 +74,9 @@ impl GuestMemory {
         get_le(&bytes, 0, size)
     }
 
-    // Reads as many bytes as `bytes` has.
-    fn copy_out(&self, address: u64, bytes: &mut [u8])
+    /// Reads as many bytes as `bytes` has from the guest address `address` on into `bytes`. Each of those addresses must be RAM.
+    /// Where `bytes` is empty, `address` may be any number.
+    pub fn copy_out(&self, address: u64, bytes: &mut [u8])
         requires { IsRamRange self.now.top address (length bytes.old) }
         ensures { bytes.new ≡ bytes_at self.now address (length bytes.old) }
     {
@@ -93,8 +115,9 @@ impl GuestMemory {
         part.len()
     }
 
-    // Lends as many of so many bytes from an address on as lie in its frame.
-    fn part_in_frame(&self, address: u64, len: usize) -> &[u8]
+    /// Lends the bytes from the guest address `address` on, which must be RAM, up to the end of its frame of 4,096 bytes, but no
+    /// more than `len` of them, which must be at least 1.
+    pub fn part_in_frame(&self, address: u64, len: usize) -> &[u8]
         requires some { 0 < len }
         requires ram { IsRam self.now.top address }
         ensures value { result.now ≡ bytes_at self.now address (length result.now) }
@@ -103,6 +126,13 @@ impl GuestMemory {
     {
         self.window(address, len_in_frame(address, len) as u32)
     }
+}
+
+// Whether so many bytes from an address on lie in a range.
+fn is_within(range: AddressRange, address: u64, len: u32) -> bool
+    ensures { IsTrue result ↔ (range.start ≤ address × (address + len ≤ range.end)) }
+{
+    range.start <= address && address <= range.end && u64::from(len) <= range.end - address
 }
 
 // How many of so many bytes from an address on lie in its frame.

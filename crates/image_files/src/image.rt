@@ -1,6 +1,6 @@
 ghost use Rattle.std.specs.Prelude.{◌≡◌, ◌++◌, ◌<◌, ◌≤◌, length, IfOk, IfErr, OnOk};
 ghost use Rattle.std.specs.List.{flat_map, AllByRecursion};
-ghost use Rattle.loader_script.specs.Spelling.{CanBeWritten};
+ghost use Rattle.loader_script.specs.Spelling.{CanBeWritten, Fits};
 ghost use Rattle.cfg_directory.specs.Items.{total_size};
 ghost use Rattle.image_files.specs.declared.image.ImageBuildFault.TheVariants.{ImageTooLarge, OutOfMemory as NoMemory};
 ghost use Rattle.image_files.specs.Files.{by_name};
@@ -55,6 +55,7 @@ pub fn link(alloc: Global, files: Vec<ImageFile>, later: &[Entry]) -> Result<Ima
     requires later { AllByRecursion CanBeWritten later.now }
     ensures items { IfOk result (λ image. image.items ≡ items_of files.items later.now) }
     ensures script { IfOk result (λ image. image.script ≡ script_of files.items later.now) }
+    ensures fits { IfOk result (λ image. AllByRecursion Fits image.script) }
     ensures small { OnOk result (total_size (items_of files.items later.now) ≤ image_limit) }
     ensures large { IfErr result (λ fault. fault ≡ ImageTooLarge → image_limit < total_size (items_of files.items later.now)) }
 {
@@ -79,6 +80,7 @@ fn arrange_all(
     requires { AllByRecursion CanBeWritten later.now }
     ensures sorted { IfOk result (λ arranged. AreSorted files.items later.now arranged.sorted.items) }
     ensures script { IfOk result (λ arranged. arranged.script ≡ script_of files.items later.now) }
+    ensures fits { IfOk result (λ arranged. AllByRecursion Fits arranged.script) }
 {
     let Arranged { mut sorted, script } = arrange(alloc, files, later)?;
     put_among(&mut sorted, loader_file(alloc, script.as_slice())?)?;
@@ -118,7 +120,8 @@ fn few_items_of(alloc: Global, files: Vec<ImageFile>) -> Result<Items, ImageBuil
 // The file of a script, which is not placed.
 fn loader_file(alloc: Global, script: &[Entry]) -> Result<ImageFile, OutOfMemory>
     requires { AllByRecursion CanBeWritten script.now }
-    ensures { IfOk result (λ file. file ≡ loader_file script.now) }
+    ensures file { IfOk result (λ file. file ≡ loader_file script.now) }
+    ensures fits { OnOk result (AllByRecursion Fits script.now) }
 {
     let bytes = encode_script(alloc, script)?;
     let parts = Parts {
@@ -129,7 +132,8 @@ fn loader_file(alloc: Global, script: &[Entry]) -> Result<ImageFile, OutOfMemory
     Ok(ImageFile::new(loader_name(), parts, None, false))
 }
 
-fn loader_name() -> Name
+/// Returns the name of a script's file, `etc/table-loader` (QEMU, hw/acpi/bios-linker-loader.c).
+pub fn loader_name() -> Name
     ensures { result ≡ loader_name }
 {
     Name::of("etc/table-loader").unwrap()

@@ -13,5 +13,5 @@ pub mod laws;
 mod script;
 
 pub use file::{ImageFile, Placing};
-pub use image::{Image, ImageBuildFault, link};
+pub use image::{Image, ImageBuildFault, link, loader_name};
 pub use zone_alloc::Zone;

@@ -30,6 +30,25 @@ none_first [] all = refl
 none_first ((cause, true) ∷ causes) all = absurd (true≢false all.0)
 none_first ((cause, false) ∷ causes) all = none_first causes all.1
 
+-- causes, and then others
+pub earlier : (early late : List (Cause × Bool)) (cause : Cause) → first_cause early ≡ Some cause → first_cause (early ++ late) ≡ Some cause
+earlier [] late cause first = absurd (none-some cause first)
+earlier ((found, true) ∷ early) late cause first = first
+earlier ((found, false) ∷ early) late cause first = earlier early late cause first
+
+pub later : (early late : List (Cause × Bool)) → first_cause early ≡ None → first_cause (early ++ late) ≡ first_cause late
+later [] late none = refl
+later ((found, true) ∷ early) late none = absurd (none-some found (sym none))
+later ((found, false) ∷ early) late none = later early late none
+
+no_earlier : (early late : List (Cause × Bool)) → first_cause (early ++ late) ≡ None → first_cause early ≡ None
+no_earlier [] late none = refl
+no_earlier ((found, true) ∷ early) late none = none
+no_earlier ((found, false) ∷ early) late none = no_earlier early late none
+
+no_later : (early late : List (Cause × Bool)) → first_cause (early ++ late) ≡ None → first_cause late ≡ None
+no_later early late none = sym (later early late (no_earlier early late none)) ∙ none
+
 -- the causes' view of a file that is there: how many bytes it has, whether it is writable, and where it is placed
 pub record IsSeen (p : Progress) (name : List ℕ) (file : File) : Type 0 where
   pub there : is_there (infos_of p.files) name ≡ true
@@ -138,12 +157,24 @@ allocates_from p name align zone none =
       known_zone = zone_from zone (not-false _ all.1.1.1.1.0);
     }
 
-pointer_from : (p : Progress) (dest src : List ℕ) (offset size : ℕ) → cause_of (AddPointer dest src offset size) p ≡ None
-    → CanAddPointer p dest src offset size
-unfolding cause_of
-pointer_from p dest src offset size none =
-    let all = fails_each (causes_of (AddPointer dest src offset size) (infos_of p.files) (places_of p.placed p.files)
-    ++ late_causes (AddPointer dest src offset size) p) none in
+-- What an AddPointer meets that no cause refuses which is told without the bytes in memory: all but that the sum fits.
+pub record IsPointerEarly (p : Progress) (dest src : List ℕ) (offset size : ℕ) : Type 0 where
+  pub file : File
+  pub source : File
+  pub there : file_of p.files dest ≡ Some file
+  pub source_there : file_of p.files src ≡ Some source
+  pub d : Placed
+  pub s : Placed
+  pub placed : placed_of p.placed dest ≡ Some d
+  pub source_placed : placed_of p.placed src ≡ Some s
+  pub sized : IsPointerSize size
+  pub within : offset + size ≤ length file.bytes
+
+pub pointer_early : (p : Progress) (dest src : List ℕ) (offset size : ℕ)
+    → first_cause (causes_of (AddPointer dest src offset size) (infos_of p.files) (places_of p.placed p.files)) ≡ None
+    → IsPointerEarly p dest src offset size
+pointer_early p dest src offset size none =
+    let all = fails_each (causes_of (AddPointer dest src offset size) (infos_of p.files) (places_of p.placed p.files)) none in
     let there = and_parts _ _ (not-false _ all.0) in
     let placed = and_parts _ _ (not-false _ all.1.0) in
     let file = file_there p dest there.0 in
@@ -161,7 +192,28 @@ pointer_from p dest src offset size none =
       source_placed = s.1;
       sized = sized_from size (not-false _ all.1.1.0);
       within = subst (λ n. offset + size ≤ n) (seen_of p dest file.0 file.1).size (leb-true _ _ (not-false _ all.1.1.1.0));
-      fits = ltb-true _ _ (not-false _ all.1.1.1.1.0);
+    }
+
+pointer_from : (p : Progress) (dest src : List ℕ) (offset size : ℕ) → cause_of (AddPointer dest src offset size) p ≡ None
+    → CanAddPointer p dest src offset size
+unfolding cause_of
+pointer_from p dest src offset size none =
+    let early = causes_of (AddPointer dest src offset size) (infos_of p.files) (places_of p.placed p.files) in
+    let late = late_causes (AddPointer dest src offset size) p in
+    let fits = fails_each late (no_later early late none) in
+    let is = pointer_early p dest src offset size (no_earlier early late none) in
+    record {
+      file = is.file;
+      source = is.source;
+      there = is.there;
+      source_there = is.source_there;
+      d = is.d;
+      s = is.s;
+      placed = is.placed;
+      source_placed = is.source_placed;
+      sized = is.sized;
+      within = is.within;
+      fits = ltb-true _ _ (not-false _ fits.0);
     }
 
 checksum_from : (p : Progress) (name : List ℕ) (offset start count : ℕ) → cause_of (AddChecksum name offset start count) p ≡ None

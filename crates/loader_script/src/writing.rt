@@ -1,6 +1,6 @@
 ghost use Rattle.std.specs.Prelude.{◌≡◌, ◌++◌, IfOk, OnOk};
 ghost use Rattle.std.specs.List.{flat_map, AllByRecursion};
-ghost use Rattle.loader_script.specs.Spelling.{CanBeWritten, entry_bytes};
+ghost use Rattle.loader_script.specs.Spelling.{CanBeWritten, Fits, entry_bytes};
 
 use crate::entry::Entry;
 use crate::rows::{
@@ -14,7 +14,8 @@ use vt_outside::{Bytes, OutOfMemory};
 /// each `Skipped` must be 0 or at least 4. It fails with `OutOfMemory` only where memory runs out.
 pub fn encode_script(alloc: Global, script: &[Entry]) -> Result<Bytes, OutOfMemory>
     requires { AllByRecursion CanBeWritten script.now }
-    ensures { IfOk result (λ bytes. bytes ≡ flat_map entry_bytes script.now) }
+    ensures spelled { IfOk result (λ bytes. bytes ≡ flat_map entry_bytes script.now) }
+    ensures fits { OnOk result (AllByRecursion Fits script.now) }
 {
     let mut bytes = Bytes::new(alloc);
     for entry in script {
@@ -24,7 +25,8 @@ pub fn encode_script(alloc: Global, script: &[Entry]) -> Result<Bytes, OutOfMemo
 }
 
 fn put_entry(bytes: &mut Bytes, entry: &Entry) -> Result<(), OutOfMemory>
-    ensures { OnOk result (bytes.new ≡ bytes.old ++ entry_bytes entry.now) }
+    ensures spelled { OnOk result (bytes.new ≡ bytes.old ++ entry_bytes entry.now) }
+    ensures fits { Fits entry.now }
 {
     match entry {
         Entry::Allocate { file, align, zone } => {

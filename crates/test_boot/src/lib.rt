@@ -13,6 +13,8 @@ mod fills;
 #[cfg(test)]
 mod limits;
 #[cfg(test)]
+mod places;
+#[cfg(test)]
 mod says;
 #[cfg(test)]
 mod sinks;

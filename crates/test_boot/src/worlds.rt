@@ -3,7 +3,7 @@
 use fixtures::{BOOTED, Ending, MINIMAL, READ_FAULT, Run, USAGE, boot, ends_in, is_same, refused};
 use std::alloc::Global;
 use std::test::Fail;
-use vmtables::{State, World};
+use vmtables::{LoadFault, State, World};
 
 const LARGER: &str = "version = 1\ntop_mib = 65\nsystem = {}\n";
 
@@ -15,6 +15,7 @@ const OF_VERSION_2: &str = "version = 2\ntop_mib = 65\nsystem = {}\n";
 enum Seen {
     Idle,
     Running,
+    Refused(LoadFault),
     Loaded { top_mib: u32, checksum: u8 },
 }
 
@@ -146,6 +147,7 @@ fn state_of(seen: &Seen) -> State {
     match seen {
         Seen::Idle => State::Idle,
         Seen::Running => State::Running,
+        Seen::Refused(fault) => State::Refused(*fault),
         Seen::Loaded { .. } => State::Done,
     }
 }
@@ -154,6 +156,7 @@ fn seen_of(world: &World) -> Seen {
     match world.state() {
         State::Idle => Seen::Idle,
         State::Running => Seen::Running,
+        State::Refused(fault) => Seen::Refused(fault),
         State::Done => Seen::Loaded {
             top_mib: world.memory().top() / 0x10_0000,
             checksum: world.memory().read(0xF_0005),

@@ -1,9 +1,8 @@
 //! The container of the minimal machine, worked by hand: `build` writes it, and it is read again.
 
 use crate::endings::{build, built};
-use crate::spelled::{put_allocate, put_checksum, put_file, put_pointer};
 use cfg_directory::read_image;
-use fixtures::{MINIMAL, ends, is_same};
+use fixtures::{MINIMAL, ends, is_same, put_allocate, put_checksum, put_file, put_pointer};
 use std::alloc::Global;
 use std::test::Fail;
 use vt_outside::{Bytes, OutOfMemory};

@@ -5,5 +5,3 @@
 mod containers;
 #[cfg(test)]
 mod endings;
-#[cfg(test)]
-mod spelled;

@@ -2,4 +2,6 @@
 #![tactic(auto)]
 
 #[cfg(test)]
+mod frames;
+#[cfg(test)]
 mod memory;

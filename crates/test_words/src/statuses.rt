@@ -9,6 +9,8 @@ fn numbers_of_statuses(rt: HostRuntime) {
         (Status::ReadFault, 1),
         (Status::Usage, 2),
         (Status::DescriptionRefused, 3),
+        (Status::NoRoom, 4),
+        (Status::ImageRefused, 5),
         (Status::WriteFault, 8),
         (Status::OutOfMemory, 9),
         (Status::InputTooLong, 10),

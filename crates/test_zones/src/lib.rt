@@ -12,4 +12,6 @@ mod refusals;
 #[cfg(test)]
 mod rows;
 #[cfg(test)]
+mod scatters;
+#[cfg(test)]
 mod zones;

@@ -1,13 +1,13 @@
-//! The places that a shelf gives: the least ones that are free.
+//! The places that shelves give: the least ones that are free, the greatest, and those that are the same by each policy.
 
-use crate::rows::{Row, are_placed};
+use crate::rows::{Row, are_places};
 use std::process::Abort;
 use std::test::Fail;
 use zone_alloc::Zone::{Fseg, High};
-use zone_alloc::{Policy, ShelfAlloc, ZoneAlloc, Zones, zones_of};
+use zone_alloc::{Policy, Zones, zones_of};
 
 // High memory is 0x300_0000 to 0x3FF_FFFF, and the F segment 0xF_0000 to 0xF_FFFF.
-const ALIGNS: [Row; 10] = [
+const LOW: [Row; 10] = [
     Row(High, 3, 1, Some(0x300_0000)),
     Row(High, 1, 1, Some(0x300_0003)),
     Row(High, 5, 16, Some(0x300_0010)),
@@ -22,6 +22,22 @@ const ALIGNS: [Row; 10] = [
     Row(Fseg, 36, 16, Some(0xF_0030)),
 ];
 
+const TOP: [Row; 12] = [
+    Row(High, 3, 1, Some(0x3FF_FFFD)),
+    Row(High, 1, 1, Some(0x3FF_FFFC)),
+    Row(High, 5, 16, Some(0x3FF_FFF0)),
+    // It has to go below the last one, and the next fits between.
+    Row(High, 11, 1, Some(0x3FF_FFE5)),
+    Row(High, 7, 1, Some(0x3FF_FFF5)),
+    Row(High, 12, 4, Some(0x3FF_FFD8)),
+    Row(High, 1, 0x1000, Some(0x3FF_F000)),
+    Row(High, 1, 0x100_0000, Some(0x300_0000)),
+    Row(High, 1, 0x100_0000, None),
+    Row(High, 1, 0x8000_0000, None),
+    Row(Fseg, 36, 16, Some(0xF_FFD0)),
+    Row(Fseg, 36, 16, Some(0xF_FFA0)),
+];
+
 // Files as large as their zones, and one byte larger.
 const FULL: [Row; 6] = [
     Row(Fseg, 0x1_0001, 1, None),
@@ -33,12 +49,20 @@ const FULL: [Row; 6] = [
 ];
 
 // One byte is left between two ranges.
-const GAP: [Row; 5] = [
+const LOW_GAP: [Row; 5] = [
     Row(Fseg, 0x7FFF, 1, Some(0xF_0000)),
     Row(Fseg, 1, 0x8000, Some(0xF_8000)),
     Row(Fseg, 2, 1, Some(0xF_8001)),
     Row(Fseg, 1, 1, Some(0xF_7FFF)),
     Row(Fseg, 1, 1, Some(0xF_8003)),
+];
+
+const TOP_GAP: [Row; 5] = [
+    Row(Fseg, 0x7FFE, 1, Some(0xF_8002)),
+    Row(Fseg, 1, 0x8000, Some(0xF_8000)),
+    Row(Fseg, 2, 1, Some(0xF_7FFE)),
+    Row(Fseg, 1, 1, Some(0xF_8001)),
+    Row(Fseg, 1, 1, Some(0xF_7FFD)),
 ];
 
 // The last 255 addresses below 2^64 - 1, and a zone of one byte.
@@ -60,36 +84,59 @@ const AT_ENDS: [Row; 7] = [
     Row(Fseg, 1, 1, Some(5)),
 ];
 
+// Seven multiples of 2^31, at the last of which one byte has room.
+const WIDE: Zones = Zones {
+    high_start: 1,
+    high_end: 0x3_8000_0001,
+    fseg_start: 5,
+    fseg_end: 6,
+};
+
+const LOW_WIDE: [Row; 4] = [
+    Row(High, 2, 0x8000_0000, Some(0x8000_0000)),
+    Row(High, 1, 0x8000_0000, Some(0x1_0000_0000)),
+    Row(High, 0x8000_0001, 0x8000_0000, Some(0x1_8000_0000)),
+    Row(High, 0xFFFF_FFFF, 0x8000_0000, Some(0x2_8000_0000)),
+];
+
+const TOP_WIDE: [Row; 4] = [
+    Row(High, 2, 0x8000_0000, Some(0x3_0000_0000)),
+    Row(High, 1, 0x8000_0000, Some(0x3_8000_0000)),
+    Row(High, 0x8000_0001, 0x8000_0000, Some(0x2_0000_0000)),
+    Row(High, 0xFFFF_FFFF, 0x8000_0000, Some(0x1_0000_0000)),
+];
+
 #[test]
-fn aligns(rt: HostRuntime) -> Result<(), Fail> {
-    let mut shelf = ShelfAlloc::new();
-    shelf.begin(rt.alloc(), zones_of(0x400_0000), Policy::Low)?;
-    are_placed(&rt, &mut shelf, &ALIGNS);
+fn least_places(rt: HostRuntime) -> Result<(), Fail> {
+    let alloc = rt.alloc();
+    are_places(&rt, alloc, zones_of(0x400_0000), Policy::Low, &LOW)?;
+    are_places(&rt, alloc, zones_of(0x400_0000), Policy::Low, &LOW_GAP)?;
+    are_places(&rt, alloc, WIDE, Policy::Low, &LOW_WIDE)?;
     Ok(())
 }
 
 #[test]
-fn full_zones_and_begin_again(rt: HostRuntime) -> Result<(), Fail> {
-    let mut shelf = ShelfAlloc::new();
-    shelf.begin(rt.alloc(), zones_of(0x400_0000), Policy::Low)?;
-    are_placed(&rt, &mut shelf, &FULL);
-    shelf.begin(rt.alloc(), zones_of(0x400_0000), Policy::Low)?;
-    are_placed(&rt, &mut shelf, &FULL);
+fn greatest_places(rt: HostRuntime) -> Result<(), Fail> {
+    let alloc = rt.alloc();
+    are_places(&rt, alloc, zones_of(0x400_0000), Policy::Top, &TOP)?;
+    are_places(&rt, alloc, zones_of(0x400_0000), Policy::Top, &TOP_GAP)?;
+    are_places(&rt, alloc, WIDE, Policy::Top, &TOP_WIDE)?;
     Ok(())
 }
 
+// Where each request leaves one choice, all policies give the same places.
 #[test]
-fn a_gap_of_one_byte(rt: HostRuntime) -> Result<(), Fail> {
-    let mut shelf = ShelfAlloc::new();
-    shelf.begin(rt.alloc(), zones_of(0x400_0000), Policy::Low)?;
-    are_placed(&rt, &mut shelf, &GAP);
+fn full_zones(rt: HostRuntime) -> Result<(), Fail> {
+    for by in [Policy::Low, Policy::Top, Policy::Scatter(7)] {
+        are_places(&rt, rt.alloc(), zones_of(0x400_0000), by, &FULL)?;
+    }
     Ok(())
 }
 
 #[test]
 fn ends_of_the_addresses(rt: HostRuntime) -> Result<(), Fail> {
-    let mut shelf = ShelfAlloc::new();
-    shelf.begin(rt.alloc(), ENDS, Policy::Low)?;
-    are_placed(&rt, &mut shelf, &AT_ENDS);
+    for by in [Policy::Low, Policy::Top, Policy::Scatter(7)] {
+        are_places(&rt, rt.alloc(), ENDS, by, &AT_ENDS)?;
+    }
     Ok(())
 }

@@ -66,3 +66,10 @@ fn a_place(rt: &impl Abort, shelf: &mut ShelfAlloc)
     let given = shelf.place(High, 0x10, 0x10);
     assert_eq!(rt; given, Ok(0x300_0000));
 }
+
+#[test]
+fn text_of_a_refusal(rt: HostRuntime) -> Result<(), Fail> {
+    let text = NoRoom.to_string(rt.alloc())?;
+    assert_eq!(rt; text.as_str(), "no room for the file");
+    Ok(())
+}

@@ -1,9 +1,12 @@
 //! Requests, one after the other, and the places that are to be given.
 
 ghost use Rattle.std.specs.Prelude.{◌≡◌, true, ◌+◌, ◌<◌, ◌≤◌, length};
+ghost use Rattle.zone_alloc.specs.Places.{HaveAddresses};
 
+use std::alloc::Global;
 use std::process::Abort;
-use zone_alloc::{Zone, ZoneAlloc};
+use vt_outside::OutOfMemory;
+use zone_alloc::{Policy, ShelfAlloc, Zone, ZoneAlloc, Zones};
 
 /// A request, and the place that is to be given, or `None` for a refusal.
 pub(crate) struct Row(
@@ -12,6 +15,25 @@ pub(crate) struct Row(
     pub(crate) u32,
     pub(crate) Option<u64>,
 );
+
+/// A shelf that begins with these zones and this policy answers each row as it says, and again once it has begun again.
+pub(crate) fn are_places(
+    rt: &impl Abort,
+    alloc: Global,
+    zones: Zones,
+    by: Policy,
+    rows: &[Row],
+) -> Result<(), OutOfMemory>
+    requires addresses { HaveAddresses zones }
+    requires room { length rows.now ≤ 1024 }
+{
+    let mut shelf = ShelfAlloc::new();
+    shelf.begin(alloc, zones, by)?;
+    are_placed(rt, &mut shelf, rows);
+    shelf.begin(alloc, zones, by)?;
+    are_placed(rt, &mut shelf, rows);
+    Ok(())
+}
 
 /// Each row is answered as it says, in turn.
 pub(crate) fn are_placed<A: ZoneAlloc>(rt: &impl Abort, alloc: &mut A, rows: &[Row])

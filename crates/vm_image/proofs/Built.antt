@@ -2,6 +2,7 @@
 use Rattle.std.proofs.Common.{◌≡◌, ℕ, ◌≤◌, List, [], ◌∷◌, length, Result, Ok, Err, IfOk, OnOk, ap, subst, sym, ◌∙◌, arith}
 use Rattle.std.proofs.lemmas.List.Sums.{sum_by-cons}
 use Rattle.std.specs.List.{AllByRecursion}
+use Rattle.loader_script.specs.Spelling.{Fits}
 use Rattle.loader_script.specs.declared.entry.Entry.{Entry}
 use Rattle.cfg_directory.specs.declared.item.Item.{Item}
 use Rattle.cfg_directory.specs.Items.{total_size}
@@ -53,12 +54,14 @@ loaded_anywhere m accepted known places are =
 
 -- what is promised of the image holds
 pub built : (m : Machine) (items : List Item) (script : List Entry) → IsAccepted m → AreStructures (structures_file m) (structures_of m.system)
-    → AreAcpiKnown m m.acpi → items ≡ image_items m → script ≡ image_script m → total_size (image_items m) ≤ image_limit → IsBuilt m items script
-built m items script accepted read known items_are script_is small =
+    → AreAcpiKnown m m.acpi → items ≡ image_items m → script ≡ image_script m → AllByRecursion Fits script
+    → total_size (image_items m) ≤ image_limit → IsBuilt m items script
+built m items script accepted read known items_are script_is fits small =
     let bounds : Lawful m = lawful m accepted in
     record {
       items_are = items_are;
       script_is = script_is;
+      fits = fits;
       spelled = rw (items_are, script_is) (script_found (image_files m) [] (image_distinct m) (image_has_no_loader m));
       there = rw items_are (begins_with (image_files m) [] (image_distinct m) (image_has_no_loader m));
       small = subst (λ those. total_size those ≤ image_limit) (sym items_are) small;
@@ -72,8 +75,9 @@ built m items script accepted read known items_are script_is small =
 pub image_built : (m : Machine) (files : List ImageFile) (r : Result Image ImageBuildFault) → IsAccepted m
     → AreStructures (structures_file m) (structures_of m.system) → AreAcpiKnown m m.acpi → files ≡ image_files m
     → IfOk r (λ image. image.items ≡ items_of files []) → IfOk r (λ image. image.script ≡ script_of files [])
+    → IfOk r (λ image. AllByRecursion Fits image.script)
     → OnOk r (total_size (items_of files []) ≤ image_limit) → IfOk r (λ image. IsBuilt m image.items image.script)
-image_built m files (Err fault) accepted read known files_are items_are script_is small = tt
-image_built m files (Ok image) accepted read known files_are items_are script_is small =
+image_built m files (Err fault) accepted read known files_are items_are script_is fits small = tt
+image_built m files (Ok image) accepted read known files_are items_are script_is fits small =
     built m image.items image.script accepted read known (items_are ∙ ap (λ those. items_of those []) files_are)
-    (script_is ∙ ap (λ those. script_of those []) files_are) (subst (λ those. total_size (items_of those []) ≤ image_limit) files_are small)
+    (script_is ∙ ap (λ those. script_of those []) files_are) fits (subst (λ those. total_size (items_of those []) ≤ image_limit) files_are small)

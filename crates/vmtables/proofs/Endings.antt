@@ -2,15 +2,14 @@
 use Rattle.std.proofs.Common.{◌≡◌, ◌<◌, ◌↔◌, ℕ, List, [], Option, Some, None, Result, Ok, Err, IfSome, IsSomeAnd, IfErr, OnOk, OnErr, refl, subst}
 use Rattle.std.specs.Result.{IsErrAnd}
 use Rattle.vt_outside.specs.Stream.{Rose, in_front}
-use Rattle.vmtables.specs.Boot.{IsLoaded, BootMakes}
-use Rattle.vmtables.specs.Calls.{SourceSeen, SinkSeen, Unread, Whole, Cut, Made, ReadsAll, Ran, Streams}
+use Rattle.vmtables.specs.Calls.{Answering, Seen, SourceSeen, SinkSeen, Unread, Whole, Cut, Made, ReadsAll, Ran, Streams}
 use Rattle.vmtables.specs.Causes.{IsOfInput}
 use Rattle.vmtables.specs.Does.{Does}
 use Rattle.vmtables.specs.Dump.{dump}
 use Rattle.vmtables.specs.Outcome.{input_limit, given_count, status_of}
 use Rattle.vmtables.specs.Output.{Took, TookFront, AllFlushed}
-use Rattle.vmtables.specs.World.{Begun}
-use Rattle.vmtables.specs.declared.command.Command.{Command}
+use Rattle.script_load.specs.World.{Begun}
+use Rattle.vt_words.specs.declared.command.Command.{Command}
 use Rattle.vmtables.specs.declared.fault.Fault.{Fault}
 use Rattle.vmtables.specs.declared.fault.Fault.TheVariants as fault
 use Rattle.vmtables.specs.declared.input.InputFault.{InputFault}
@@ -29,32 +28,32 @@ not_too_long None ended bytes count other read = tt
 not_too_long (Some all) ended bytes count other read = (λ is. absurd (other is), λ long. let never = read.1 long in cc)
 
 -- words that are no command
-pub usage_ran : (command : Option Command) (world : Option Begun) (left taken : Option (List ℕ)) → command ≡ None
-    → Ran (Does command world world) (Err fault.Usage) left left taken taken
-usage_ran command world left taken none =
+pub usage_ran : (Gives : Answering) (command : Option Command) (seen : Seen) (left taken : Option (List ℕ)) → command ≡ None
+    → Ran (Does Gives command seen seen) (Err fault.Usage) left left taken taken
+usage_ran Gives command seen left taken none =
     rw none (record { input = Unread; made = Err fault.Usage; did = refl; read = refl; wrote = (refl, refl) })
 
 -- a command that the words are
-pub commanded : (known command : Option Command) (r : Result (Unit {0}) Fault) (before after : Option Begun)
-    (left left_after taken taken_after : Option (List ℕ)) → known ≡ command → Ran (Does known before after) r left left_after taken taken_after
-    → Ran (Does command before after) r left left_after taken taken_after
-commanded known command r before after left left_after taken taken_after is =
-    subst (λ those. Ran (Does those before after) r left left_after taken taken_after) is
+pub commanded : (Gives : Answering) (known command : Option Command) (r : Result (Unit {0}) Fault) (before after : Seen)
+    (left left_after taken taken_after : Option (List ℕ)) → known ≡ command → Ran (Does Gives known before after) r left left_after taken taken_after
+    → Ran (Does Gives command before after) r left left_after taken taken_after
+commanded Gives known command r before after left left_after taken taken_after is =
+    subst (λ those. Ran (Does Gives those before after) r left left_after taken taken_after) is
 
 -- A command that reads its whole input ends with the fault of the reading.
-pub cut_off : (Makes : List ℕ → Option Begun → Option Begun → Made → Type 0) (f : InputFault) (r : Result (Unit {0}) Fault) (world : Option Begun)
-    (left left_after taken : Option (List ℕ)) → IsErrAnd r (IsOfInput f) → Ran (ReadsAll Makes world world) r left left_after taken taken
-cut_off Makes f (Ok done) world left left_after taken is = absurd is
-cut_off Makes input.Failed (Err ended) world left left_after taken is =
+pub cut_off : (Makes : List ℕ → Seen → Seen → Made → Type 0) (f : InputFault) (r : Result (Unit {0}) Fault) (seen : Seen)
+    (left left_after taken : Option (List ℕ)) → IsErrAnd r (IsOfInput f) → Ran (ReadsAll Makes seen seen) r left left_after taken taken
+cut_off Makes f (Ok done) seen left left_after taken is = absurd is
+cut_off Makes input.Failed (Err ended) seen left left_after taken is =
     rw is (record { input = Cut; made = Err fault.ReadFault; did = refl; read = tt; wrote = (refl, refl) })
-cut_off Makes input.TooLong (Err ended) world left left_after taken is =
+cut_off Makes input.TooLong (Err ended) seen left left_after taken is =
     rw is (record { input = Cut; made = Err fault.InputTooLong; did = refl; read = tt; wrote = (refl, refl) })
-cut_off Makes input.OutOfMemory (Err ended) world left left_after taken is =
+cut_off Makes input.OutOfMemory (Err ended) seen left left_after taken is =
     rw is (record { input = Cut; made = Err fault.OutOfMemory; did = refl; read = tt; wrote = (refl, refl) })
 
 -- A command that reads its whole input, and makes no text of it.
-pub refused : (Makes : List ℕ → Option Begun → Option Begun → Made → Type 0) (bytes lent : List ℕ) (f : Fault) (r : Result (Unit {0}) Fault)
-    (before after : Option Begun) (left left_after taken : Option (List ℕ))
+pub refused : (Makes : List ℕ → Seen → Seen → Made → Type 0) (bytes lent : List ℕ) (f : Fault) (r : Result (Unit {0}) Fault)
+    (before after : Seen) (left left_after taken : Option (List ℕ))
     → left ≡ in_front bytes left_after → IfSome left_after (λ rest. rest ≡ []) → lent ≡ bytes → Makes lent before after (Err f)
     → IsErrAnd r (λ ended. ended ≡ f)
     → Ran (ReadsAll Makes before after) r left left_after taken taken
@@ -64,8 +63,8 @@ refused Makes bytes lent f (Err ended) before after left left_after taken given 
     record { input = Whole bytes; made = Err f; did = did; read = (given, end); wrote = (is, refl) }
 
 -- A command that reads its whole input, and wrote the text that it made of it, or a part of that.
-pub wrote : (Makes : List ℕ → Option Begun → Option Begun → Made → Type 0) (r : Result (Unit {0}) Fault) (bytes text : List ℕ)
-    (before after : Option Begun) (left left_after taken taken_after : Option (List ℕ))
+pub wrote : (Makes : List ℕ → Seen → Seen → Made → Type 0) (r : Result (Unit {0}) Fault) (bytes text : List ℕ)
+    (before after : Seen) (left left_after taken taken_after : Option (List ℕ))
     → left ≡ in_front bytes left_after → IfSome left_after (λ rest. rest ≡ []) → Makes bytes before after (Ok text)
     → OnOk r (Took taken taken_after text) → IfErr r (λ f. f ≡ fault.WriteFault) → OnErr r (TookFront taken taken_after text)
     → Ran (ReadsAll Makes before after) r left left_after taken taken_after
@@ -74,16 +73,18 @@ wrote Makes (Ok done) bytes text before after left left_after taken taken_after 
 wrote Makes (Err f) bytes text before after left left_after taken taken_after given end makes took failed front =
     record { input = Whole bytes; made = Ok text; did = makes; read = (given, end); wrote = (failed, front) }
 
--- A boot that loaded its machine, and wrote the dump or a part of it.
-pub boot_wrote : (fill : ℕ) (r : Result (Unit {0}) Fault) (bytes : List ℕ) (before after : Option Begun) (left left_after taken taken_after : Option (List ℕ))
-    → left ≡ in_front bytes left_after → IfSome left_after (λ rest. rest ≡ []) → IsSomeAnd after (IsLoaded fill bytes)
-    → OnOk r (IsSomeAnd after (λ w. Took taken taken_after (dump w.memory)))
+-- A command that loaded files, and wrote the dump of that world or a part of it.
+pub dump_wrote : (Makes : List ℕ → Seen → Seen → Made → Type 0) (r : Result (Unit {0}) Fault) (bytes : List ℕ) (world : Begun)
+    (before after : Seen) (left left_after taken taken_after : Option (List ℕ))
+    → left ≡ in_front bytes left_after → IfSome left_after (λ rest. rest ≡ []) → after.world ≡ Some world → Makes bytes before after (Ok (dump world.memory))
+    → OnOk r (IsSomeAnd after.world (λ w. Took taken taken_after (dump w.memory)))
     → IfErr r (λ f. f ≡ fault.WriteFault)
-    → OnErr r (IsSomeAnd after (λ w. TookFront taken taken_after (dump w.memory)))
-    → Ran (ReadsAll (BootMakes fill) before after) r left left_after taken taken_after
-boot_wrote fill r bytes before None left left_after taken taken_after given end loaded dumped failed front = absurd loaded
-boot_wrote fill r bytes before (Some w) left left_after taken taken_after given end loaded dumped failed front =
-    wrote (BootMakes fill) r bytes (dump w.memory) before (Some w) left left_after taken taken_after given end (loaded, refl) dumped failed front
+    → OnErr r (IsSomeAnd after.world (λ w. TookFront taken taken_after (dump w.memory)))
+    → Ran (ReadsAll Makes before after) r left left_after taken taken_after
+dump_wrote Makes r bytes world before after left left_after taken taken_after given end is makes dumped failed front =
+    wrote Makes r bytes (dump world.memory) before after left left_after taken taken_after given end makes
+    (subst (λ those. OnOk r (IsSomeAnd those (λ w. Took taken taken_after (dump w.memory)))) is dumped) failed
+    (subst (λ those. OnErr r (IsSomeAnd those (λ w. TookFront taken taken_after (dump w.memory)))) is front)
 
 -- The streams of a command that read its whole input, made a text of it, and wrote that or a part of it.
 pub wrote_streams : (r : Result (Unit {0}) Fault) (bytes : List ℕ) (source source_after : SourceSeen) (out out_after : SinkSeen)

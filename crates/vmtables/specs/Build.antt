@@ -1,14 +1,14 @@
 -- What `build` does.
-use Rattle.std.specs.Prelude.{◌≡◌, ℕ, ◌≤◌, List, Option, Ok, Err}
+use Rattle.std.specs.Prelude.{◌≡◌, ℕ, ◌≤◌, List, Ok, Err}
 use Rattle.cfg_directory.specs.Items.{total_size}
 use Rattle.cfg_directory.specs.Container.{IsContainer, container_of}
 use Rattle.machine_desc.specs.declared.machine.Machine.{Machine}
 use Rattle.desc_toml.specs.Reading.{Reads, read_of}
 use Rattle.image_files.specs.Items.{image_limit}
 use Rattle.vm_image.specs.Image.{image_items}
-use Rattle.vmtables.specs.Calls.{Made}
+use Rattle.vmtables.specs.Calls.{Made, Seen}
 use Rattle.vmtables.specs.Described.{IsTooLarge}
-use Rattle.vmtables.specs.World.{Begun}
+use Rattle.vmtables.specs.declared.fault.Fault.{Fault}
 use Rattle.vmtables.specs.declared.fault.Fault.TheVariants as fault
 
 -- The text is the container, with zeros in its reserved fields, of the image of the machine that is read from the bytes.
@@ -19,9 +19,16 @@ pub record IsImage (bytes text : List ℕ) : Type 0 where
   pub text_is : text ≡ container_of (image_items machine)
   pub contained : IsContainer text (image_items machine)
 
+-- no container is built of the bytes, for this fault
+abbrev pub CannotBeBuilt : List ℕ → Fault → Type 0
+CannotBeBuilt bytes (fault.Description refused) = read_of bytes ≡ Err refused
+CannotBeBuilt bytes fault.ImageTooLarge = IsTooLarge bytes
+CannotBeBuilt bytes fault.OutOfMemory = Unit {0}
+CannotBeBuilt bytes _ = ⊥
+
 -- What `build` makes of the bytes of its input. It refuses bytes that describe no machine, and a machine whose files have too many bytes.
--- The world stays as it was.
-abbrev pub BuildMakes : List ℕ → Option Begun → Option Begun → Made → Type 0
+-- The world and the allocator stay as they were.
+abbrev pub BuildMakes : List ℕ → Seen → Seen → Made → Type 0
 BuildMakes bytes before after (Ok text) = IsImage bytes text × (after ≡ before)
 BuildMakes bytes before after (Err (fault.Description refused)) = (read_of bytes ≡ Err refused) × (after ≡ before)
 BuildMakes bytes before after (Err fault.ImageTooLarge) = IsTooLarge bytes × (after ≡ before)

@@ -1,9 +1,14 @@
 -- How a call ends, whatever its command is.
-use Rattle.std.specs.Prelude.{◌≡◌, ◌≢◌, ◌<◌, ◌↔◌, ◌⊎◌, ℕ, List, [], Option, IfSome, Result, Ok, Err, IfErr}
+use Rattle.std.specs.Prelude.{◌≡◌, ◌≢◌, ◌<◌, ◌↔◌, ◌⊎◌, ℕ, Bool, List, [], Option, IfSome, Result, Ok, Err, IfErr}
 use Rattle.vt_outside.specs.Stream.{Rose, in_front}
 use Rattle.vmtables.specs.Outcome.{status_of, line_of, input_limit, given_count}
 use Rattle.vmtables.specs.Output.{Took, TookFront, AllFlushed}
-use Rattle.vmtables.specs.World.{Begun}
+use Rattle.vt_outside.specs.Placement.{Range}
+use Rattle.zone_alloc.specs.declared.alloc.Request.{Request}
+use Rattle.zone_alloc.specs.declared.policy.Policy.{Policy}
+use Rattle.zone_alloc.specs.declared.zones.Zones.{Zones}
+use Rattle.script_load.specs.Runs.{Answers}
+use Rattle.script_load.specs.World.{Begun}
 use Rattle.vmtables.specs.declared.fault.Fault.{Fault}
 use Rattle.vmtables.specs.declared.fault.Fault.TheVariants as fault
 use Rattle.vmtables.specs.declared.status.Status.{Status}
@@ -19,6 +24,39 @@ pub record SinkSeen : Type 0 where
   pub taken : Option (List ℕ)
   pub flushed : ℕ
   pub faults : ℕ
+
+-- what is seen of an allocator: the ranges that it has handed out, its zones and its policy, how many requests it refused, the last
+-- request if it was refused, and whether its last begin had memory
+pub record PlaceSeen : Type 0 where
+  pub handed : List Range
+  pub zones : Zones
+  pub policy : Policy
+  pub refusals : ℕ
+  pub refused : Option Request
+  pub begun : Bool
+
+-- the world of a call, and its allocator
+pub record Seen : Type 0 where
+  pub world : Option Begun
+  pub place : PlaceSeen
+
+-- the same by what an allocator shows
+abbrev pub seen_by : {A : Type 0} → (A → List Range) → (A → Zones) → (A → Policy) → (A → ℕ) → (A → Option Request) → (A → Bool) → Option Begun → A → Seen
+seen_by handed zones policy refusals refused begun world a = record {
+  world = world;
+  place = record {
+    handed = handed a;
+    zones = zones a;
+    policy = policy a;
+    refusals = refusals a;
+    refused = refused a;
+    begun = begun a;
+  };
+}
+
+-- how an allocator of these zones and this policy may answer
+abbrev pub Answering : Type 1
+Answering = Zones → Policy → Answers
 
 -- What was read of a source: nothing, a part, or all of it, which is these bytes.
 pub data Input : Type 0 where
@@ -36,13 +74,13 @@ WasRead (Whole bytes) left left_after = (left ≡ in_front bytes left_after) × 
 abbrev pub Made : Type 0
 Made = Result (List ℕ) Fault
 
--- What a command may do: from the world before and after, what was read, and what it made.
+-- What a command may do: from what is seen before and after, what was read, and what it made.
 abbrev pub Doing : Type 1
-Doing = Option Begun → Option Begun → Input → Made → Type 0
+Doing = Seen → Seen → Input → Made → Type 0
 
 -- What a command does that reads its whole input, by what it makes of the input's bytes. Where the input is cut off, the
--- world stays as it was.
-abbrev pub ReadsAll : (List ℕ → Option Begun → Option Begun → Made → Type 0) → Doing
+-- world and the allocator stay as they were.
+abbrev pub ReadsAll : (List ℕ → Seen → Seen → Made → Type 0) → Doing
 ReadsAll Makes before after (Whole bytes) made = Makes bytes before after made
 ReadsAll Makes before after Cut (Err fault.ReadFault) = after ≡ before
 ReadsAll Makes before after Cut (Err fault.InputTooLong) = after ≡ before

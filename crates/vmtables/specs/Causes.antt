@@ -6,8 +6,10 @@ use Rattle.desc_toml.specs.declared.fault.DescFault.{DescFault}
 use Rattle.desc_toml.specs.declared.fault.DescFault.TheVariants as description
 use Rattle.image_files.specs.declared.image.ImageBuildFault.{ImageBuildFault}
 use Rattle.image_files.specs.declared.image.ImageBuildFault.TheVariants as image
+use Rattle.cfg_directory.specs.declared.container.ImageFault.{ImageFault}
+use Rattle.cfg_directory.specs.declared.container.ImageFault.TheVariants as container
 use Rattle.vmtables.specs.declared.fault.Fault.{Fault}
-use Rattle.vmtables.specs.declared.fault.Fault.TheVariants.{ReadFault, Description, OutOfMemory, InputTooLong, ImageTooLarge}
+use Rattle.vmtables.specs.declared.fault.Fault.TheVariants.{ReadFault, Description, Container, OutOfMemory, InputTooLong, ImageTooLarge}
 
 abbrev pub IsOfInput : InputFault → Fault → Type 0
 IsOfInput input.Failed fault = fault ≡ ReadFault
@@ -21,3 +23,7 @@ IsOfDescription refused fault = fault ≡ Description refused
 abbrev pub IsOfImage : ImageBuildFault → Fault → Type 0
 IsOfImage image.ImageTooLarge fault = fault ≡ ImageTooLarge
 IsOfImage image.OutOfMemory fault = fault ≡ OutOfMemory
+
+abbrev pub IsOfContainer : ImageFault → Fault → Type 0
+IsOfContainer container.OutOfMemory fault = fault ≡ OutOfMemory
+IsOfContainer refused fault = fault ≡ Container refused

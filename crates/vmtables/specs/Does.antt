@@ -1,19 +1,21 @@
 -- What each command does.
 use Rattle.std.specs.Prelude.{◌≡◌, Option, Some, None, Err}
+use Rattle.vt_words.specs.declared.command.Command.{Command}
+use Rattle.vt_words.specs.declared.command.Command.TheVariants.{Boot, Load, Build}
 use Rattle.vmtables.specs.Boot.{BootMakes}
 use Rattle.vmtables.specs.Build.{BuildMakes}
-use Rattle.vmtables.specs.Calls.{Unread, Doing, ReadsAll}
-use Rattle.vmtables.specs.declared.command.Command.{Command}
-use Rattle.vmtables.specs.declared.command.Command.TheVariants.{Boot, Build}
+use Rattle.vmtables.specs.Calls.{Answering, Unread, Doing, ReadsAll}
+use Rattle.vmtables.specs.Load.{LoadMakes}
 use Rattle.vmtables.specs.declared.fault.Fault.TheVariants.{Usage}
 
--- Words that are no command: nothing is read, and the world stays as it was.
+-- Words that are no command: nothing is read, and the world and the allocator stay as they were.
 abbrev pub IsUsage : Doing
 IsUsage before after Unread (Err Usage) = after ≡ before
 IsUsage before after _ _ = ⊥
 
 -- what the command does that the words are
-abbrev pub Does : Option Command → Doing
-Does None = IsUsage
-Does (Some (Boot fill)) = ReadsAll (BootMakes fill)
-Does (Some Build) = ReadsAll BuildMakes
+abbrev pub Does : Answering → Option Command → Doing
+Does Gives None = IsUsage
+Does Gives (Some (Boot fill)) = ReadsAll (BootMakes Gives fill)
+Does Gives (Some (Load fill top_mib)) = ReadsAll (LoadMakes Gives fill top_mib)
+Does Gives (Some Build) = ReadsAll BuildMakes

@@ -1,17 +1,15 @@
-pub mod Command
 pub mod Causes
 pub mod Outcome
 pub mod Output
 pub mod Dump
-pub mod LowRun
-pub mod FilesInMemory
-pub mod World
-pub mod WorldInside
 pub mod Calls
 pub mod Described
+pub mod Loading
+pub mod Load
 pub mod Boot
 pub mod Build
 pub mod Does
+pub mod Shelf
 pub use Rattle.vt_outside.specs.Stream
 pub use Rattle.vt_outside.specs.Name
 pub use Rattle.vt_outside.specs.MemoryStream
@@ -23,5 +21,11 @@ pub use Rattle.table_model.specs.Inventory
 pub use Rattle.cfg_directory.specs.Items as DirectoryItems
 pub use Rattle.cfg_directory.specs.Container
 pub use Rattle.zone_alloc.specs.Zones
+pub use Rattle.script_load.specs.Runs
+pub use Rattle.script_load.specs.Script
+pub use Rattle.script_load.specs.Allocators
+pub use Rattle.script_load.specs.Loads
+pub use Rattle.script_load.specs.World
+pub use Rattle.vt_words.specs.Command
 pub use Rattle.image_files.specs.Items
 pub use Rattle.vm_image.specs.Image

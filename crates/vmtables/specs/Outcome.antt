@@ -1,16 +1,31 @@
 -- How the top call ends: the status and the line of each fault, the numbers of statuses, and how long an input may be.
-use Rattle.std.specs.Prelude.{ℕ, ◌-◌, List, [], ◌++◌, ◌∷◌, length, codes, Option, Some, Result, Ok, Err}
+use Rattle.std.specs.Prelude.{ℕ, ◌-◌, List, [], ◌++◌, ◌∷◌, length, codes, Option, Some, Result, Ok, Err, decimal}
 use Rattle.desc_toml.specs.Lines.{line_of as description_line}
+use Rattle.cfg_directory.specs.declared.container.ImageFault.{ImageFault}
+use Rattle.cfg_directory.specs.declared.container.ImageFault.TheVariants as container
+use Rattle.loader_script.specs.declared.refusing.Cause.{Cause}
+use Rattle.loader_script.specs.declared.refusing.Cause.TheVariants as cause
+use Rattle.script_load.specs.declared.fault.LoadFault.{LoadFault}
+use Rattle.script_load.specs.declared.fault.LoadFault.TheVariants as load
 use Rattle.vmtables.specs.declared.fault.Fault.{Fault}
 use Rattle.vmtables.specs.declared.fault.Fault.TheVariants as fault
 use Rattle.vmtables.specs.declared.status.Status.{Status}
 use Rattle.vmtables.specs.declared.status.Status.TheVariants as status
+
+-- the status of a load that ended before its script did
+abbrev pub status_of_load : LoadFault → Status
+status_of_load load.NoScript = status.ImageRefused
+status_of_load load.ScriptLength = status.ImageRefused
+status_of_load (load.Command index why) = status.ImageRefused
+status_of_load (load.NoRoom index) = status.NoRoom
 
 -- the status of a call that a fault ended
 abbrev pub status_of_fault : Fault → Status
 status_of_fault fault.ReadFault = status.ReadFault
 status_of_fault fault.Usage = status.Usage
 status_of_fault (fault.Description refused) = status.DescriptionRefused
+status_of_fault (fault.Container refused) = status.ImageRefused
+status_of_fault (fault.Load why) = status_of_load why
 status_of_fault fault.WriteFault = status.WriteFault
 status_of_fault fault.OutOfMemory = status.OutOfMemory
 status_of_fault fault.InputTooLong = status.InputTooLong
@@ -21,11 +36,50 @@ abbrev pub status_of : Result (Unit {0}) Fault → Status
 status_of (Ok done) = status.Ok
 status_of (Err fault) = status_of_fault fault
 
+-- the number of a container's fault, in the order of the causes; want of memory is none of them
+abbrev pub container_number : ImageFault → ℕ
+container_number container.Truncated = 1
+container_number container.TooMany = 2
+container_number (container.BadName index) = 3
+container_number (container.TwiceNamed index) = 4
+container_number (container.TwiceSelected index) = 5
+container_number (container.BadSelect index) = 6
+container_number (container.BadFlag index) = 7
+container_number container.TrailingBytes = 8
+container_number container.TooLarge = 9
+container_number container.OutOfMemory = 0
+
+-- the number of a cause to refuse a command, in the order of the causes
+abbrev pub cause_number : Cause → ℕ
+cause_number cause.BadName = 1
+cause_number cause.NoFile = 2
+cause_number cause.AlreadyPlaced = 3
+cause_number cause.NotPlaced = 4
+cause_number cause.Empty = 5
+cause_number cause.BadAlign = 6
+cause_number cause.BadZone = 7
+cause_number cause.BadSize = 8
+cause_number cause.ReadOnly = 9
+cause_number cause.OutOfRange = 10
+cause_number cause.TooFar = 11
+
+-- the line of a container that is refused, and of a load that ended before its script did
+abbrev pub container_line : ImageFault → List ℕ
+container_line refused = codes "container: fault " ++ decimal (container_number refused) ++ 10 ∷ []
+
+abbrev pub load_line : LoadFault → List ℕ
+load_line load.NoScript = codes "script: none" ++ 10 ∷ []
+load_line load.ScriptLength = codes "script: length" ++ 10 ∷ []
+load_line (load.Command index why) = codes "command " ++ decimal index ++ codes ": cause " ++ decimal (cause_number why) ++ 10 ∷ []
+load_line (load.NoRoom index) = codes "no room at command " ++ decimal index ++ 10 ∷ []
+
 -- the line of a fault, which ends in a line feed
 abbrev pub line_of : Fault → List ℕ
 line_of fault.ReadFault = codes "read fault" ++ 10 ∷ []
 line_of fault.Usage = codes "usage: vmtables build, load, decode, boot, lint or gen" ++ 10 ∷ []
 line_of (fault.Description refused) = description_line refused
+line_of (fault.Container refused) = container_line refused
+line_of (fault.Load why) = load_line why
 line_of fault.WriteFault = codes "write fault" ++ 10 ∷ []
 line_of fault.OutOfMemory = codes "out of memory" ++ 10 ∷ []
 line_of fault.InputTooLong = codes "input too long" ++ 10 ∷ []
@@ -37,6 +91,8 @@ number_of status.Ok = 0
 number_of status.ReadFault = 1
 number_of status.Usage = 2
 number_of status.DescriptionRefused = 3
+number_of status.NoRoom = 4
+number_of status.ImageRefused = 5
 number_of status.WriteFault = 8
 number_of status.OutOfMemory = 9
 number_of status.InputTooLong = 10

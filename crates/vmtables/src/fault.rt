@@ -1,9 +1,12 @@
-ghost use Rattle.std.specs.Prelude.{◌≡◌, ◌≤◌, length};
-ghost use Rattle.vmtables.specs.Outcome.{line_of, status_of_fault};
+ghost use Rattle.std.specs.Prelude.{◌≡◌};
+ghost use Rattle.vmtables.specs.Outcome.{line_of, status_of_fault, status_of_load};
 
 use crate::input::InputFault;
+use crate::lines::{container_line, load_line, words};
 use crate::status::Status;
+use cfg_directory::ImageFault;
 use desc_toml::{DescFault, Line};
+use script_load::LoadFault;
 use vm_image::ImageBuildFault;
 use vt_outside::OutOfMemory;
 
@@ -16,6 +19,10 @@ pub(crate) enum Fault {
     Usage,
     /// The bytes describe no accepted machine; this is their first fault.
     Description(DescFault),
+    /// The bytes are no container; this is their first fault.
+    Container(ImageFault),
+    /// The load of a container ended before its script did.
+    Load(LoadFault),
     /// The sink failed.
     WriteFault,
     /// Memory ran out.
@@ -35,6 +42,8 @@ impl Fault {
             Fault::ReadFault => Status::ReadFault,
             Fault::Usage => Status::Usage,
             Fault::Description(_) => Status::DescriptionRefused,
+            Fault::Container(_) => Status::ImageRefused,
+            Fault::Load(fault) => status_of_load(*fault),
             Fault::WriteFault => Status::WriteFault,
             Fault::OutOfMemory => Status::OutOfMemory,
             Fault::InputTooLong => Status::InputTooLong,
@@ -47,25 +56,28 @@ impl Fault {
         ensures { result.bytes ≡ line_of self.now }
     {
         match self {
-            Fault::ReadFault => line("read fault\n"),
-            Fault::Usage => line("usage: vmtables build, load, decode, boot, lint or gen\n"),
+            Fault::ReadFault => words("read fault\n"),
+            Fault::Usage => words("usage: vmtables build, load, decode, boot, lint or gen\n"),
             Fault::Description(refused) => refused.line(),
-            Fault::WriteFault => line("write fault\n"),
-            Fault::OutOfMemory => line("out of memory\n"),
-            Fault::InputTooLong => line("input too long\n"),
-            Fault::ImageTooLarge => line("image too large\n"),
+            Fault::Container(refused) => container_line(*refused),
+            Fault::Load(fault) => load_line(*fault),
+            Fault::WriteFault => words("write fault\n"),
+            Fault::OutOfMemory => words("out of memory\n"),
+            Fault::InputTooLong => words("input too long\n"),
+            Fault::ImageTooLarge => words("image too large\n"),
         }
     }
 }
 
-// The line of these words, which end in a line feed.
-fn line(words: &str) -> Line
-    requires { length words.now ≤ 128 }
-    ensures { result.bytes ≡ words.now }
+fn status_of_load(fault: LoadFault) -> Status
+    ensures { result ≡ status_of_load fault }
 {
-    let mut line = Line::new();
-    line.push_str(words);
-    line
+    match fault {
+        LoadFault::NoScript | LoadFault::ScriptLength | LoadFault::Command { .. } => {
+            Status::ImageRefused
+        }
+        LoadFault::NoRoom { .. } => Status::NoRoom,
+    }
 }
 
 impl From<OutOfMemory> for Fault {
@@ -116,5 +128,29 @@ impl From<ImageBuildFault> for Fault {
             ImageBuildFault::ImageTooLarge => Fault::ImageTooLarge,
             ImageBuildFault::OutOfMemory => Fault::OutOfMemory,
         }
+    }
+}
+
+impl From<ImageFault> for Fault {
+    ghost use Rattle.vmtables.specs.Causes.{IsOfContainer};
+
+    ghost from_gives = { IsOfContainer };
+
+    fn from(fault: ImageFault) -> Fault {
+        match fault {
+            ImageFault::OutOfMemory => Fault::OutOfMemory,
+            refused => Fault::Container(refused),
+        }
+    }
+}
+
+impl From<LoadFault> for Fault {
+    ghost use Rattle.std.specs.Prelude.{◌≡◌};
+    ghost use Rattle.vmtables.specs.declared.fault.Fault.TheVariants.{Load};
+
+    ghost from_gives = { λ why fault. fault ≡ Load why };
+
+    fn from(fault: LoadFault) -> Fault {
+        Fault::Load(fault)
     }
 }

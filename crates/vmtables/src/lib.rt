@@ -1,24 +1,25 @@
-//! The top call of the program: words and a description in, the dump of a guest's memory or a container of files out.
+//! The top call of the program: words and a description or a container in, the dump of a guest's memory or a container out.
 //!
 //! `boot` reads a machine's description (TOML), builds the files that a firmware loads (SMBIOS structures and
-//! their anchor, DSP0134) and the script that places, patches and checksums them, runs that script on the memory
-//! of a guest, and writes the memory as text. `build` writes these files as one container.
+//! their anchor, DSP0134; ACPI tables) and the script that places, patches and checksums them, runs that script on the memory
+//! of a guest, and writes the memory as text. `build` writes these files as one container. `load` reads a container, made here or
+//! elsewhere, and runs its script in the same way.
 #![tactic(auto)]
 
-mod command;
+mod boot_command;
+mod build_command;
 mod dump;
 mod fault;
 mod input;
+pub mod laws;
+mod lines;
+mod load_command;
 mod loading;
 mod output;
-mod placing;
-mod state;
 mod status;
 mod top_call;
-mod world;
+mod writing;
 
-pub use state::State;
+pub use script_load::{LoadFault, State, World};
 pub use status::Status;
 pub use top_call::top;
-pub use world::World;
-pub use zone_alloc::{Zone, Zones, zones_of};

@@ -12,6 +12,10 @@ pub enum Status {
     Usage = 2,
     /// The bytes describe no accepted machine.
     DescriptionRefused = 3,
+    /// The allocator gave no place for a file.
+    NoRoom = 4,
+    /// The container, its script or a command of it is refused.
+    ImageRefused = 5,
     /// The sink failed. It took a part of the output from its front.
     WriteFault = 8,
     /// Memory ran out.

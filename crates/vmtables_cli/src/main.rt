@@ -6,21 +6,28 @@ use std::io::{self, BufWriter, ErrorKind};
 use std::process::ExitCode;
 use vmtables::{Status, World, top};
 use vt_outside::{ReadSource, WriteSink};
+use zone_alloc::ShelfAlloc;
 
 const HELP: &str = "\
 usage: vmtables boot [--fill XX] < DESCRIPTION > DUMP
        vmtables build < DESCRIPTION > CONTAINER
+       vmtables load [--fill XX] [--top M] < CONTAINER > DUMP
 
 boot       reads a machine's description (TOML) from standard input, builds its tables and the script that
            loads them, loads them into a guest's memory, and writes a dump of that memory to standard output;
            each byte of memory is XX before, two lower-case hexadecimal digits, or zero
 build      reads a machine's description, and writes the files that a firmware loads, in one container
+load       reads a container, loads its files by the script among them into the memory of a guest that has
+           M MiB, from 64 to 3072, or 64, and writes a dump of that memory; XX is as for boot
 --help     prints this text
 --version  prints the version
 
-Status: 0 done, 1 read fault, 2 usage, 3 description refused, 8 write fault, 9 out of memory, 10 input too
-long, 11 image too large. With a status other than 0 a line on standard error says which. That of 3 names the key that is wrong,
-or the rule that is broken; docs/FORMATS.md has the keys and the rules.
+Options stand behind the command, in any order.
+
+Status: 0 done, 1 read fault, 2 usage, 3 description refused, 4 no room, 5 image refused, 8 write fault,
+9 out of memory, 10 input too long, 11 image too large. With a status other than 0 a line on standard error
+says which. That of 3 names the key that is wrong, or the rule that is broken; those of 4 and 5 name what is
+wrong with the container, its script or a command. docs/FORMATS.md has the keys, the rules and the lines.
 ";
 
 const VERSION: &str = "vmtables 0.1.0\n";
@@ -64,6 +71,7 @@ fn run(rt: &HostRuntime, words: &[String]) -> ExitCode {
         &mut ReadSource::new(rt.stdin()),
         &mut WriteSink::new(writer),
         &mut WriteSink::new(rt.stderr()),
+        &mut ShelfAlloc::new(),
         &mut World::idle(),
     );
     ExitCode::from(status.number())

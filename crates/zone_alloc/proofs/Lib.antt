@@ -1,2 +1,9 @@
 pub mod Multiples
+mod Alike
+mod Chosen
+mod Drawn
+mod Kept
+mod OnePlace
+mod Order
+mod Reached
 mod Walk

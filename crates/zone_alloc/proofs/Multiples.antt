@@ -22,6 +22,20 @@ next_is_least n align next factor none_left near above =
           omega (arith, no_more)
     ]
 
+-- a multiple that is less than one step below the last place before an end is at or above each other multiple that leaves room there
+pub last_is_greatest : (end size align last factor : ℕ) → last % align ≡ 0 → end < last + size + align → factor * align + size ≤ end
+    → factor * align ≤ last
+last_is_greatest end size align last factor none_left near within =
+    let whole : last ≡ last / align * align = multiple_of last align none_left in
+    elim (cases_lt (last / align) factor) as (λ _. factor * align ≤ last) [
+      | inl l ↦
+          let one_more : (last / align + 1) * align ≤ factor * align = mul-le (last / align + 1) align factor align (omega arith) (omega arith) in
+          absurd (omega (arith, one_more))
+      | inr l ↦
+          let no_more : factor * align ≤ last / align * align = mul-le factor align (last / align) align l (omega arith) in
+          omega (arith, no_more)
+    ]
+
 -- a least multiple is one that is less than one step above
 pub record IsNext (n align next : ℕ) : Type 0 where
   pub multiple : next % align ≡ 0

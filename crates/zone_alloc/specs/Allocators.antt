@@ -5,7 +5,8 @@ use Rattle.zone_alloc.specs.declared.zone.Zone.{Zone}
 use Rattle.zone_alloc.specs.declared.zones.Zones.{Zones}
 use Rattle.zone_alloc.specs.declared.policy.Policy.{Policy}
 use Rattle.zone_alloc.specs.declared.alloc.Request.{Request}
-use Rattle.zone_alloc.specs.Places.{range_in, IsLeastPlace}
+use Rattle.zone_alloc.specs.Places.{range_in}
+use Rattle.zone_alloc.specs.Policies.{IsShelfPlace}
 
 -- A shelf: the ranges that are handed out, the zones and the policy of the last `begin`, how many places were refused, the last request
 -- if it was refused, and whether the last `begin` had memory.
@@ -27,9 +28,9 @@ pub record FailingState : Type 0 where
 abbrev pub no_zones : Zones
 no_zones = record { high_start = 0; high_end = 0; fseg_start = 0; fseg_end = 0 }
 
--- what a shelf gives: the least place that is free, or None where none is free
+-- what a shelf gives: the place that its policy chooses, or None where none is free
 abbrev pub shelf_gives : ShelfState → Zone → ℕ → ℕ → Option ℕ → Type 0
-shelf_gives s zone size align place = IsLeastPlace (range_in s.zones zone) s.handed size align place
+shelf_gives s zone size align place = IsShelfPlace s.policy (range_in s.zones zone) s.handed size align place
 
 -- the next call is one that is to be refused
 abbrev pub IsListed : FailingState → Type 0

@@ -9,13 +9,15 @@ use crate::policy::Policy;
 use crate::zone::Zone;
 use crate::zones::Zones;
 use std::alloc::Global;
+use thiserror::Error;
 use vt_outside::OutOfMemory;
 
 /// How many ranges an allocator hands out at most, from one `begin` to the next.
 pub const MOST_RANGES: usize = 1024;
 
 /// A place was refused, and the allocator that was asked has counted it.
-#[derive(Clone, Copy, Debug, PartialEq, Eq)]
+#[derive(Clone, Copy, Debug, PartialEq, Eq, Error)]
+#[error("no room for the file")]
 pub struct NoRoom;
 
 /// What a place was asked for.

@@ -1,50 +1,54 @@
 ghost use Rattle.std.specs.Prelude.{◌≡◌, true, false, ◌+◌, ◌<◌, ◌≤◌, ◌^◌, [], ◌∷◌, ◌++◌, length, Some, None, IfOk, IfSome, OnErr, is_ok};
 ghost use Rattle.std.specs.Int.{is_power_of_two};
 ghost use Rattle.std.specs.Result.{result_ok};
-ghost use Rattle.vt_outside.specs.Placement.{IsFree};
+ghost use Rattle.std.specs.List.{AllByRecursion};
+ghost use Rattle.vt_outside.specs.Placement.{Apart, IsFree};
 ghost use Rattle.vt_outside.specs.Stream.{next_count};
 ghost use Rattle.zone_alloc.specs.declared.policy.Policy.TheVariants.{Low};
-ghost use Rattle.zone_alloc.specs.Places.{range_in, HaveAddresses, IsLeastPlace};
+ghost use Rattle.zone_alloc.specs.Places.{range_in, HaveAddresses};
 ghost use Rattle.zone_alloc.specs.Allocators.{shelf_gives, no_zones};
 
-use crate::alloc::{MOST_RANGES, NoRoom, Request, ZoneAlloc};
+use crate::alloc::{NoRoom, Request, ZoneAlloc};
+use crate::chooser::Chooser;
+use crate::handed::HandedRanges;
 use crate::policy::Policy;
-use crate::searching::{AddressRange, least_free};
+use crate::searching::AddressRange;
 use crate::zone::Zone;
 use crate::zones::Zones;
 use std::alloc::Global;
 use std::marker::Model;
 use vt_outside::OutOfMemory;
 
-/// An allocator that gives the least address that is free, and refuses only where none is.
+/// An allocator that gives each file the place that its policy chooses, and refuses only where none is free.
 #[derive(Debug, Drop)]
 pub struct ShelfAlloc {
     // None before `begin`, and after one that had no memory.
-    handed: Option<Vec<AddressRange>>,
+    handed: Option<HandedRanges>,
     zones: Zones,
-    policy: Policy,
+    chooser: Chooser,
     refusals: u64,
     refused: Option<Request>,
 }
 
 impl Model for ShelfAlloc {
-    ghost use Rattle.std.specs.Prelude.{◌≤◌, [], map, is_some, IfSome, vec_capacity};
+    ghost use Rattle.std.specs.Prelude.{[], length, is_some, IfSome};
     ghost use Rattle.std.specs.Option.{option_map_or};
-    ghost use Rattle.zone_alloc.specs.Ranges.{range_of};
     ghost use Rattle.zone_alloc.specs.Allocators.{ShelfState};
+    ghost use Rattle.zone_alloc.specs.Places.{HaveAddresses};
+    ghost use Rattle.zone_alloc.specs.Words.{policy_of, IsAtWord};
 
     ghost Value = { ShelfState };
 
     ghost view = { λ s. record {
-      handed = option_map_or (λ ranges. map range_of ranges.items) s.handed [];
+      handed = option_map_or (λ handed. handed) s.handed [];
       zones = s.zones;
-      policy = s.policy;
+      policy = policy_of s.chooser;
       refusals = s.refusals;
       refused = s.refused;
       begun = is_some s.handed;
     } };
 
-    ghost invariant = { λ s. IfSome s.handed (λ ranges. 1024 ≤ vec_capacity ranges) };
+    ghost invariant = { λ s. IfSome s.handed (λ handed. HaveAddresses s.zones × IsAtWord (length handed) s.chooser) };
 }
 
 impl ShelfAlloc {
@@ -60,20 +64,18 @@ impl ShelfAlloc {
                 fseg_start: 0,
                 fseg_end: 0,
             },
-            policy: Policy::Low,
+            chooser: Chooser::Low,
             refusals: 0,
             refused: None,
         }
     }
 
-    /// Returns the least place in `zone` that is free for a file of `size` bytes, at least 1: a multiple of `align`, a power of
-    /// two, from which the file lies in the zone and apart from each range that was handed out. `None` means that none is free.
-    /// `begin` must have had memory. Nothing is handed out.
-    pub fn least_free(&self, zone: Zone, size: u32, align: u32) -> Option<u64>
+    // The place in `zone` that the policy chooses for a file of `size` bytes, or `None` where none is free.
+    fn choose(&self, zone: Zone, size: u32, align: u32) -> Option<u64>
         requires begun { self.now.begun ≡ true }
         requires size { 0 < size }
         requires align { is_power_of_two align ≡ true }
-        ensures least { IsLeastPlace (range_in self.now.zones zone) self.now.handed size align result }
+        ensures gives { shelf_gives self.now zone size align result }
         ensures fits { IfSome result (λ place. place + size < 2 ^ 64) }
     {
         let Some(handed) = &self.handed else {
@@ -83,22 +85,26 @@ impl ShelfAlloc {
             start: self.zones.start_of(zone),
             end: self.zones.end_of(zone),
         };
-        least_free(range, handed.as_slice(), u64::from(size), u64::from(align))
+        self.chooser
+            .choose(handed, range, u64::from(size), u64::from(align))
     }
 
-    // Hands out the range of `size` bytes from `start` on.
+    // Hands out the range of `size` bytes from `start` on, at least 1, which is apart from the others.
     fn hand_out(&mut self, start: u64, size: u32)
         requires begun { self.old.begun ≡ true }
         requires room { length self.old.handed < 1024 }
+        requires size { 0 < size }
         requires fits { start + size < 2 ^ 64 }
+        requires apart { AllByRecursion (Apart (record { start = start; end = start + size })) self.old.handed }
         ensures { self.new ≡ record self.old { handed = self.old.handed ++ record { start = start; end = start + size } ∷ []; refused = None } }
     {
         self.refused = None;
+        self.chooser.take_word();
         let Some(handed) = &mut self.handed else {
             unreachable!();
         };
         let end = start + u64::from(size);
-        handed.push_reserved(AddressRange { start, end });
+        handed.push(AddressRange { start, end });
     }
 
     /// Refuses a place, and counts the refusal.
@@ -142,9 +148,9 @@ impl ZoneAlloc for ShelfAlloc {
     {
         self.handed = None;
         self.zones = within;
-        self.policy = by;
+        self.chooser = Chooser::of(by);
         self.refused = None;
-        self.handed = Some(Vec::with_capacity(alloc, MOST_RANGES)?);
+        self.handed = Some(HandedRanges::new(alloc)?);
         Ok(())
     }
 
@@ -153,8 +159,8 @@ impl ZoneAlloc for ShelfAlloc {
         requires room { length self.old.handed < 1024 }
         requires size { 0 < size }
         requires align { is_power_of_two align ≡ true }
-        // The least free place is given, and NoRoom comes exactly where none is free.
-        ensures least { IsLeastPlace (range_in self.old.zones zone) self.old.handed size align (result_ok result) }
+        // The place that the policy chooses is given, and NoRoom comes exactly where none is free.
+        ensures gives { shelf_gives self.old zone size align (result_ok result) }
         ensures lawful { IfOk result (λ place. IsFree (range_in self.old.zones zone) self.old.handed size align place) }
         ensures ok { IfOk result (λ place. self.new ≡ record self.old {
           handed = self.old.handed ++ record { start = place; end = place + size } ∷ [];
@@ -166,7 +172,7 @@ impl ZoneAlloc for ShelfAlloc {
         }) }
         ensures never_falls { self.old.refusals ≤ self.new.refusals }
     {
-        match self.least_free(zone, size, align) {
+        match self.choose(zone, size, align) {
             Some(place) => {
                 self.hand_out(place, size);
                 Ok(place)

@@ -13,5 +13,5 @@ loader_file-requires c =
 pub returns-clause-sorted : goal.returns-clause-sorted
 returns-clause-sorted c =
     sorted_with c.args.files.items c.args.later.now c.as_slice.result.now c.in_ok-loader_file.field-0 c.in_ok-sorted.field-0.sorted.items
-    c.put_among.new.files.items (c.as_slice.ensures ∙ c.in_ok-sorted.ensures.script) c.in_ok-loader_file.ensures c.in_ok-sorted.ensures.sorted
+    c.put_among.new.files.items (c.as_slice.ensures ∙ c.in_ok-sorted.ensures.script) c.in_ok-loader_file.ensures.file c.in_ok-sorted.ensures.sorted
     c.in_ok-put_among.ensures

@@ -9,4 +9,4 @@ returns-clause-built c =
     let link = c.link.ensures in
     image_built m c.push_smbios.new.files.items c.link.result c.requires.accepted c.in_ok-push_smbios.ensures.read c.in_ok-push_acpi.ensures.known
     (c.in_ok-push_smbios.ensures.files ∙ ap (λ files. files ++ smbios_placed (structures_file m)) (c.in_ok-push_acpi.ensures.files
-    ∙ ap (λ files. files ++ acpi_part m m.acpi) c.new-files.ensures.items)) link.items link.script link.small
+    ∙ ap (λ files. files ++ acpi_part m m.acpi) c.new-files.ensures.items)) link.items link.script link.fits link.small

@@ -1,4 +1,4 @@
-use Rattle.vmtables.proofs.Lines.{header_written}
+use Rattle.vmtables.proofs.DumpLines.{header_written}
 use Rattle.vmtables.proofs.dump.header.Goals as goal
 
 pub returns : goal.returns

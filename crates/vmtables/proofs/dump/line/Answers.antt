@@ -1,4 +1,4 @@
-use Rattle.vmtables.proofs.Lines.{line_written}
+use Rattle.vmtables.proofs.DumpLines.{line_written}
 use Rattle.vmtables.proofs.dump.line.Goals as goal
 
 pub returns : goal.returns

@@ -1,12 +1,12 @@
 use Rattle.std.proofs.Common.{rules, ◌≡◌, ◌-◌, ◌≤◌, arith, subst, sym}
 use Rattle.std.specs.Int.{next_multiple_of}
-use Rattle.zone_alloc.specs.Ranges.{HasNoNextPlace}
+use Rattle.zone_alloc.specs.Ranges.{HasNoMultiple}
 use Rattle.zone_alloc.proofs.Multiples.{IsNext, next_is, next_is_least}
 use Rattle.zone_alloc.proofs.searching.next_place.Goals as goal
 
 pub returns-in_err-place-clause-none : goal.returns-in_err-place-clause-none
 returns-in_err-place-clause-none c =
-    let none : HasNoNextPlace c.args.from c.args.end c.args.size c.args.align =
+    let none : HasNoMultiple c.args.from c.args.end c.args.size c.args.align =
     λ factor above within.
     let next : IsNext c.args.from c.args.align (next_multiple_of c.args.from c.args.align) = next_is c.args.from c.args.align c.requires in
     c.in_err-place.ensures (

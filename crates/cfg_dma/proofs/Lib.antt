@@ -1,0 +1,6 @@
+pub mod Holds
+pub mod Written
+pub mod Runs
+pub mod Moved
+pub mod Kept
+pub mod Pieces

@@ -1,0 +1,39 @@
+//! Laws over all devices and memories, each the contract of a function that does nothing.
+
+ghost use Rattle.std.specs.Prelude.{◌≡◌, ℕ, ◌+◌, ◌<◌, ◌≤◌, ◌⊎◌, List, sum, Some, IsSome};
+ghost use Rattle.vt_bytes.specs.Memory.{IsMemory, at};
+ghost use Rattle.cfg_dma.specs.declared.transfer.Flight.{Flight};
+ghost use Rattle.cfg_dma.specs.Device.{IsDevice};
+ghost use Rattle.cfg_dma.specs.Transfers.{Attached, CanMove, room_of, left_of, move_by, finish, piece, pieces};
+ghost use Rattle.cfg_dma.specs.Events.{Event, MayHappen, happens};
+
+/// States that a transfer leaves the same, in whatever pieces it is moved: any pieces, one after the other, are one piece of as
+/// many bytes.
+pub fn pieces_are_one_piece()
+    ensures { (a : Attached) (sizes : List ℕ) → IsDevice a.device → IsMemory a.memory → CanMove a
+        → pieces sizes a ≡ piece (sum sizes) a }
+{}
+
+/// States that a transfer is over once pieces have moved all that was left of it, and that it has moved that as if at once.
+pub fn transfers_end()
+    ensures { (a : Attached) (flight : Flight) (sizes : List ℕ) → IsDevice a.device → IsMemory a.memory → CanMove a
+        → a.device.flight ≡ Some flight → left_of flight ≤ sum sizes
+        → pieces sizes a ≡ finish flight.descriptor flight.transfer (move_by flight (left_of flight) a) }
+{}
+
+/// States that a piece after which its transfer is still in flight changes no byte of memory outside of the transfer's range. So
+/// it leaves the control word, but for bytes that the transfer itself moves there.
+pub fn a_transfer_in_flight_keeps_to_its_range()
+    ensures { (a : Attached) (flight : Flight) (bytes address : ℕ) → IsDevice a.device → IsMemory a.memory
+        → a.device.flight ≡ Some flight → IsSome (piece bytes a).device.flight
+        → (address < flight.transfer.address) ⊎ (flight.transfer.address + flight.transfer.length ≤ address)
+        → at (piece bytes a).memory address ≡ at a.memory address }
+{}
+
+/// States what any event leaves as it was: how many transfers are over or have room, and the top and the fill byte of memory. A transfer
+/// that is in flight then has its descriptor and its range in RAM.
+pub fn events_keep_the_room()
+    ensures { (e : Event) (a : Attached) → IsDevice a.device → CanMove a → MayHappen e a
+        → CanMove (happens e a) × (room_of (happens e a).device ≡ room_of a.device)
+        × ((happens e a).memory.top ≡ a.memory.top) × ((happens e a).memory.fill ≡ a.memory.fill) }
+{}

@@ -1,0 +1,29 @@
+-- The events that are left, when one is given.
+use Rattle.std.proofs.Common.{◌≡◌, ℕ, zero, suc, ◌+◌, ◌-◌, ◌^◌, ◌<◌, List, [], ◌∷◌, drop, Some, slice_get, ltb, arith, refl, sym, ap, ◌∙◌}
+use Rattle.std.proofs.lemmas.Bool.{cond-true, lt-ltb}
+use Rattle.std.proofs.lemmas.List.{drop_more}
+use Rattle.std.proofs.lemmas.Option.{slice_get_within, get_or_from_slice_get}
+use Rattle.rand_pcg.specs.Lcg.{Lcg}
+use Rattle.firmware_load.specs.declared.event.Event.{Event}
+use Rattle.firmware_load.specs.Schedules.{for_seed}
+use Rattle.firmware_load.specs.Drawing.{drawn_event, behind_event, drawn_events}
+
+-- none are left to draw
+pub none_left : (g : Lcg) → drawn_events 0 g ≡ []
+unfolding drawn_events
+none_left g = refl
+
+-- of those that are left to draw the first one is the next
+pub one_left : (count : ℕ) (g : Lcg) → ¬ (count ≡ 0) → drawn_events count g ≡ drawn_event g ∷ drawn_events (count - 1) (behind_event g)
+unfolding drawn_events
+one_left zero g some = absurd (some refl)
+one_left (suc count) g some = ap (λ (n : ℕ). drawn_event g ∷ drawn_events n (behind_event g)) (omega arith)
+
+-- an item of a list, and those behind it
+pub item_left : (events : List Event) (k : ℕ) (event : Event) → slice_get events k ≡ Some event → drop k events ≡ event ∷ drop (k + 1) events
+item_left events k event is =
+    drop_more events k event (slice_get_within events k event is) ∙ ap (λ (e : Event). e ∷ drop (k + 1) events) (get_or_from_slice_get events k event event is)
+
+-- a seed has its events
+pub seed_has : (seed : ℕ) (events : List Event) → seed < 2 ^ 64 → events ≡ for_seed seed events
+seed_has seed events fits = sym (cond-true (ltb seed (2 ^ 64)) events [] (lt-ltb seed (2 ^ 64) fits))

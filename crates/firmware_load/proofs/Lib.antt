@@ -1,0 +1,4 @@
+mod Drawn
+mod OfSeed
+mod Given
+mod SoMany

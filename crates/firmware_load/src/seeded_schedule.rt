@@ -1,0 +1,90 @@
+ghost use Rattle.std.specs.Prelude.{◌≡◌, []};
+ghost use Rattle.rand_pcg.specs.Pcg.{pcg32};
+ghost use Rattle.firmware_load.specs.Schedules.{write_by};
+ghost use Rattle.firmware_load.specs.Drawing.{drawn_event, behind_event};
+
+use crate::event::Event;
+use crate::schedule::Schedule;
+use rand_core::SeedableRng;
+use rand_core::utils::NextWord;
+use rand_pcg::Pcg32;
+use std::marker::Model;
+
+/// How many events a seed other than 0 has.
+const EVENTS_OF_A_SEED: u32 = 4096;
+
+/// A schedule that draws the events of a seed from the words of `Pcg32::seed_from_u64` (`rand_pcg`) of this seed: its 32-bit outputs, in
+/// their order. Seed 0 has no events, and any other seed has 4,096.
+#[derive(Debug, Drop)]
+pub struct SeededSchedule {
+    // The words that come next.
+    words: Pcg32,
+    // How many events are to be drawn yet.
+    to_draw: u32,
+}
+
+impl Model for SeededSchedule {
+    ghost use Rattle.std.specs.Prelude.{List};
+    ghost use Rattle.firmware_load.specs.declared.event.Event.{Event};
+    ghost use Rattle.firmware_load.specs.Drawing.{drawn_events};
+
+    ghost Value = { List Event };
+
+    ghost view = { λ s. drawn_events s.to_draw s.words };
+}
+
+impl SeededSchedule {
+    /// Makes a schedule. None of its events is left before `begin`. It takes no memory.
+    pub fn new() -> SeededSchedule
+        ensures { result ≡ [] }
+    {
+        SeededSchedule {
+            words: Pcg32::seed_from_u64(0),
+            to_draw: 0,
+        }
+    }
+}
+
+impl Schedule for SeededSchedule {
+    ghost use Rattle.firmware_load.specs.Schedules.{for_seed, seeded_events};
+
+    ghost events = { λ s number. for_seed number (seeded_events number) };
+
+    ghost left = { λ s. s };
+
+    fn begin(&mut self, seed: u64) {
+        self.words = Pcg32::seed_from_u64(seed);
+        self.to_draw = if seed == 0 { 0 } else { EVENTS_OF_A_SEED };
+    }
+
+    fn next(&mut self) -> Option<Event> {
+        if self.to_draw == 0 {
+            return None;
+        }
+        self.to_draw -= 1;
+        Some(draw(&mut self.words))
+    }
+}
+
+// Draws the next event from `words`, and takes the words that it is drawn from: three for a write, and one for any other.
+fn draw(words: &mut Pcg32) -> Event
+    ensures event { result ≡ drawn_event words.old }
+    ensures words { words.new ≡ behind_event words.old }
+{
+    let word = words.next_word();
+    match word % 4 {
+        0 => Event::Firmware,
+        1 | 2 => Event::Device(1 + word / 4 % 4096),
+        _ => draw_write(words),
+    }
+}
+
+// Draws a write of one byte: the address from the next word, and the byte from the one behind it.
+fn draw_write(words: &mut Pcg32) -> Event
+    ensures event { result ≡ write_by (pcg32 words.old).0 (pcg32 (pcg32 words.old).1).0 }
+    ensures words { words.new ≡ (pcg32 (pcg32 words.old).1).1 }
+{
+    let addr = u64::from(words.next_word() % 0x10_0000);
+    let byte = (words.next_word() % 256) as u8;
+    Event::Other { addr, byte }
+}

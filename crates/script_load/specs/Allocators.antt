@@ -1,0 +1,26 @@
+-- How an allocator may answer a load.
+use Rattle.std.specs.Prelude.{◌≡◌, ℕ, List, Option, IfSome}
+use Rattle.vt_outside.specs.Placement.{Range, IsFree}
+use Rattle.zone_alloc.specs.declared.alloc.Request.{Request}
+use Rattle.zone_alloc.specs.declared.policy.Policy.{Policy}
+use Rattle.zone_alloc.specs.declared.zone.Zone.{Zone}
+use Rattle.zone_alloc.specs.declared.zones.Zones.{Zones}
+use Rattle.zone_alloc.specs.Places.{range_in}
+use Rattle.zone_alloc.specs.Zones.{zone_range}
+
+-- zones are those of memory below a top
+abbrev pub AreZonesOf : ℕ → Zones → Type 0
+AreZonesOf top zones = (zone : Zone) → range_in zones zone ≡ zone_range top zone
+
+-- An answer that an allocator of these zones and this policy may give, where it has handed these ranges out: it gives it in a state in
+-- which it has these, and a place that it gives is free. An allocator is seen by what it has handed out, its zones, its policy, and what
+-- it gives.
+pub record MayAnswer {A : Type 0} (handed_of : A → List Range) (zones_of : A → Zones) (policy_of : A → Policy)
+    (gives : A → Zone → ℕ → ℕ → Option ℕ → Type 0) (zones : Zones) (policy : Policy)
+    (handed : List Range) (request : Request) (answer : Option ℕ) : Type 0 where
+  pub allocator : A
+  pub handed_is : handed_of allocator ≡ handed
+  pub zones_are : zones_of allocator ≡ zones
+  pub policy_is : policy_of allocator ≡ policy
+  pub given : gives allocator request.zone request.size request.align answer
+  pub lawful : IfSome answer (λ place. IsFree (range_in zones request.zone) handed request.size request.align place)

@@ -1,0 +1,47 @@
+//! Places that an allocator refuses.
+
+use fixtures::{Ending, MINIMAL, MINIMAL_DUMP, boot, booted, ends_with, failing_places};
+use std::alloc::Global;
+use std::test::Fail;
+use vmtables::{LoadFault, State, Status, World};
+
+// The places that are refused, of which the minimal machine asks for two, by the commands 0 and 1; the index of the command that ends the
+// load, and its line.
+const REFUSED: [(&[u32], u32, &[u8]); 3] = [
+    (&[0], 0, b"no room at command 0\n"),
+    (&[1], 1, b"no room at command 1\n"),
+    (&[0, 1], 0, b"no room at command 0\n"),
+];
+
+#[test]
+fn places_that_are_refused(rt: HostRuntime) -> Result<(), Fail> {
+    for (fails, index, say) in &REFUSED {
+        ends_placed(rt.alloc(), fails, &no_room_at(*index, say))?;
+    }
+    Ok(())
+}
+
+#[test]
+fn a_place_that_is_not_asked_for(rt: HostRuntime) -> Result<(), Fail> {
+    ends_placed(rt.alloc(), &[2], &booted(MINIMAL_DUMP))
+}
+
+fn no_room_at(index: u32, say: &[u8]) -> Ending<'_> {
+    Ending {
+        status: Status::NoRoom,
+        out: Some(b""),
+        say,
+        state: State::Refused(LoadFault::NoRoom { index }),
+    }
+}
+
+fn ends_placed(alloc: Global, fails: &[u32], ending: &Ending) -> Result<(), Fail> {
+    let mut place = failing_places(alloc, fails)?;
+    ends_with(
+        alloc,
+        &boot("the minimal machine", MINIMAL.as_bytes()),
+        &mut place,
+        &mut World::idle(),
+        ending,
+    )
+}

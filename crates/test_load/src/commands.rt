@@ -1,0 +1,245 @@
+//! Commands that are refused, each for its first cause, and what the commands before them left.
+
+use crate::containers::{ANCHOR, Command, EMPTY_FILE, FILES, TARGET, container_of};
+use crate::endings::refused_at;
+use fixtures::{ends, ends_in, is_same, load};
+use loader_script::Cause;
+use std::alloc::Global;
+use std::test::Fail;
+use vmtables::{State, World};
+
+const NONE: &str = "etc/none";
+
+// Places the anchor and the target, which most commands need.
+const PLACED: [Command; 2] = [
+    Command::Allocate(ANCHOR, 16, 2),
+    Command::Allocate(TARGET, 64, 1),
+];
+
+// A cause, its line, and commands that are refused for it behind these two.
+const REFUSED: [(Cause, &[u8], &[Command]); 8] = [
+    (
+        Cause::BadName,
+        b"command 2: cause 1\n",
+        &[
+            Command::Allocate("", 16, 2),
+            Command::AddPointer(ANCHOR, "\x7F", 8, 4),
+            Command::AddChecksum("", 0, 0, 0),
+        ],
+    ),
+    (
+        Cause::NoFile,
+        b"command 2: cause 2\n",
+        &[
+            Command::Allocate(NONE, 3, 3),
+            Command::AddPointer(NONE, TARGET, 8, 3),
+            Command::AddPointer(EMPTY_FILE, NONE, 8, 3),
+            Command::AddChecksum(NONE, 12, 0, 0),
+        ],
+    ),
+    (
+        Cause::AlreadyPlaced,
+        b"command 2: cause 3\n",
+        &[Command::Allocate(ANCHOR, 3, 3)],
+    ),
+    (
+        Cause::NotPlaced,
+        b"command 2: cause 4\n",
+        &[
+            Command::AddPointer(EMPTY_FILE, TARGET, 0, 3),
+            Command::AddPointer(ANCHOR, EMPTY_FILE, 8, 3),
+            Command::AddChecksum(EMPTY_FILE, 0, 0, 0),
+        ],
+    ),
+    (
+        Cause::Empty,
+        b"command 2: cause 5\n",
+        &[Command::Allocate(EMPTY_FILE, 3, 3)],
+    ),
+    (
+        Cause::BadSize,
+        b"command 2: cause 8\n",
+        &[
+            Command::AddPointer(ANCHOR, TARGET, 12, 0),
+            Command::AddPointer(ANCHOR, TARGET, 12, 3),
+            Command::AddPointer(ANCHOR, TARGET, 0, 16),
+        ],
+    ),
+    (
+        Cause::OutOfRange,
+        b"command 2: cause 10\n",
+        &[
+            Command::AddPointer(ANCHOR, TARGET, 9, 4),
+            Command::AddPointer(ANCHOR, TARGET, 0xFFFF_FFFF, 1),
+            Command::AddChecksum(ANCHOR, 12, 0, 12),
+            Command::AddChecksum(ANCHOR, 4, 1, 12),
+            Command::AddChecksum(ANCHOR, 4, 0xFFFF_FFFF, 0xFFFF_FFFF),
+        ],
+    ),
+    // 0x03000004 needs 26 bits
+    (
+        Cause::TooFar,
+        b"command 2: cause 11\n",
+        &[
+            Command::AddPointer(ANCHOR, TARGET, 8, 1),
+            Command::AddPointer(ANCHOR, TARGET, 8, 2),
+        ],
+    ),
+];
+
+#[test]
+fn commands_that_are_refused(rt: HostRuntime) -> Result<(), Fail> {
+    for (cause, say, commands) in &REFUSED {
+        are_refused(rt.alloc(), *cause, say, commands)?;
+    }
+    Ok(())
+}
+
+fn are_refused(alloc: Global, cause: Cause, say: &[u8], commands: &[Command]) -> Result<(), Fail> {
+    for command in commands {
+        is_refused(alloc, cause, say, *command)?;
+    }
+    Ok(())
+}
+
+// The command is refused at index 2, whatever follows it.
+fn is_refused(alloc: Global, cause: Cause, say: &[u8], command: Command) -> Result<(), Fail> {
+    let [first, second] = PLACED;
+    let container = container_of(alloc, &FILES, &[first, second, command, command])?;
+    ends(
+        alloc,
+        &load("behind two that place files", container.as_slice()),
+        &refused_at(2, cause, say),
+    )
+}
+
+// A cause, its line, and commands that are refused for it with none before.
+const REFUSED_AT_ONCE: [(Cause, &[u8], &[Command]); 3] = [
+    (
+        Cause::NotPlaced,
+        b"command 0: cause 4\n",
+        &[
+            Command::AddPointer(ANCHOR, TARGET, 8, 4),
+            Command::AddChecksum(ANCHOR, 4, 0, 12),
+        ],
+    ),
+    (
+        Cause::BadAlign,
+        b"command 0: cause 6\n",
+        &[
+            Command::Allocate(ANCHOR, 0, 3),
+            Command::Allocate(ANCHOR, 3, 3),
+        ],
+    ),
+    (
+        Cause::BadZone,
+        b"command 0: cause 7\n",
+        &[
+            Command::Allocate(ANCHOR, 16, 0),
+            Command::Allocate(ANCHOR, 16, 3),
+        ],
+    ),
+];
+
+#[test]
+fn first_commands_that_are_refused(rt: HostRuntime) -> Result<(), Fail> {
+    for (cause, say, commands) in &REFUSED_AT_ONCE {
+        are_refused_at_once(rt.alloc(), *cause, say, commands)?;
+    }
+    Ok(())
+}
+
+fn are_refused_at_once(
+    alloc: Global,
+    cause: Cause,
+    say: &[u8],
+    commands: &[Command],
+) -> Result<(), Fail> {
+    for command in commands {
+        is_refused_at_once(alloc, cause, say, *command)?;
+    }
+    Ok(())
+}
+
+fn is_refused_at_once(
+    alloc: Global,
+    cause: Cause,
+    say: &[u8],
+    command: Command,
+) -> Result<(), Fail> {
+    let container = container_of(alloc, &FILES, &[command])?;
+    ends(
+        alloc,
+        &load("alone", container.as_slice()),
+        &refused_at(0, cause, say),
+    )
+}
+
+// Commands of which the last is refused for want of a file, its index, the line, and what the 16 bytes are from 0xF0000 on.
+const LEFT: [(&[Command], u32, &[u8], [u8; 16]); 3] = [
+    (
+        &[Command::Allocate(NONE, 16, 2)],
+        0,
+        b"command 0: cause 2\n",
+        [0; 16],
+    ),
+    (
+        &[
+            Command::Allocate(ANCHOR, 16, 2),
+            Command::Allocate(NONE, 16, 2),
+        ],
+        1,
+        b"command 1: cause 2\n",
+        [0x41, 0x42, 0x43, 0x44, 0, 0, 0, 0, 4, 0, 0, 0, 0, 0, 0, 0],
+    ),
+    (
+        &[
+            Command::Allocate(TARGET, 64, 1),
+            Command::Allocate(ANCHOR, 16, 2),
+            Command::AddPointer(ANCHOR, TARGET, 8, 4),
+            Command::AddChecksum(NONE, 4, 0, 12),
+        ],
+        3,
+        b"command 3: cause 2\n",
+        [0x41, 0x42, 0x43, 0x44, 0, 0, 0, 0, 4, 0, 0, 3, 0, 0, 0, 0],
+    ),
+];
+
+#[test]
+fn what_is_left_by_the_commands_before(rt: HostRuntime) -> Result<(), Fail> {
+    for (commands, index, say, bytes) in &LEFT {
+        leaves(rt.alloc(), commands, *index, say, bytes)?;
+    }
+    Ok(())
+}
+
+fn leaves(
+    alloc: Global,
+    commands: &[Command],
+    index: u32,
+    say: &[u8],
+    bytes: &[u8; 16],
+) -> Result<(), Fail> {
+    let container = container_of(alloc, &FILES, commands)?;
+    let mut world = World::idle();
+    ends_in(
+        alloc,
+        &load("a missing file", container.as_slice()),
+        &mut world,
+        &refused_at(index, Cause::NoFile, say),
+    )?;
+    holds(&world, bytes)
+}
+
+// The world is that of a load that was refused, and its memory has these bytes from 0xF0000 on.
+fn holds(world: &World, bytes: &[u8; 16]) -> Result<(), Fail> {
+    match world.state() {
+        State::Refused(_) => is_same(
+            "a missing file",
+            "memory",
+            &world.memory().window(0xF_0000, 16),
+            &bytes.as_slice(),
+        ),
+        _ => Err(Fail::new("no load was refused")),
+    }
+}

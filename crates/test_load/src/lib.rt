@@ -1,0 +1,20 @@
+//! Tests of the command `load`: the dumps of containers that are put together here, of which each is worked by hand, the containers,
+//! scripts and commands that are refused, files for which there is no room, and the machines of which `build` makes a container.
+#![tactic(auto)]
+
+#[cfg(test)]
+mod commands;
+#[cfg(test)]
+mod containers;
+#[cfg(test)]
+mod dumps;
+#[cfg(test)]
+mod endings;
+#[cfg(test)]
+mod machines;
+#[cfg(test)]
+mod places;
+#[cfg(test)]
+mod refusals;
+#[cfg(test)]
+mod streams;

@@ -1,0 +1,199 @@
+//! Files for which the allocator gives no place, and files that fill their zone.
+
+use crate::containers::{ANCHOR, Command, FILES, FileOf, SCRIPT, TARGET, container_of};
+use crate::endings::no_room_at;
+use fixtures::{Ending, booted, ends, ends_with, failing_places, load};
+use std::alloc::Global;
+use std::test::Fail;
+use vmtables::World;
+use vt_outside::{Bytes, OutOfMemory};
+
+const NO_ROWS: &str = "top 04000000 fill 00\nend\n";
+
+const COMMANDS: [Command; 3] = [
+    Command::Skipped,
+    Command::Allocate(ANCHOR, 16, 2),
+    Command::Allocate(TARGET, 64, 1),
+];
+
+// The places that an allocator refuses, and how the load of the two files then ends.
+const REFUSED: [(&str, &[u32], u32, &[u8]); 3] = [
+    ("the first place", &[0], 1, b"no room at command 1\n"),
+    ("the second place", &[1], 2, b"no room at command 2\n"),
+    ("both places", &[0, 1], 1, b"no room at command 1\n"),
+];
+
+#[test]
+fn places_that_are_refused(rt: HostRuntime) -> Result<(), Fail> {
+    for (case, fails, index, say) in &REFUSED {
+        has_no_room(rt.alloc(), case, fails, *index, say)?;
+    }
+    Ok(())
+}
+
+fn has_no_room(
+    alloc: Global,
+    case: &str,
+    fails: &[u32],
+    index: u32,
+    say: &[u8],
+) -> Result<(), Fail> {
+    ends_placed(alloc, case, fails, &no_room_at(index, say))
+}
+
+// Places beyond those that are asked for may be refused.
+#[test]
+fn a_place_that_is_not_asked_for(rt: HostRuntime) -> Result<(), Fail> {
+    ends_placed(
+        rt.alloc(),
+        "a third place",
+        &[2],
+        &booted(
+            "top 04000000 fill 00
+000f0000 41424344000000000400000000000000
+03000000 a1a2a3a4a50000000000000000000000
+end
+",
+        ),
+    )
+}
+
+fn ends_placed(alloc: Global, case: &str, fails: &[u32], ending: &Ending) -> Result<(), Fail> {
+    let container = container_of(alloc, &FILES, &COMMANDS)?;
+    let mut place = failing_places(alloc, fails)?;
+    ends_with(
+        alloc,
+        &load(case, container.as_slice()),
+        &mut place,
+        &mut World::idle(),
+        ending,
+    )
+}
+
+// Files of zeros and their commands, by the size of the first and the second file. Each zone is too small for the last of them.
+const SIZES: [(&str, usize, usize, u8, u32, &[u8]); 5] = [
+    (
+        "above the F segment",
+        65_537,
+        1,
+        2,
+        0,
+        b"no room at command 0\n",
+    ),
+    (
+        "a byte behind the F segment",
+        65_536,
+        1,
+        2,
+        1,
+        b"no room at command 1\n",
+    ),
+    (
+        "the F segment in two files",
+        65_521,
+        16,
+        2,
+        1,
+        b"no room at command 1\n",
+    ),
+    (
+        "above high memory",
+        16_777_217,
+        1,
+        1,
+        0,
+        b"no room at command 0\n",
+    ),
+    (
+        "a byte behind high memory",
+        16_777_216,
+        1,
+        1,
+        1,
+        b"no room at command 1\n",
+    ),
+];
+
+#[test]
+fn files_that_are_too_large(rt: HostRuntime) -> Result<(), Fail> {
+    for (case, first, second, zone, index, say) in &SIZES {
+        ends_sized(
+            rt.alloc(),
+            case,
+            (*first, *second),
+            *zone,
+            &no_room_at(*index, say),
+        )?;
+    }
+    Ok(())
+}
+
+// Files of zeros that fill their zone to the last byte.
+const FITTING: [(&str, usize, usize, u8); 3] = [
+    ("the F segment", 65_520, 16, 2),
+    ("the F segment but for a byte", 65_520, 15, 2),
+    ("high memory", 16_777_200, 16, 1),
+];
+
+#[test]
+fn files_that_fill_a_zone(rt: HostRuntime) -> Result<(), Fail> {
+    for (case, first, second, zone) in &FITTING {
+        ends_sized(rt.alloc(), case, (*first, *second), *zone, &booted(NO_ROWS))?;
+    }
+    Ok(())
+}
+
+// Loads two files of zeros, of these sizes, into a zone.
+fn ends_sized(
+    alloc: Global,
+    case: &str,
+    sizes: (usize, usize),
+    zone: u8,
+    ending: &Ending,
+) -> Result<(), Fail> {
+    let first = vec![in alloc; 0; sizes.0]?;
+    let second = vec![in alloc; 0; sizes.1]?;
+    let commands = [
+        Command::Allocate("etc/first", 16, zone),
+        Command::Allocate("etc/second", 16, zone),
+    ];
+    let container = container_of_two(
+        alloc,
+        ("etc/first", &first),
+        ("etc/second", &second),
+        &commands,
+    )?;
+    ends(alloc, &load(case, container.as_slice()), ending)
+}
+
+fn container_of_two<'a>(
+    alloc: Global,
+    first: FileOf<'a>,
+    second: FileOf<'a>,
+    commands: &[Command],
+) -> Result<Bytes, OutOfMemory> {
+    container_of(alloc, &[first, second], commands)
+}
+
+// The script is a file as any other, and may be placed.
+#[test]
+fn a_script_that_places_itself(rt: HostRuntime) -> Result<(), Fail> {
+    places_itself(rt.alloc())
+}
+
+fn places_itself(alloc: Global) -> Result<(), Fail> {
+    let container = container_of(alloc, &[], &[Command::Allocate(SCRIPT, 16, 1)])?;
+    ends(
+        alloc,
+        &load("a script that places itself", container.as_slice()),
+        &booted(
+            "top 04000000 fill 00
+03000000 010000006574632f7461626c652d6c6f
+03000010 61646572000000000000000000000000
+03000030 00000000000000000000000010000000
+03000040 01000000000000000000000000000000
+end
+",
+        ),
+    )
+}

@@ -1,0 +1,104 @@
+//! Scripts as tables of lines.
+
+ghost use Rattle.loader_script.specs.Spelling.{CanBeWritten};
+
+use loader_script::{Entry, encode_script};
+use std::alloc::Global;
+use std::test::Fail;
+use vt_outside::{Bytes, Name, OutOfMemory};
+
+/// The zone of high memory, and the F segment.
+pub(crate) const HIGH: u8 = 1;
+
+pub(crate) const FSEG: u8 = 2;
+
+/// A command of a script, with its files as text.
+#[derive(Clone, Copy, Debug)]
+pub(crate) enum Line {
+    /// A file, its align and its zone.
+    Allocate(&'static str, u32, u8),
+    /// The file that is changed, the one that is pointed to, an offset and a size.
+    AddPointer(&'static str, &'static str, u32, u8),
+    /// A file, an offset, a start and a length.
+    AddChecksum(&'static str, u32, u32, u32),
+    /// A command's number, with zeros behind it, which are no name.
+    Number(u32),
+    /// So many commands of zeros.
+    Padding(u16),
+}
+
+/// Returns the bytes of a script.
+pub(crate) fn script_of(alloc: Global, lines: &[Line]) -> Result<Bytes, Fail> {
+    let mut script = Bytes::new(alloc);
+    for line in lines {
+        put_line(alloc, &mut script, line)?;
+    }
+    Ok(script)
+}
+
+fn put_line(alloc: Global, script: &mut Bytes, line: &Line) -> Result<(), Fail> {
+    match line {
+        Line::Number(number) => put_number(script, *number)?,
+        Line::Padding(count) => put_padding(script, *count)?,
+        Line::Allocate(file, align, zone) => {
+            let file = Name::of(file)?;
+            put_entry(alloc, script, &allocate(file, *align, *zone))?;
+        }
+        Line::AddPointer(dest, src, offset, size) => {
+            let (dest, src) = (Name::of(dest)?, Name::of(src)?);
+            put_entry(alloc, script, &add_pointer(dest, src, *offset, *size))?;
+        }
+        Line::AddChecksum(file, offset, start, length) => {
+            let file = Name::of(file)?;
+            put_entry(alloc, script, &add_checksum(file, *offset, *start, *length))?;
+        }
+    }
+    Ok(())
+}
+
+fn allocate(file: Name, align: u32, zone: u8) -> Entry
+    ensures { CanBeWritten result }
+{
+    Entry::Allocate { file, align, zone }
+}
+
+fn add_pointer(dest: Name, src: Name, offset: u32, size: u8) -> Entry
+    ensures { CanBeWritten result }
+{
+    Entry::AddPointer {
+        dest,
+        src,
+        offset,
+        size,
+    }
+}
+
+fn add_checksum(file: Name, offset: u32, start: u32, length: u32) -> Entry
+    ensures { CanBeWritten result }
+{
+    Entry::AddChecksum {
+        file,
+        offset,
+        start,
+        length,
+    }
+}
+
+fn put_entry(alloc: Global, script: &mut Bytes, entry: &Entry) -> Result<(), OutOfMemory>
+    requires { CanBeWritten entry.now }
+{
+    let bytes = encode_script(alloc, &[*entry])?;
+    script.extend(bytes.as_slice())
+}
+
+fn put_number(script: &mut Bytes, number: u32) -> Result<(), OutOfMemory> {
+    script.extend(&number.to_le_bytes())?;
+    script.extend(&[0; 124])
+}
+
+fn put_padding(script: &mut Bytes, count: u16) -> Result<(), OutOfMemory> {
+    for _ in 0..count {
+        script.extend(&[0; 128])?;
+    }
+    Ok(())
+}

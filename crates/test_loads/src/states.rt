@@ -1,0 +1,105 @@
+//! States of a world from one load to the next, and memories below other tops.
+
+ghost use Rattle.std.specs.Prelude.{IsSome};
+
+use crate::cases::{Case, FILL, Held, TOP, begin, begin_zones, ends_as, is_in, is_left, items_of};
+use crate::done::SMALL;
+use crate::scripts::HIGH;
+use crate::scripts::Line::Allocate;
+use guest_memory::GuestMemory;
+use loader_script::Cause;
+use script_load::{LoadFault, State, World};
+use std::alloc::Global;
+use std::process::Abort;
+use std::test::Fail;
+use zone_alloc::{Policy, ShelfAlloc, ZoneAlloc, zones_of};
+
+// Loads in one world, one after the other.
+const LOADS: [Case<'static>; 4] = [
+    SMALL,
+    SMALL,
+    Case {
+        script: &[
+            Allocate("etc/edge", 1, HIGH),
+            Allocate("etc/empty", 1, HIGH),
+        ],
+        answer: Err(LoadFault::Command {
+            index: 1,
+            cause: Cause::Empty,
+        }),
+        left: &[Held(0x300_0000, b"\xff\xff\xff\xfc\0\0\0\xfd")],
+    },
+    SMALL,
+];
+
+#[test]
+fn loads_in_one_world(rt: HostRuntime) -> Result<(), Fail> {
+    let mut world = World::idle();
+    is_in(&rt, &world, State::Idle);
+    let mut shelf = ShelfAlloc::new();
+    for case in &LOADS {
+        is_loaded(&rt, rt.alloc(), &mut world, &mut shelf, case)?;
+    }
+    Ok(())
+}
+
+// A load is begun, whatever the world was before, and ends as its case says.
+fn is_loaded(
+    rt: &impl Abort,
+    alloc: Global,
+    world: &mut World,
+    shelf: &mut ShelfAlloc,
+    case: &Case<'_>,
+) -> Result<(), Fail> {
+    let items = items_of(alloc, case.script)?;
+    begin_zones(alloc, shelf)?;
+    begin(alloc, world, items)?;
+    is_begun(rt, world);
+    ends_as(rt, world, shelf, case);
+    Ok(())
+}
+
+fn is_begun(rt: &impl Abort, world: &World)
+    requires { IsSome world.now }
+{
+    is_in(rt, world, State::Running);
+    is_filled(rt, world.memory(), TOP, FILL);
+}
+
+fn is_filled(rt: &impl Abort, memory: &GuestMemory, top: u32, fill: u8) {
+    assert_eq!(rt; memory.top(), top);
+    assert_eq!(rt; memory.fill(), fill);
+    is_left(rt, memory, &[]);
+}
+
+// A top, an align, and the place of a file. The second align has a multiple in high memory only below the third top.
+const TOPS: [(u32, u32, u64); 3] = [
+    (0x400_0000, 1, 0x300_0000),
+    (0xC000_0000, 1, 0xBF00_0000),
+    (0x8010_0000, 0x8000_0000, 0x8000_0000),
+];
+
+#[test]
+fn other_tops(rt: HostRuntime) -> Result<(), Fail> {
+    for (top, align, place) in TOPS {
+        is_placed(&rt, rt.alloc(), top, align, place)?;
+    }
+    Ok(())
+}
+
+fn is_placed(rt: &impl Abort, alloc: Global, top: u32, align: u32, place: u64) -> Result<(), Fail> {
+    let script = [Allocate("etc/target", align, HIGH)];
+    let items = items_of(alloc, &script)?;
+    let mut shelf = ShelfAlloc::new();
+    let mut world = World::idle();
+    assert!(rt; (0x400_0000..=0xC000_0000).contains(&top) && top % 0x10_0000 == 0);
+    shelf.begin(alloc, zones_of(top), Policy::Low)?;
+    world.begin(alloc, items, top, 0)?;
+    let case = Case {
+        script: &script,
+        answer: Ok(()),
+        left: &[Held(place, b"\xa1\xa2\xa3")],
+    };
+    ends_as(rt, &mut world, &mut shelf, &case);
+    Ok(())
+}

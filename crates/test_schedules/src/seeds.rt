@@ -1,0 +1,168 @@
+//! The events that seeds draw.
+//!
+//! They, and how many there are of each kind, were worked out by a program in Python from the definitions of PCG's XSH RR 64/32 and of
+//! `seed_from_u64` of Rust's crate `rand_pcg`. Its words for seed 0 begin with 11cdd903 and fc843fd7, which are the halves of the number
+//! 18195738587432868099 that the tests of that crate have for seed 0.
+
+use crate::giving::{are_given, none_is_left};
+use firmware_load::Event::{Device, Firmware, Other};
+use firmware_load::{Event, Schedule, SeededSchedule};
+use std::process::Abort;
+use std::test::Fail;
+
+// Its words begin with 33a70be6, 7dbcf3ee, cadf4751, 11ac71c0, and f8ffee3b with 291f2ee8 and ddacaf38 behind it.
+const OF_ONE: [Event; 10] = [
+    Device(762),
+    Device(3324),
+    Device(469),
+    Firmware,
+    Other {
+        addr: 0xF_2EE8,
+        byte: 0x38,
+    },
+    Firmware,
+    Firmware,
+    Firmware,
+    Other {
+        addr: 0x6_AAD4,
+        byte: 0x57,
+    },
+    Device(2393),
+];
+
+const OF_GREATEST: [Event; 12] = [
+    Device(1632),
+    Device(2466),
+    Firmware,
+    Device(2064),
+    Device(2355),
+    Firmware,
+    Device(2768),
+    Device(3516),
+    Device(2319),
+    Firmware,
+    Other {
+        addr: 0x4AE1,
+        byte: 0x34,
+    },
+    Device(1373),
+];
+
+// A seed whose low 32 bits are those of seed 0.
+const OF_HIGH: [Event; 4] = [
+    Device(1992),
+    Firmware,
+    Device(3538),
+    Other {
+        addr: 0x437,
+        byte: 0x1D,
+    },
+];
+
+#[test]
+fn first_events(rt: HostRuntime) -> Result<(), Fail> {
+    let mut schedule = SeededSchedule::new();
+    none_is_left(&rt, &mut schedule);
+    schedule.begin(1);
+    are_given(&rt, &mut schedule, &OF_ONE);
+    schedule.begin(0xFFFF_FFFF_FFFF_FFFF);
+    are_given(&rt, &mut schedule, &OF_GREATEST);
+    schedule.begin(0x1_0000_0000);
+    are_given(&rt, &mut schedule, &OF_HIGH);
+    schedule.begin(1);
+    are_given(&rt, &mut schedule, &OF_ONE);
+    Ok(())
+}
+
+#[test]
+fn seed_zero_has_none(rt: HostRuntime) -> Result<(), Fail> {
+    let mut schedule = SeededSchedule::new();
+    schedule.begin(0);
+    none_is_left(&rt, &mut schedule);
+    schedule.begin(1);
+    are_given(&rt, &mut schedule, &OF_ONE);
+    schedule.begin(0);
+    none_is_left(&rt, &mut schedule);
+    Ok(())
+}
+
+// How many events there are of each kind, how many bytes the pieces have in all, and the sums of the addresses and of the bytes of
+// the writes.
+#[derive(Clone, Copy, Debug, PartialEq, Eq)]
+struct Tally {
+    steps: u64,
+    pieces: u64,
+    piece_bytes: u64,
+    writes: u64,
+    addresses: u64,
+    bytes: u64,
+}
+
+#[test]
+fn all_events(rt: HostRuntime) -> Result<(), Fail> {
+    let of_one = Tally {
+        steps: 1019,
+        pieces: 2062,
+        piece_bytes: 4_285_442,
+        writes: 1015,
+        addresses: 540_685_738,
+        bytes: 132_182,
+    };
+    let of_greatest = Tally {
+        steps: 1048,
+        pieces: 2043,
+        piece_bytes: 4_165_791,
+        writes: 1005,
+        addresses: 519_717_133,
+        bytes: 131_215,
+    };
+    has_in_all(&rt, 1, &of_one);
+    has_in_all(&rt, 0xFFFF_FFFF_FFFF_FFFF, &of_greatest);
+    Ok(())
+}
+
+// A seed has 4,096 events, which are these in all.
+fn has_in_all(rt: &impl Abort, seed: u64, all: &Tally) {
+    let mut schedule = SeededSchedule::new();
+    schedule.begin(seed);
+    assert_eq!(rt; tally_of(&mut schedule, 4096), *all);
+    none_is_left(rt, &mut schedule);
+}
+
+// The next `count` events, or as many as are left, in all.
+fn tally_of(schedule: &mut SeededSchedule, count: u32) -> Tally {
+    let mut tally = Tally {
+        steps: 0,
+        pieces: 0,
+        piece_bytes: 0,
+        writes: 0,
+        addresses: 0,
+        bytes: 0,
+    };
+    for _ in 0..count {
+        if let Some(event) = schedule.next() {
+            tally = with_event(tally, event);
+        }
+    }
+    tally
+}
+
+fn with_event(tally: Tally, event: Event) -> Tally {
+    match event {
+        Firmware => Tally {
+            steps: tally.steps.saturating_add(1),
+            ..tally
+        },
+        Device(bytes) => Tally {
+            pieces: tally.pieces.saturating_add(1),
+            piece_bytes: tally.piece_bytes.saturating_add(u64::from(bytes)),
+            ..tally
+        },
+        Other { addr, byte } => Tally {
+            writes: tally.writes.saturating_add(1),
+            addresses: tally.addresses.saturating_add(addr),
+            bytes: tally.bytes.saturating_add(u64::from(byte)),
+            ..tally
+        },
+    }
+}

@@ -1,0 +1,230 @@
+-- A machine's image that was loaded is a machine that is booted.
+use Rattle.std.proofs.Common.{◌≡◌, ℕ, ◌≤◌, List, [], ◌++◌, map, Some, Result, Ok, Err, IfOk, IfErr, OnOk, inr}
+use Rattle.std.proofs.Common.{refl, ap, sym, subst, ◌∙◌, append-nil}
+use Rattle.std.specs.List.{flat_map}
+use Rattle.vt_outside.specs.Placement.{Range, IsFree}
+use Rattle.vt_bytes.specs.Memory.{Memory, IsRam, at}
+use Rattle.machine_desc.specs.declared.machine.Machine.{Machine}
+use Rattle.desc_toml.specs.Reading.{Reads}
+use Rattle.loader_script.specs.declared.entry.Entry.{Entry}
+use Rattle.loader_script.specs.Run.{Placed, Progress, End, Done, Command, NoRoom, place_of, run}
+use Rattle.loader_script.specs.Left.{IsLeft}
+use Rattle.cfg_directory.specs.declared.item.Item.{Item}
+use Rattle.image_files.specs.Items.{files_of}
+use Rattle.image_files.specs.Script.{allocation, linking}
+use Rattle.image_files.specs.Places.{ArePlaces}
+use Rattle.image_files.specs.Linked.{AreLinked}
+use Rattle.vm_image.specs.Image.{image_files, image_script, image_items}
+use Rattle.vm_image.specs.Promised.{top_of}
+use Rattle.vm_image.specs.Built.{IsBuilt}
+use Rattle.zone_alloc.specs.declared.alloc.Request.{Request}
+use Rattle.zone_alloc.specs.declared.policy.Policy.{Policy}
+use Rattle.zone_alloc.specs.declared.zones.Zones.{Zones}
+use Rattle.zone_alloc.specs.Places.{range_in}
+use Rattle.cfg_directory.specs.Items.{total_size}
+use Rattle.image_files.specs.Items.{image_limit}
+use Rattle.script_load.specs.Allocators.{AreZonesOf}
+use Rattle.script_load.specs.declared.fault.LoadFault.{LoadFault}
+use Rattle.script_load.specs.declared.fault.LoadFault.TheVariants as load
+use Rattle.script_load.specs.Loads.{IsLoaded}
+use Rattle.script_load.specs.Runs.{Answers, EndsWith, IsRun, at_files, result_of}
+use Rattle.script_load.specs.Script.{script_in}
+use Rattle.script_load.specs.World.{Begun, IsBegun}
+use Rattle.script_load.proofs.PlainRuns.{places_of_placed, starts, RunsMore, runs_more}
+use Rattle.vmtables.specs.Boot.{IsBooted, BootMakes}
+use Rattle.vmtables.specs.Calls.{Answering, Seen}
+use Rattle.vmtables.specs.Loading.{IsImageLoaded, IsRefusedFree, FailsToLoad}
+use Rattle.vmtables.specs.declared.fault.Fault.{Fault}
+use Rattle.vmtables.specs.declared.fault.Fault.TheVariants as fault
+use Rattle.vmtables.proofs.ImageRuns.{Extends, GivesFree, all_link, extends}
+use Rattle.vmtables.proofs.PlacesMore.{room_from}
+use Rattle.vmtables.proofs.ScriptRead.{script_read}
+
+-- how far a run is in which two are the same
+abbrev ending : End → Progress → End × Progress
+ending end p = (end, p)
+
+its_progress : (a b : End) (p q : Progress) → ending a p ≡ ending b q → p ≡ q
+its_progress a b p q is = ap (λ (e : End × Progress). e.1) is
+
+-- the script is that which places the files and links them
+script_split : (m : Machine) {May : Answers} {end : End} {placed : List Placed} → EndsWith May (files_of (image_items m)) 0 (image_script m) [] end placed
+    → EndsWith May (files_of (image_items m)) 0 (flat_map allocation (image_files m) ++ linking (image_files m)) [] end placed
+script_split m {May = May} {end = end} {placed = placed} =
+    subst (λ those. EndsWith May (files_of (image_items m)) 0 those [] end placed)
+    (append-nil (flat_map allocation (image_files m) ++ linking (image_files m)))
+
+-- a run that isn't without room isn't refused, and its places are lawful
+pub record IsLawfulRun (m : Machine) (places : List ℕ) (end : End) (placed : List Placed) : Type 0 where
+  pub done : end ≡ Done
+  pub lawful : ArePlaces (top_of m) [] (image_files m) places
+  pub linked : AreLinked (place_of placed) (image_files m) places placed
+
+extended_of : (m : Machine) (items : List Item) (script : List Entry) (built : IsBuilt m items script) (May : Answers) (end : End) (placed : List Placed)
+    → GivesFree May (top_of m) → EndsWith May (files_of (image_items m)) 0 (image_script m) [] end placed
+    → Extends May (top_of m) [] (image_files m) [] placed end
+extended_of m items script built May end placed free ends =
+    extends May (top_of m) (files_of (image_items m)) (linking (image_files m)) (all_link (image_files m)) free (image_files m) [] 0 [] end placed
+    (rw built.items_are at built.there) refl (room_from (top_of m) (image_files m) built.room) (script_split m ends)
+
+lawful_so : (m : Machine) (items : List Item) (script : List Entry) (built : IsBuilt m items script) (May : Answers) (end : End) (placed : List Placed)
+    → GivesFree May (top_of m) → EndsWith May (files_of (image_items m)) 0 (image_script m) [] end placed
+    → ((at : ℕ) → end ≡ NoRoom at → ⊥) → IsLawfulRun m (places_of_placed placed) end placed
+lawful_so m items script built May end placed free ends room =
+    let extended : Extends May (top_of m) [] (image_files m) [] placed end = extended_of m items script built May end placed free ends in
+    let more : RunsMore (files_of (image_items m)) 0 (image_script m) [] end placed = runs_more ends room in
+    let same : more.places ≡ extended.given = sym more.given ∙ extended.stand in
+    let loaded = built.loaded (extended.given ++ extended.extra) extended.lawful in
+    let both : ending end (at_files (files_of (image_items m)) placed extended.extra) ≡ ending Done (at_files (files_of (image_items m)) loaded.0 []) =
+    sym (more.ends extended.extra) ∙ ap (λ ps. run (files_of (image_items m)) (image_script m) (ps ++ extended.extra)) same ∙ loaded.2 in
+    let left = its_progress end Done _ _ both in
+    let none : extended.extra ≡ [] = ap (λ (p : Progress). p.places) left in
+    let files : placed ≡ loaded.0 = ap (λ (p : Progress). p.placed) left in
+    let given : extended.given ++ extended.extra ≡ places_of_placed placed =
+    ap (λ ps. extended.given ++ ps) none ∙ append-nil extended.given ∙ sym extended.stand in
+    record {
+      done = ap (λ (e : End × Progress). e.0) both;
+      lawful = subst (ArePlaces (top_of m) [] (image_files m)) given extended.lawful;
+      linked = subst (λ ps. AreLinked (place_of placed) (image_files m) ps placed) given
+          (subst (λ fs. AreLinked (place_of fs) (image_files m) (extended.given ++ extended.extra) fs) (sym files) loaded.1);
+    }
+
+-- what is left in a memory that was filled
+left_filled : (begun world : Begun) (items : List Item) (top fill : ℕ) (placed : List Placed) → IsBegun begun items top fill
+    → world.memory.top ≡ begun.memory.top → IsLeft world.memory placed (at begun.memory) → IsLeft world.memory placed (λ _. fill)
+left_filled begun world items top fill placed was same left = record {
+  files = left.files;
+  others = λ address ram outside. left.others address ram outside
+      ∙ was.filled address (subst (λ t. IsRam t address) same ram) ∙ was.fill;
+}
+
+-- places that are given are free
+abbrev pub AllFree : Answering → Type 0
+AllFree Gives = (zones : Zones) (policy : Policy) (handed : List Range) (request : Request) (place : ℕ) → Gives zones policy handed request (Some place)
+    → IsFree (range_in zones request.zone) handed request.size request.align place
+
+gives_free : (Gives : Answering) (zones : Zones) (policy : Policy) (top : ℕ) → AllFree Gives → AreZonesOf top zones → GivesFree (Gives zones policy) top
+gives_free Gives zones policy top free are handed request place may =
+    subst (λ (zone : Range). IsFree zone handed request.size request.align place) (are request.zone) (free zones policy handed request place may)
+
+-- the run of a load whose script is read
+run_of : (m : Machine) (May : Answers) (handed : List Range) (before after : Memory) (answer : Result (Unit {0}) LoadFault)
+    → script_in (image_items m) ≡ Ok (image_script m)
+    → IfOk (script_in (image_items m)) (λ script. IsLoaded May (files_of (image_items m)) script handed before after answer)
+    → IsLoaded May (files_of (image_items m)) (image_script m) handed before after answer
+run_of m May handed before after answer script loaded =
+    subst (λ read. IfOk read (λ those. IsLoaded May (files_of (image_items m)) those handed before after answer)) script loaded
+
+-- how a run ends whose load answered so
+ended_done : (end : End) → Ok tt ≡ result_of end → end ≡ Done
+ended_done Done is = refl
+ended_done (Command index cause) is = absurd (cc)
+ended_done (NoRoom index) is = absurd (cc)
+
+has_room : (end : End) → end ≡ Done → (at : ℕ) → end ≡ NoRoom at → ⊥
+has_room end is at without = absurd (cc)
+
+-- the image's load is done: its machine is booted
+pub booted : (Gives : Answering) (fill : ℕ) (bytes : List ℕ) (m : Machine) (items : List Item) (script : List Entry) (before after : Seen)
+    → AllFree Gives → Reads bytes m → IsBuilt m items script → script_in (image_items m) ≡ Ok (image_script m)
+    → IsImageLoaded Gives (image_items m) (top_of m) fill (Ok tt) before after → IsBooted Gives fill bytes before after
+booted Gives fill bytes m items script before after free read built script_read loaded =
+    let May : Answers = Gives after.place.zones after.place.policy in
+    let at_load = rw loaded.was_begun.items at loaded.load.loaded in
+    let run : IsLoaded May (files_of (image_items m)) (image_script m) after.place.handed loaded.begun.memory loaded.world.memory (Ok tt) =
+    run_of m May after.place.handed loaded.begun.memory loaded.world.memory (Ok tt) script_read at_load in
+    let done : run.end ≡ Done = ended_done run.end run.answered in
+    let is : IsLawfulRun m (places_of_placed run.placed) run.end run.placed =
+    lawful_so m items script built May run.end run.placed (gives_free Gives after.place.zones after.place.policy (top_of m) free loaded.zones)
+    run.ran.answered (has_room run.end done) in
+    let places : map (λ (r : Range). r.start) after.place.handed ≡ places_of_placed run.placed =
+    ap (map (λ (r : Range). r.start)) run.ran.handed_are ∙ starts run.placed in
+    let left : IsLeft loaded.world.memory run.placed (λ _. fill) =
+    left_filled loaded.begun loaded.world (image_items m) (top_of m) fill run.placed loaded.was_begun loaded.load.top run.left in
+    let filled : loaded.world.memory.fill ≡ fill = loaded.load.fill ∙ loaded.was_begun.fill in
+    let topped : loaded.world.memory.top ≡ top_of m = loaded.load.top ∙ loaded.was_begun.top in
+    record {
+      machine = m;
+      read = read;
+      small = subst (λ those. total_size those ≤ image_limit) built.items_are built.small;
+      loaded = loaded;
+      script = script_read;
+      placed = run.placed;
+      ran = subst (λ end. IsRun May (files_of (image_items m)) (image_script m) after.place.handed end run.placed) done run.ran;
+      lawful = subst (ArePlaces (top_of m) [] (image_files m)) (sym places) is.lawful;
+      left = left;
+      shown = built.shown (places_of_placed run.placed) run.placed loaded.world.memory is.lawful is.linked topped
+          (subst (λ byte. IsLeft loaded.world.memory run.placed (λ _. byte)) (sym filled) left);
+    }
+
+-- a load that ended with a fault: no command is refused, and there is a script, so that it is for want of room
+pub data EndsSo (May : Answers) (top : ℕ) (why : LoadFault) : Type 0 where
+  room : (index : ℕ) → why ≡ load.NoRoom index → IsRefusedFree May top → EndsSo May top why
+
+-- a load that answered with a fault
+abbrev ended_with : LoadFault → Result (Unit {0}) LoadFault
+ended_with why = Err why
+
+same_fault : (a b : LoadFault) → ended_with a ≡ ended_with b → a ≡ b
+same_fault a b is = cc
+
+room_of : (May : Answers) (top : ℕ) (end : End) (why : LoadFault) → ended_with why ≡ result_of end → (((at : ℕ) → end ≡ NoRoom at → ⊥) → end ≡ Done)
+    → ((at : ℕ) → end ≡ NoRoom at → IsRefusedFree May top) → EndsSo May top why
+room_of May top Done why is lawful refused = absurd (cc)
+room_of May top (Command index cause) why is lawful refused =
+    let done : Command index cause ≡ Done = lawful (λ at without. absurd (cc)) in
+    absurd (cc)
+room_of May top (NoRoom index) why is lawful refused = room index (same_fault why (load.NoRoom index) is) (refused index refl)
+
+pub fails_for_room : (Gives : Answering) (fill : ℕ) (m : Machine) (items : List Item) (script : List Entry) (why : LoadFault) (before after : Seen)
+    → AllFree Gives → IsBuilt m items script → script_in (image_items m) ≡ Ok (image_script m)
+    → IsImageLoaded Gives (image_items m) (top_of m) fill (Err why) before after
+    → EndsSo (Gives after.place.zones after.place.policy) (top_of m) why
+fails_for_room Gives fill m items script why before after free built script_read loaded =
+    let May : Answers = Gives after.place.zones after.place.policy in
+    let at_load = rw loaded.was_begun.items at loaded.load.loaded in
+    let run : IsLoaded May (files_of (image_items m)) (image_script m) after.place.handed loaded.begun.memory loaded.world.memory (Err why) =
+    run_of m May after.place.handed loaded.begun.memory loaded.world.memory (Err why) script_read at_load in
+    let frees : GivesFree May (top_of m) = gives_free Gives after.place.zones after.place.policy (top_of m) free loaded.zones in
+    room_of May (top_of m) run.end why run.answered
+    (λ room. (lawful_so m items script built May run.end run.placed frees run.ran.answered room).done)
+    (extended_of m items script built May run.end run.placed frees run.ran.answered).no_room
+
+-- what `boot` makes of a machine whose image failed to load
+pub boot_failed : (Gives : Answering) (fill : ℕ) (bytes : List ℕ) (m : Machine) (items : List Item) (script : List Entry) (f : Fault) (before after : Seen)
+    → AllFree Gives → Reads bytes m → IsBuilt m items script → script_in (image_items m) ≡ Ok (image_script m)
+    → FailsToLoad Gives (image_items m) (top_of m) fill before after f → BootMakes Gives fill bytes before after (Err f)
+boot_failed Gives fill bytes m items script (fault.Load why) before after free read built decoded failed =
+    elim (fails_for_room Gives fill m items script why before after free built decoded failed) as
+    (λ _. BootMakes Gives fill bytes before after (Err (fault.Load why))) [
+      | room index is refusal ↦
+          subst (λ w. BootMakes Gives fill bytes before after (Err (fault.Load w))) (sym is)
+          (m, read, subst (λ w. IsImageLoaded Gives (image_items m) (top_of m) fill (Err w) before after) is failed, refusal)
+    ]
+boot_failed Gives fill bytes m items script fault.OutOfMemory before after free read built decoded failed = inr (m, read, failed)
+boot_failed Gives fill bytes m items script (fault.Description refused) before after free read built decoded failed = absurd failed
+boot_failed Gives fill bytes m items script (fault.Container refused) before after free read built decoded failed = absurd failed
+boot_failed Gives fill bytes m items script fault.ImageTooLarge before after free read built decoded failed = absurd failed
+boot_failed Gives fill bytes m items script fault.ReadFault before after free read built decoded failed = absurd failed
+boot_failed Gives fill bytes m items script fault.Usage before after free read built decoded failed = absurd failed
+boot_failed Gives fill bytes m items script fault.WriteFault before after free read built decoded failed = absurd failed
+boot_failed Gives fill bytes m items script fault.InputTooLong before after free read built decoded failed = absurd failed
+
+-- both of the answer of a load
+pub booted_so : (Gives : Answering) (fill : ℕ) (m : Machine) (items : List Item) (script : List Entry) (before after : Seen)
+    (r : Result (Unit {0}) Fault) → AllFree Gives → IsBuilt m items script
+    → OnOk r (IsImageLoaded Gives items (top_of m) fill (Ok tt) before after)
+    → OnOk r ((bytes : List ℕ) → Reads bytes m → IsBooted Gives fill bytes before after)
+booted_so Gives fill m items script before after (Ok done) free built loaded = λ bytes read.
+    booted Gives fill bytes m items script before after free read built (script_read m items script built)
+    (subst (λ those. IsImageLoaded Gives those (top_of m) fill (Ok tt) before after) built.items_are loaded)
+booted_so Gives fill m items script before after (Err f) free built loaded = tt
+
+pub failed_to_boot : (Gives : Answering) (fill : ℕ) (m : Machine) (items : List Item) (script : List Entry) (before after : Seen)
+    (r : Result (Unit {0}) Fault) → AllFree Gives → IsBuilt m items script
+    → IfErr r (FailsToLoad Gives items (top_of m) fill before after)
+    → IfErr r (λ f. (bytes : List ℕ) → Reads bytes m → BootMakes Gives fill bytes before after (Err f))
+failed_to_boot Gives fill m items script before after (Ok done) free built failed = tt
+failed_to_boot Gives fill m items script before after (Err f) free built failed = λ bytes read.
+    boot_failed Gives fill bytes m items script f before after free read built (script_read m items script built)
+    (subst (λ those. FailsToLoad Gives those (top_of m) fill before after f) built.items_are failed)

@@ -1,0 +1,181 @@
+-- The run of an image's script, whose files are placed and linked.
+use Rattle.std.proofs.Common.{◌≡◌, ℕ, suc, ◌+◌, inl, inr, List, [], ◌∷◌, ◌++◌, length, map, Option, Some, None, refl, ap, ap₂, sym, subst, ◌∙◌}
+use Rattle.std.proofs.Common.{append_assoc, append-nil}
+use Rattle.std.proofs.lemmas.List.{map_push}
+use Rattle.std.proofs.lemmas.Option.{none-some}
+use Rattle.std.specs.List.{AllByRecursion, flat_map}
+use Rattle.std.specs.Option.{option_map_or}
+use Rattle.vt_outside.specs.Placement.{Range, IsFree}
+use Rattle.vt_bytes.proofs.Each.{each_append, each_map}
+use Rattle.loader_script.specs.declared.entry.Entry.{Entry}
+use Rattle.loader_script.specs.declared.entry.Entry.TheVariants.{Allocate, AddPointer, AddChecksum}
+use Rattle.loader_script.specs.Run.{File, Placed, Progress, End, Done, Command, NoRoom, bytes_of, cause_of, carried_out}
+use Rattle.loader_script.specs.Left.{range_of}
+use Rattle.image_files.specs.declared.file.Placing.{Placing}
+use Rattle.zone_alloc.specs.declared.alloc.Request.{Request}
+use Rattle.zone_alloc.specs.declared.zone.Zone.{Zone}
+use Rattle.zone_alloc.specs.declared.zone.Zone.TheVariants.{High, Fseg}
+use Rattle.zone_alloc.specs.Zones.{zone_range, zone_numbered, number_of_zone}
+use Rattle.image_files.specs.Files.{ImageFile, by_name}
+use Rattle.image_files.specs.Script.{allocation, add_pointer, add_pointers, add_checksum, add_checksums, linking}
+use Rattle.image_files.specs.Places.{range_at, MayStand, ArePlaces}
+use Rattle.image_files.specs.Linked.{BeginsWith}
+use Rattle.image_files.proofs.InTurn.{each_flat_map}
+use Rattle.script_load.specs.Runs.{Answers, EndsWith, done, refused, without_room, allocated, carried, placed_at, request_of}
+use Rattle.script_load.proofs.PlainRuns.{places_of_placed, carried_any}
+use Rattle.vmtables.specs.Loading.{IsRefusedFree}
+use Rattle.vmtables.proofs.PlacesMore.{AfterPlacing, RoomFrom, RoomBy, known, some_places}
+
+-- a command that links files
+abbrev pub Links : Entry → Type 0
+Links (AddPointer dest src offset size) = Unit {0}
+Links (AddChecksum file offset start count) = Unit {0}
+Links other = ⊥
+
+-- the commands that link files are such
+each_file : (commands : ImageFile → List Entry) → ((file : ImageFile) → AllByRecursion Links (commands file)) → (files : List ImageFile)
+    → AllByRecursion (λ file. AllByRecursion Links (commands file)) files
+each_file commands link [] = tt
+each_file commands link (file ∷ files) = (link file, each_file commands link files)
+
+pub all_link : (files : List ImageFile) → AllByRecursion Links (linking files)
+all_link files =
+    each_append Links (flat_map add_pointers (by_name files)) (flat_map add_checksums files)
+    (each_flat_map Links add_pointers (by_name files)
+    (each_file add_pointers (λ file. each_map Links (add_pointer file.name) (λ hole. tt) file.blob.pointers) (by_name files)))
+    (each_flat_map Links add_checksums files
+    (each_file add_checksums (λ file. each_map Links (add_checksum file.name) (λ hole. tt) file.blob.sums) files))
+
+-- the zone of an Allocate is the file's
+same_zone : (zone : Zone) → zone_numbered (number_of_zone zone) ≡ zone
+same_zone High = refl
+same_zone Fseg = refl
+
+-- the commands that place a file and those after it, by how it is placed
+abbrev placing_commands : ImageFile → Option Placing → List Entry
+placing_commands file placing = option_map_or (λ (p : Placing). Allocate file.name p.align (number_of_zone p.zone) ∷ []) placing []
+
+-- a run of commands that link files places none, and has room
+pub record LinksOnly (placed final : List Placed) (end : End) : Type 0 where
+  pub stand : places_of_placed final ≡ places_of_placed placed
+  pub room : (at : ℕ) → end ≡ NoRoom at → ⊥
+
+links_only : {May : Answers} {files : List File} {index : ℕ} {script : List Entry} {placed : List Placed} {end : End} {final : List Placed}
+    → EndsWith May files index script placed end final → AllByRecursion Links script → LinksOnly placed final end
+links_only done all = record { stand = refl; room = λ at is. cc }
+links_only (refused is) all = record { stand = refl; room = λ at is. cc }
+links_only (without_room none may) all = absurd all.0
+links_only (allocated place none may rest) all = absurd all.0
+links_only {files = files} {placed = placed} (carried {entry = entry} {next = next} none goes rest) all =
+    let later = links_only rest all.1 in
+    record { stand = later.stand ∙ (carried_any entry files placed next [] goes).stand; room = later.room }
+
+-- The places that files were given up to the end of a run can be followed by others so that all are lawful, and the run finds no room
+-- only where a request was refused though a place is free.
+pub record Extends (May : Answers) (top : ℕ) (handed : List Range) (files : List ImageFile) (placed final : List Placed) (end : End) : Type 0 where
+  pub given : List ℕ
+  pub extra : List ℕ
+  pub stand : places_of_placed final ≡ places_of_placed placed ++ given
+  pub lawful : ArePlaces top handed files (given ++ extra)
+  pub no_room : (at : ℕ) → end ≡ NoRoom at → IsRefusedFree May top
+
+-- places that an allocator gives are free
+abbrev pub GivesFree : Answers → ℕ → Type 0
+GivesFree May top = (handed : List Range) (request : Request) (place : ℕ) → May handed request (Some place)
+    → IsFree (zone_range top request.zone) handed request.size request.align place
+
+-- what an Allocate of a file asks for is the file's
+its_request : (loaded : List File) (file : ImageFile) (placing : Placing)
+    → option_map_or (λ (f : File). f.bytes) (Rattle.loader_script.specs.Run.file_of loaded file.name) [] ≡ file.blob.bytes
+    → request_of loaded file.name placing.align (number_of_zone placing.zone)
+    ≡ record { zone = placing.zone; size = length file.blob.bytes; align = placing.align }
+its_request loaded file placing bytes =
+    ap₂ (λ zone (bs : List ℕ). record { zone = zone; size = length bs; align = placing.align }) (same_zone placing.zone) bytes
+
+module _ (May : Answers) (top : ℕ) (loaded : List File) (commands : List Entry) (links : AllByRecursion Links commands) (free : GivesFree May top) where
+  -- one file that is placed, and those behind it
+  extends_one : {index : ℕ} {placed : List Placed} {end : End} {final : List Placed} (file : ImageFile) (files : List ImageFile)
+      (placing : Placing) (handed : List Range) → file.placing ≡ Some placing → bytes_of loaded file.name ≡ file.blob.bytes
+      → map range_of placed ≡ handed
+      → RoomFrom top handed (file ∷ files)
+      → ((place index : ℕ) → map range_of (placed ++ placed_at loaded file.name place ∷ []) ≡ handed ++ range_at file place ∷ []
+      → RoomFrom top (handed ++ range_at file place ∷ []) files
+      → EndsWith May loaded index (flat_map allocation files ++ commands) (placed ++ placed_at loaded file.name place ∷ []) end final
+      → Extends May top (handed ++ range_at file place ∷ []) files (placed ++ placed_at loaded file.name place ∷ []) final end)
+      → EndsWith May loaded index (Allocate file.name placing.align (number_of_zone placing.zone) ∷ flat_map allocation files ++ commands) placed end final
+      → Extends May top handed (file ∷ files) placed final end
+  unfolding carried_out
+  extends_one {placed = placed} file files placing handed is bytes ranges room later (refused stops) =
+      let some = some_places top handed (file ∷ files) room in
+      record { given = []; extra = some.0; stand = sym (append-nil (places_of_placed placed)); lawful = some.1; no_room = λ at ends. absurd (cc) }
+  extends_one {placed = placed} file files placing handed is bytes ranges room later (without_room none may) =
+      let some = some_places top handed (file ∷ files) room in
+      let (a_place, others) = subst (RoomBy top handed file files) is room in
+      record {
+        given = [];
+        extra = some.0;
+        stand = sym (append-nil (places_of_placed placed));
+        lawful = some.1;
+        no_room = λ at ends. record {
+          handed = handed;
+          request = record { zone = placing.zone; size = length file.blob.bytes; align = placing.align };
+          refusal = subst (λ h. May h (record { zone = placing.zone; size = length file.blob.bytes; align = placing.align }) None) ranges
+              (subst (λ r. May (map range_of placed) r None) (its_request loaded file placing bytes) may);
+          place = a_place.0;
+          free = a_place.1;
+        };
+      }
+  extends_one {index = index} {placed = placed} file files placing handed is bytes ranges room later (allocated place none may rest) =
+      let (a_place, others) = subst (RoomBy top handed file files) is room in
+      let stands : MayStand top handed file placing place =
+      subst (λ h. IsFree (zone_range top placing.zone) h (length file.blob.bytes) placing.align place) ranges
+      (free (map range_of placed) (record { zone = placing.zone; size = length file.blob.bytes; align = placing.align }) place
+      (subst (λ r. May (map range_of placed) r (Some place)) (its_request loaded file placing bytes) may)) in
+      let more : map range_of (placed ++ placed_at loaded file.name place ∷ []) ≡ handed ++ range_at file place ∷ [] =
+      map_push range_of placed (placed_at loaded file.name place)
+      ∙ ap₂ (λ (rs : List Range) (bs : List ℕ). rs ++ record { start = place; end = place + length bs } ∷ []) ranges bytes in
+      let on = later place (suc index) more (others place stands) rest in
+      record {
+        given = place ∷ on.given;
+        extra = on.extra;
+        stand = on.stand ∙ ap (λ ps. ps ++ on.given) (map_push (λ (p : Placed). p.place) placed (placed_at loaded file.name place))
+            ∙ append_assoc (places_of_placed placed) (place ∷ []) on.given;
+        lawful = subst (AfterPlacing top handed file files (place ∷ on.given ++ on.extra)) (sym is)
+            (place, on.given ++ on.extra, refl, stands, on.lawful);
+        no_room = on.no_room;
+      }
+  extends_one file files placing handed is bytes ranges room later (carried none goes rest) = absurd (none-some _ goes)
+
+  pub extends : (files : List ImageFile) (handed : List Range) (index : ℕ) (placed : List Placed) (end : End) (final : List Placed)
+      → BeginsWith loaded files → map range_of placed ≡ handed → RoomFrom top handed files
+      → EndsWith May loaded index (flat_map allocation files ++ commands) placed end final → Extends May top handed files placed final end
+  extends [] handed index placed end final begins ranges room ends =
+      let only = links_only ends links in
+      record {
+        given = [];
+        extra = [];
+        stand = only.stand ∙ sym (append-nil (places_of_placed placed));
+        lawful = refl;
+        no_room = λ at is. absurd (only.room at is);
+      }
+  extends (file ∷ files) handed index placed end final begins ranges room ends =
+      elim (known file.placing) as (λ _. Extends May top handed (file ∷ files) placed final end) [
+        | inl is ↦
+            let on = extends files handed index placed end final begins.1 ranges (subst (RoomBy top handed file files) is room)
+            (subst (λ front. EndsWith May loaded index ((front ++ flat_map allocation files) ++ commands) placed end final)
+            (ap (placing_commands file) is) ends) in
+            record {
+              given = on.given;
+              extra = on.extra;
+              stand = on.stand;
+              lawful = subst (AfterPlacing top handed file files (on.given ++ on.extra)) (sym is) on.lawful;
+              no_room = on.no_room;
+            }
+        | inr (placing, is) ↦
+            let bytes : bytes_of loaded file.name ≡ file.blob.bytes = ap (λ found. option_map_or (λ (f : File). f.bytes) found []) begins.0 in
+            extends_one file files placing handed is bytes ranges room
+            (λ place at more still rest. extends files (handed ++ range_at file place ∷ []) at (placed ++ placed_at loaded file.name place ∷ []) end final
+            begins.1 more still rest)
+            (subst (λ front. EndsWith May loaded index ((front ++ flat_map allocation files) ++ commands) placed end final)
+            (ap (placing_commands file) is) ends)
+      ]

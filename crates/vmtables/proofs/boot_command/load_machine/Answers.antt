@@ -1,0 +1,12 @@
+use Rattle.script_load.specs.Allocators.{MayAnswer}
+use Rattle.desc_toml.proofs.OneMachine.{read_accepted}
+use Rattle.vmtables.proofs.Refused.{description_failed}
+use Rattle.vmtables.proofs.boot_command.load_machine.Goals as goal
+
+pub load_image-requires : goal.load_image-requires
+load_image-requires g c = read_accepted c.args.description.now c.in_ok-machine.machine c.in_ok-machine.ensures
+
+pub returns-in_err-machine-clause-err : goal.returns-in_err-machine-clause-err
+returns-in_err-machine-clause-err g c =
+    description_failed (MayAnswer g.A.ZoneAlloc.handed g.A.ZoneAlloc.zones g.A.ZoneAlloc.policy g.A.ZoneAlloc.gives) c.args.fill
+    c.args.description.now _ c.in_err-machine.field-0.0 c.from_residual.result c.in_err-machine.ensures c.from_residual.ensures.1

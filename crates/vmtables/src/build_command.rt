@@ -1,0 +1,55 @@
+ghost use Rattle.std.specs.Prelude.{◌≡◌, ◌≢◌, ℕ, List, Err, IfErr, IfOk};
+ghost use Rattle.machine_desc.specs.Rules.{IsAccepted};
+ghost use Rattle.desc_toml.specs.Reading.{Reads};
+ghost use Rattle.vmtables.specs.Build.{IsImage, BuildMakes, CannotBeBuilt};
+ghost use Rattle.vmtables.specs.Calls.{ReadsAll, Ran, Seen, Streams};
+ghost use Rattle.vmtables.specs.Outcome.{status_of};
+
+use crate::fault::Fault;
+use crate::input::read_to_end;
+use crate::writing::write_text;
+use cfg_directory::write_image;
+use desc_toml::read_machine;
+use machine_desc::Machine as Described;
+use std::alloc::Global;
+use vm_image::image_of;
+use vt_outside::{Bytes, Sink, Source};
+
+/// Reads a description, and writes the container of its machine's files.
+pub(crate) fn build<S: Source, K: Sink>(
+    alloc: Global,
+    source: &mut S,
+    out: &mut K,
+) -> Result<(), Fault>
+    ensures ran { (seen : Seen) → Ran (ReadsAll BuildMakes seen seen) result
+        (S.left source.old) (S.left source.new) (K.taken out.old) (K.taken out.new) }
+    ensures known { result ≢ Err Fault.Usage }
+    ensures streams { Streams (status_of result)
+        (record { left = S.left source.old; faults = S.faults source.old })
+        (record { left = S.left source.new; faults = S.faults source.new })
+        (record { taken = K.taken out.old; flushed = K.flushed out.old; faults = K.faults out.old })
+        (record { taken = K.taken out.new; flushed = K.flushed out.new; faults = K.faults out.new }) }
+{
+    let bytes = read_to_end(alloc, source)?;
+    let text = container_of(alloc, bytes.as_slice())?;
+    write_text(text.as_slice(), out)
+}
+
+// The container of the files of the machine that a description describes.
+fn container_of(alloc: Global, description: &[u8]) -> Result<Bytes, Fault>
+    ensures ok { IfOk result (λ text. IsImage description.now text) }
+    ensures err { IfErr result (CannotBeBuilt description.now) }
+{
+    let machine = read_machine(alloc, description)?;
+    image_container(alloc, &machine)
+}
+
+// The container of the files of a machine that is read from these bytes.
+fn image_container(alloc: Global, machine: &Described) -> Result<Bytes, Fault>
+    requires { IsAccepted machine.now }
+    ensures ok { IfOk result (λ text. (bytes : List ℕ) → Reads bytes machine.now → IsImage bytes text) }
+    ensures err { IfErr result (λ fault. (bytes : List ℕ) → Reads bytes machine.now → CannotBeBuilt bytes fault) }
+{
+    let image = image_of(alloc, machine, 0)?;
+    Ok(write_image(alloc, &image.items)?)
+}

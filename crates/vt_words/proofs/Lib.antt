@@ -1,0 +1,6 @@
+pub mod Decimals
+pub mod Steps
+pub mod Orders
+pub mod Lawful
+pub mod Spelled
+pub mod Once

@@ -1,0 +1,25 @@
+//! The words of the command line, and the command that they are.
+//!
+//! The first word names a command. Behind it stand the command's options, in any order and each at most once, as two words: the
+//! option's name and its value. An option that isn't there has its default.
+//!
+//! | command | options |
+//! |---|---|
+//! | `build` | |
+//! | `boot` | `--fill` |
+//! | `load` | `--fill`, `--top` |
+//!
+//! | option | its values | default |
+//! |---|---|---|
+//! | `--fill` | a byte: two hexadecimal digits, of which letters are lower-case | `00` |
+//! | `--top` | a number of MiB from 64 to 3072: decimal digits, with no sign and no zero in front | `64` |
+//!
+//! `read_words` gives the command exactly where the words are one. The order of options doesn't matter, which a law says.
+#![tactic(auto)]
+
+mod command;
+pub mod laws;
+mod numbers;
+mod options;
+
+pub use command::{Command, read_words};

@@ -1,0 +1,116 @@
+"""The memory of a guest as a dump spells it, and the ACPI tables in it: what the judges that read dumps share."""
+
+import re
+
+HEADER = re.compile(rb"top ([0-9a-f]{8}) fill ([0-9a-f]{2})")
+ROW = re.compile(rb"([0-9a-f]{8}) ([0-9a-f]{32})")
+
+LOWER_WINDOW = [(0x00000, 0xA0000), (0xE0000, 0x100000)]
+UPPER_WINDOW_SIZE = 32 << 20
+
+
+class NotADump(Exception):
+    pass
+
+
+class NotFound(Exception):
+    pass
+
+
+class Memory:
+    """A guest's memory: its RAM, the byte that fills it, and the rows of 16 bytes that are otherwise."""
+
+    def __init__(self, top, fill):
+        self.top = top
+        self.ram = [*LOWER_WINDOW, (top - UPPER_WINDOW_SIZE, top)]
+        self.fill = bytes([fill]) * 16
+        self.rows = {}
+
+    def is_ram(self, start, end):
+        return any(low <= start and end <= high for low, high in self.ram)
+
+    def read(self, start, size, what):
+        end = start + size
+        if not self.is_ram(start, end):
+            raise NotFound(f"{what}: {size} bytes at {start:#x} aren't all in memory")
+        first = start // 16 * 16
+        found = b"".join(self.rows.get(row, self.fill) for row in range(first, end, 16))
+        return found[start - first : end - first]
+
+    def find(self, anchor, start, end):
+        """Returns the least multiple of 16 in the range at which the anchor's letters stand."""
+        for row in range(start, end, 16):
+            if self.rows.get(row, self.fill).startswith(anchor):
+                return row
+        return None
+
+
+def read_dump(text):
+    lines = text.split(b"\n")
+    if len(lines) < 3 or lines[-1] != b"":
+        raise NotADump("it isn't lines that each end in a line feed, the first 'top XXXXXXXX fill XX' and the last 'end'")
+    header = HEADER.fullmatch(lines[0])
+    if header is None:
+        raise NotADump("line 1 isn't 'top XXXXXXXX fill XX'")
+    if lines[-2] != b"end":
+        raise NotADump(f"line {len(lines) - 1}, the last, isn't 'end'")
+    memory = Memory(int(header[1], 16), int(header[2], 16))
+    before = -1
+    for number, line in enumerate(lines[1:-2], start=2):
+        before = read_row(memory, before, number, line)
+    return memory
+
+
+def read_row(memory, before, number, line):
+    row = ROW.fullmatch(line)
+    if row is None:
+        raise NotADump(f"line {number} isn't an address of 8 digits, a space and 32 digits")
+    address, content = int(row[1], 16), bytes.fromhex(row[2].decode())
+    if address <= before:
+        raise NotADump(f"line {number}: its address isn't above the one before it")
+    if address % 16 != 0 or not memory.is_ram(address, address + 16):
+        raise NotADump(f"line {number}: its address isn't a multiple of 16 in RAM")
+    if content == memory.fill:
+        raise NotADump(f"line {number}: its bytes are all the fill byte, so it stands there needlessly")
+    memory.rows[address] = content
+    return address
+
+
+def number_at(content, offset, size):
+    return int.from_bytes(content[offset : offset + size], "little")
+
+
+def byte_sum(content):
+    return sum(content) % 256
+
+
+def root_pointer(memory):
+    """The least root pointer of the ACPI tables (ACPI 6.5, 5.2.5.3), which has 20 bytes in revision 0, or None."""
+    at = memory.find(b"RSD PTR ", 0xE0000, 0x100000)
+    if at is None:
+        return None
+    pointer = memory.read(at, 20, "the RSDP")
+    return pointer if pointer[15] < 2 else memory.read(at, 36, "the RSDP")
+
+
+def acpi_table(memory, address):
+    what = f"the ACPI table at {address:#x}"
+    size = number_at(memory.read(address + 4, 4, what), 0, 4)
+    if size < 36:
+        raise NotFound(f"{what}: its length {size} is less than its header's 36 bytes")
+    return memory.read(address, size, what)
+
+
+def root_table(memory, pointer):
+    """The table that a root pointer names: the XSDT (5.2.8), or in revision 0 the RSDT (5.2.7)."""
+    table = acpi_table(memory, number_at(pointer, 24, 8) if pointer[15] >= 2 else number_at(pointer, 16, 4))
+    wanted = b"XSDT" if pointer[15] >= 2 else b"RSDT"
+    if table[:4] != wanted:
+        raise NotFound(f"the RSDP leads to {table[:4]!r}, where {wanted!r} should stand")
+    return table
+
+
+def listed_tables(memory, root):
+    """The tables that an XSDT or an RSDT lists."""
+    width = 8 if root[:4] == b"XSDT" else 4
+    return [acpi_table(memory, number_at(root, entry, width)) for entry in range(36, len(root) - width + 1, width)]
