@@ -1,6 +1,7 @@
 #!/usr/bin/env bash
-# Compares `vmtables boot` with other programs, run side by side in one run, for each description of examples/. It prints ratios
-# alone: how many times what the other program takes boot takes. Nothing is proved or judged here.
+# Compares `vmtables boot` for each description of examples/, and `vmtables load` for two large containers, with other programs, run
+# side by side in one run. It prints ratios alone: how many times what the other program takes ours takes. Nothing is proved or judged
+# here.
 #
 # usage: bench/run.sh [ROUNDS]     each program is run ROUNDS times, 11 if nothing is said; medians are compared
 #
@@ -29,8 +30,8 @@ against() {
 # The program and what it is compared with, for one description.
 add_description() {
     local name folder tables
-    name=$(basename "$1" .toml)
-    folder=$work/$name
+    name="boot $(basename "$1" .toml)"
+    folder=$work/$(basename "$1" .toml)
     mkdir "$folder"
     "$program" boot <"$1" >"$folder/dump" && python3 "$root/judges/dump_tables.py" "$folder/dump" "$folder" || exit 1
     against "boot" "$1" "$program" boot
@@ -44,6 +45,17 @@ add_description() {
     [ "${#tables[@]}" -eq 0 ] || against "iasl -d on its ACPI tables" /dev/null iasl -d "${tables[@]}"
 }
 
+# The program and what it is compared with, for one container.
+add_container() {
+    local name
+    name="load $(basename "$1" .container)"
+    against "load" "$1" "$program" load
+    against "the program's --version" /dev/null "$program" --version
+    against "load of a script alone" "$work/alone.container" "$program" load
+    against "cat of as many bytes as the container has" "$1" cat
+    against "cat of as many bytes as guest memory has" "$work/memory" cat
+}
+
 # How many times the size of guest memory boot's peak of resident memory is.
 compare_memory() {
     /usr/bin/time -f %M -o "$work/peak" "$program" boot <"$root/examples/minimal.toml" >"$work/output" || return
@@ -54,6 +66,10 @@ compare_memory() {
 head -c "$guest_memory" /dev/zero >"$work/memory"
 for description in "$root"/examples/*.toml; do
     add_description "$description"
+done
+python3 "$root/bench/containers.py" "$work" || exit 1
+for container in "$work/large.container" "$work/many.container"; do
+    add_container "$container"
 done
 python3 "$root/bench/compare.py" "$rounds" "$work/programs" "$work/output"
 ! [ -x /usr/bin/time ] || compare_memory

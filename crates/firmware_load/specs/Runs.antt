@@ -1,5 +1,5 @@
 -- Whole runs of the machine, over any list of events.
-use Rattle.std.specs.Prelude.{◌≡◌, ◌==◌, ◌&&◌, not, if◌then◌else◌, ℕ, Bool, true, false, List, [], ◌∷◌, length, slice_get, Option, Some, None, MatchOption}
+use Rattle.std.specs.Prelude.{◌≡◌, ◌==◌, ◌&&◌, not, if◌then◌else◌, ℕ, Bool, true, false, List, [], ◌∷◌, slice_get, Option, Some, None, MatchOption}
 use Rattle.std.specs.Option.{option_map_or}
 use Rattle.loader_script.specs.declared.entry.Entry.{Entry}
 use Rattle.loader_script.specs.declared.refusing.Cause.{Cause}
@@ -10,7 +10,7 @@ use Rattle.script_load.specs.Runs.{Answers}
 use Rattle.firmware_load.specs.declared.event.Event.{Event}
 use Rattle.firmware_load.specs.declared.event.Event.TheVariants.{Device, Firmware, Other}
 use Rattle.firmware_load.specs.Guarded.{is_guarded}
-use Rattle.firmware_load.specs.Machine.{Stage, AsksCount, AwaitsCount, AsksEntries, AwaitsEntries, AsksScript, AwaitsScript, AtCommand, AwaitsFile, Done, Refused}
+use Rattle.firmware_load.specs.Machine.{Stage, AtCommand, Done, Refused}
 use Rattle.firmware_load.specs.Machine.{Machine, Listed, stood_ranges, listed_named}
 use Rattle.firmware_load.specs.Steps.{cause_of, step}
 

@@ -15,8 +15,6 @@ use Rattle.loader_script.specs.declared.refusing.Cause.TheVariants.{TooFar}
 use Rattle.loader_script.specs.declared.refusing.FileInfo.{FileInfo}
 use Rattle.loader_script.specs.Refusal.{causes_of, first_cause}
 use Rattle.loader_script.specs.Spelling.{entries_of, is_script_length}
-use Rattle.cfg_dma.specs.Device.{DeviceState}
-use Rattle.cfg_dma.specs.Transfers.{Attached}
 use Rattle.cfg_dma.specs.Events.{happens, HighWritten, LowWritten, Piece}
 use Rattle.script_load.specs.declared.fault.LoadFault.TheVariants as fault
 use Rattle.firmware_load.specs.declared.event.Event.{Event}

@@ -5,8 +5,8 @@
 //! the same list for every seed. `SeededSchedule` draws its events from the words of the seed's generator, so that a seed is all that
 //! one has to tell to have a run again.
 //!
-//! The machine that these events drive, one step for each, is defined in `specs/` (`Guarded`, `Machine`, `Steps`, `Runs`, `Moves`). Its code
-//! is still to come.
+//! The machine that these events drive, one step for each, is defined in `specs/`: its states and steps in `Guarded`, `Machine` and `Steps`, whole
+//! runs in `Runs`, the transfers of a load in `Moves`, and what every run keeps in `Kept`. Its code is still to come.
 //!
 //! No call here takes memory, and each takes the same few steps, however many events there are.
 #![tactic(auto)]

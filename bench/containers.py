@@ -1,0 +1,67 @@
+#!/usr/bin/env python3
+"""Writes the containers that `load` is measured on. It serves bench/run.sh and is no part of the product.
+
+usage: containers.py FOLDER
+
+`large.container` has one file of 15 MiB, which its script places and sums up. `many.container` has 1,000 files of 4 KiB and a script of
+8,192 commands, the most that one may have: each file is placed, and then pointers and sums follow, of one file after the other. Both
+are spelled as docs/FORMATS.md says. `alone.container` has a script of no commands and no other file.
+"""
+
+import pathlib
+import struct
+import sys
+
+SCRIPT = "etc/table-loader"
+FIRST_SELECTOR = 0x20
+MOST_COMMANDS = 8192
+
+
+def name_field(name):
+    return name.encode().ljust(56, b"\0")
+
+
+def command(number, fields):
+    return (struct.pack("<I", number) + fields).ljust(128, b"\0")
+
+
+def allocate(name, align=16, zone=1):
+    return command(1, name_field(name) + struct.pack("<IB", align, zone))
+
+
+def add_pointer(dest, src):
+    return command(2, name_field(dest) + name_field(src) + struct.pack("<IB", 8, 4))
+
+
+def add_checksum(name, length):
+    return command(3, name_field(name) + struct.pack("<III", 0, 0, length))
+
+
+def container(files):
+    """A container of named files, none of which a guest may write."""
+    entries = [struct.pack(">IHH", len(held), FIRST_SELECTOR + at, 0) + name_field(name) for at, (name, held) in enumerate(files)]
+    parts = [struct.pack(">I", len(files)), *entries, bytes(len(files)), *(held for _, held in files)]
+    return b"".join(parts)
+
+
+def large():
+    size = 15 << 20
+    return container([("large", bytes(size)), (SCRIPT, allocate("large") + add_checksum("large", size))])
+
+
+def many():
+    names = [f"file-{at:04}" for at in range(1000)]
+    commands = [allocate(name) for name in names]
+    at = 0
+    while len(commands) < MOST_COMMANDS - 1:
+        name = names[at % len(names)]
+        commands += [add_pointer(name, names[(at + 1) % len(names)]), add_checksum(name, 4096)]
+        at += 1
+    return container([(name, bytes(4096)) for name in names] + [(SCRIPT, b"".join(commands))])
+
+
+if __name__ == "__main__":
+    folder = pathlib.Path(sys.argv[1])
+    (folder / "large.container").write_bytes(large())
+    (folder / "many.container").write_bytes(many())
+    (folder / "alone.container").write_bytes(container([(SCRIPT, b"")]))
