@@ -98,25 +98,13 @@ pub starts : (placed : List Placed) → map (λ (r : Range). r.start) (map range
 starts [] = refl
 starts (p ∷ placed) = ap (λ ps. p.place ∷ ps) (starts placed)
 
--- a run from the first command on
-pub is_run : (May : Answers) (files : List File) (script : List Entry) (handed : List Range) (end : End) (placed : List Placed)
-    → EndsWith May files 0 script [] end placed → handed ≡ map range_of placed → IsRun May files script handed end placed
-is_run May files script handed end placed answered is =
-    let on = runs_on answered in
-    let given : map (λ (r : Range). r.start) handed ≡ on.places = ap (map (λ (r : Range). r.start)) is ∙ starts placed ∙ on.given in
-    record {
-      answered = answered;
-      ends = ap (λ ps. run_from 0 script (at_files files [] ps)) given ∙ on.ends;
-      handed_are = is;
-    }
-
 -- A run that has room ends in the same way where more places are given than it needs.
-pub record RunsMore (files : List File) (index : ℕ) (script : List Entry) (placed : List Placed) (end : End) (final : List Placed) : Type 0 where
+record RunsMore (files : List File) (index : ℕ) (script : List Entry) (placed : List Placed) (end : End) (final : List Placed) : Type 0 where
   pub places : List ℕ
   pub given : places_of_placed final ≡ places_of_placed placed ++ places
   pub ends : (extra : List ℕ) → run_from index script (at_files files placed (places ++ extra)) ≡ (end, at_files files final extra)
 
-pub runs_more : {May : Answers} {files : List File} {index : ℕ} {script : List Entry} {placed : List Placed} {end : End} {final : List Placed}
+runs_more : {May : Answers} {files : List File} {index : ℕ} {script : List Entry} {placed : List Placed} {end : End} {final : List Placed}
     → EndsWith May files index script placed end final → ((at : ℕ) → end ≡ NoRoom at → ⊥) → RunsMore files index script placed end final
 unfolding carried_out
 runs_more {placed = placed} done room = record { places = []; given = sym (append-nil (places_of_placed placed)); ends = λ extra. refl }
@@ -140,4 +128,19 @@ runs_more {files = files} {index = index} {placed = placed} {final = final} (car
       given = on.given ∙ ap (λ ps. ps ++ on.places) (carried_any entry files placed next [] goes).stand;
       ends = λ extra. goes-on index entry script (at_files files placed (on.places ++ extra)) (at_files files next (on.places ++ extra))
           (cause_any entry files placed (on.places ++ extra) ∙ none) (carried_any entry files placed next (on.places ++ extra) goes).carried ∙ on.ends extra;
+    }
+
+-- a run from the first command on
+pub is_run : (May : Answers) (files : List File) (script : List Entry) (handed : List Range) (end : End) (placed : List Placed)
+    → EndsWith May files 0 script [] end placed → handed ≡ map range_of placed → IsRun May files script handed end placed
+is_run May files script handed end placed answered is =
+    let on = runs_on answered in
+    let places : map (λ (r : Range). r.start) handed ≡ places_of_placed placed = ap (map (λ (r : Range). r.start)) is ∙ starts placed in
+    record {
+      answered = answered;
+      ends = ap (λ ps. run_from 0 script (at_files files [] ps)) (places ∙ on.given) ∙ on.ends;
+      goes_on = λ room extra.
+          let more = runs_more answered room in
+          ap (λ ps. run_from 0 script (at_files files [] (ps ++ extra))) (places ∙ more.given) ∙ more.ends extra;
+      handed_are = is;
     }

@@ -1,5 +1,5 @@
 -- The run of a script whose Allocates are answered by an allocator, and the end of a load.
-use Rattle.std.specs.Prelude.{◌≡◌, ℕ, suc, List, [], ◌∷◌, ◌++◌, length, map, slice_get, Option, Some, None, Result, Ok, Err}
+use Rattle.std.specs.Prelude.{◌≡◌, ◌≢◌, ℕ, suc, List, [], ◌∷◌, ◌++◌, length, map, slice_get, Option, Some, None, Result, Ok, Err}
 use Rattle.std.specs.Option.{option_map_or}
 use Rattle.vt_outside.specs.Placement.{Range}
 use Rattle.loader_script.specs.declared.entry.Entry.{Entry}
@@ -70,10 +70,12 @@ pub data EndsWith (May : Answers) (files : List File) : ℕ → List Entry → L
       → EndsWith May files index (entry ∷ script) placed end final
 
 -- The run of a script over files ends so, with these files placed. Their ranges are those that were handed out, in their order, and the
--- run is that on plain lists with these places.
+-- run is that on plain lists with these places. A run that has room ends in the same way where more places are given, and leaves those.
 pub record IsRun (May : Answers) (files : List File) (script : List Entry) (handed : List Range) (end : End) (placed : List Placed) : Type 0 where
   pub answered : EndsWith May files 0 script [] end placed
   pub ends : run files script (map (λ (r : Range). r.start) handed) ≡ (end, at_files files placed [])
+  pub goes_on : ((at : ℕ) → end ≢ NoRoom at) → (extra : List ℕ)
+      → run files script (map (λ (r : Range). r.start) handed ++ extra) ≡ (end, at_files files placed extra)
   pub handed_are : handed ≡ map range_of placed
 
 -- what a load answers whose run ends so

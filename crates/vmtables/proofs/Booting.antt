@@ -30,7 +30,7 @@ use Rattle.script_load.specs.Loads.{IsLoaded}
 use Rattle.script_load.specs.Runs.{Answers, EndsWith, IsRun, at_files, result_of}
 use Rattle.script_load.specs.Script.{script_in}
 use Rattle.script_load.specs.World.{Begun, IsBegun}
-use Rattle.script_load.proofs.PlainRuns.{places_of_placed, starts, RunsMore, runs_more}
+use Rattle.script_load.proofs.PlainRuns.{starts}
 use Rattle.vmtables.specs.Boot.{IsBooted, BootMakes}
 use Rattle.vmtables.specs.Calls.{Answering, Seen}
 use Rattle.vmtables.specs.Loading.{IsImageLoaded, IsRefusedFree, FailsToLoad}
@@ -67,21 +67,21 @@ extended_of m items script built May end placed free ends =
     extends May (top_of m) (files_of (image_items m)) (linking (image_files m)) (all_link (image_files m)) free (image_files m) [] 0 [] end placed
     (rw built.items_are at built.there) refl (room_from (top_of m) (image_files m) built.room) (script_split m ends)
 
-lawful_so : (m : Machine) (items : List Item) (script : List Entry) (built : IsBuilt m items script) (May : Answers) (end : End) (placed : List Placed)
-    → GivesFree May (top_of m) → EndsWith May (files_of (image_items m)) 0 (image_script m) [] end placed
-    → ((at : ℕ) → end ≡ NoRoom at → ⊥) → IsLawfulRun m (places_of_placed placed) end placed
-lawful_so m items script built May end placed free ends room =
-    let extended : Extends May (top_of m) [] (image_files m) [] placed end = extended_of m items script built May end placed free ends in
-    let more : RunsMore (files_of (image_items m)) 0 (image_script m) [] end placed = runs_more ends room in
-    let same : more.places ≡ extended.given = sym more.given ∙ extended.stand in
+lawful_so : (m : Machine) (items : List Item) (script : List Entry) (built : IsBuilt m items script) (May : Answers) (handed : List Range) (end : End)
+    (placed : List Placed) → GivesFree May (top_of m) → IsRun May (files_of (image_items m)) (image_script m) handed end placed
+    → ((at : ℕ) → end ≡ NoRoom at → ⊥) → IsLawfulRun m (map (λ (r : Range). r.start) handed) end placed
+lawful_so m items script built May handed end placed free ran room =
+    let extended : Extends May (top_of m) [] (image_files m) [] placed end = extended_of m items script built May end placed free ran.answered in
+    let same : map (λ (r : Range). r.start) handed ≡ extended.given =
+    ap (map (λ (r : Range). r.start)) ran.handed_are ∙ starts placed ∙ extended.stand in
     let loaded = built.loaded (extended.given ++ extended.extra) extended.lawful in
     let both : ending end (at_files (files_of (image_items m)) placed extended.extra) ≡ ending Done (at_files (files_of (image_items m)) loaded.0 []) =
-    sym (more.ends extended.extra) ∙ ap (λ ps. run (files_of (image_items m)) (image_script m) (ps ++ extended.extra)) same ∙ loaded.2 in
+    sym (ran.goes_on room extended.extra) ∙ ap (λ ps. run (files_of (image_items m)) (image_script m) (ps ++ extended.extra)) same ∙ loaded.2 in
     let left = its_progress end Done _ _ both in
     let none : extended.extra ≡ [] = ap (λ (p : Progress). p.places) left in
     let files : placed ≡ loaded.0 = ap (λ (p : Progress). p.placed) left in
-    let given : extended.given ++ extended.extra ≡ places_of_placed placed =
-    ap (λ ps. extended.given ++ ps) none ∙ append-nil extended.given ∙ sym extended.stand in
+    let given : extended.given ++ extended.extra ≡ map (λ (r : Range). r.start) handed =
+    ap (λ ps. extended.given ++ ps) none ∙ append-nil extended.given ∙ sym same in
     record {
       done = ap (λ (e : End × Progress). e.0) both;
       lawful = subst (ArePlaces (top_of m) [] (image_files m)) given extended.lawful;
@@ -134,11 +134,9 @@ booted Gives fill bytes m items script before after free read built script_read 
     let run : IsLoaded May (files_of (image_items m)) (image_script m) after.place.handed loaded.begun.memory loaded.world.memory (Ok tt) =
     run_of m May after.place.handed loaded.begun.memory loaded.world.memory (Ok tt) script_read at_load in
     let done : run.end ≡ Done = ended_done run.end run.answered in
-    let is : IsLawfulRun m (places_of_placed run.placed) run.end run.placed =
-    lawful_so m items script built May run.end run.placed (gives_free Gives after.place.zones after.place.policy (top_of m) free loaded.zones)
-    run.ran.answered (has_room run.end done) in
-    let places : map (λ (r : Range). r.start) after.place.handed ≡ places_of_placed run.placed =
-    ap (map (λ (r : Range). r.start)) run.ran.handed_are ∙ starts run.placed in
+    let is : IsLawfulRun m (map (λ (r : Range). r.start) after.place.handed) run.end run.placed =
+    lawful_so m items script built May after.place.handed run.end run.placed
+    (gives_free Gives after.place.zones after.place.policy (top_of m) free loaded.zones) run.ran (has_room run.end done) in
     let left : IsLeft loaded.world.memory run.placed (λ _. fill) =
     left_filled loaded.begun loaded.world (image_items m) (top_of m) fill run.placed loaded.was_begun loaded.load.top run.left in
     let filled : loaded.world.memory.fill ≡ fill = loaded.load.fill ∙ loaded.was_begun.fill in
@@ -151,9 +149,9 @@ booted Gives fill bytes m items script before after free read built script_read 
       script = script_read;
       placed = run.placed;
       ran = subst (λ end. IsRun May (files_of (image_items m)) (image_script m) after.place.handed end run.placed) done run.ran;
-      lawful = subst (ArePlaces (top_of m) [] (image_files m)) (sym places) is.lawful;
+      lawful = is.lawful;
       left = left;
-      shown = built.shown (places_of_placed run.placed) run.placed loaded.world.memory is.lawful is.linked topped
+      shown = built.shown (map (λ (r : Range). r.start) after.place.handed) run.placed loaded.world.memory is.lawful is.linked topped
           (subst (λ byte. IsLeft loaded.world.memory run.placed (λ _. byte)) (sym filled) left);
     }
 
@@ -187,7 +185,7 @@ fails_for_room Gives fill m items script why before after free built script_read
     run_of m May after.place.handed loaded.begun.memory loaded.world.memory (Err why) script_read at_load in
     let frees : GivesFree May (top_of m) = gives_free Gives after.place.zones after.place.policy (top_of m) free loaded.zones in
     room_of May (top_of m) run.end why run.answered
-    (λ room. (lawful_so m items script built May run.end run.placed frees run.ran.answered room).done)
+    (λ room. (lawful_so m items script built May after.place.handed run.end run.placed frees run.ran room).done)
     (extended_of m items script built May run.end run.placed frees run.ran.answered).no_room
 
 -- what `boot` makes of a machine whose image failed to load
