@@ -5,8 +5,8 @@ pub mod Steps
 pub mod Parts
 pub mod ReadParts
 pub mod Entries
-pub mod DirectorySize
 pub mod Contents
 pub mod Containers
 pub mod Fronts
 pub mod Written
+pub mod Listings

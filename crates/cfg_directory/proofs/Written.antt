@@ -16,7 +16,7 @@ use Rattle.cfg_directory.proofs.Contents.{flags_of, held_by}
 -- ---- an entry
 
 -- numbers come back from their bytes
-be-bytes_4 : (n : ℕ) → n < 2 ^ 32 → be (be_bytes 4 n) ≡ n
+pub be-bytes_4 : (n : ℕ) → n < 2 ^ 32 → be (be_bytes 4 n) ≡ n
 be-bytes_4 n small = omega arith
 
 is_entry : (item : Item) → length item.bytes < 2 ^ 32 → item.select < 2 ^ 16 → IsName item.name → IsEntry (entry_bytes item) item
@@ -30,7 +30,7 @@ is_entry item size select name =
 abbrev pub AreNamed : List Item → Type 0
 AreNamed items = AllByRecursion (λ (item : Item). IsName item.name) items
 
-are_entries : (items : List Item) → AreNamed items → AreDistinct items → total_size items < 2 ^ 32 → AreEntries (flat_map entry_bytes items) items
+pub are_entries : (items : List Item) → AreNamed items → AreDistinct items → total_size items < 2 ^ 32 → AreEntries (flat_map entry_bytes items) items
 are_entries [] named distinct small = refl
 are_entries (item ∷ items) named distinct small =
     let sum = sum_by-cons (λ (i : Item). length i.bytes) item items in (

@@ -1,5 +1,6 @@
 pub mod Items
 pub mod Container
 pub mod Parts
+pub mod Listing
 pub use Rattle.vt_outside.specs.Name
 pub use Rattle.vt_bytes.specs.Numbers

@@ -15,6 +15,7 @@ use vt_outside::{Bytes, Name, OutOfMemory};
 pub fn directory_bytes(alloc: Global, items: &Items) -> Result<Bytes, OutOfMemory>
     ensures directory { IfOk result (λ bytes. bytes ≡ directory_of items.now) }
     ensures size { IfOk result (λ bytes. length bytes ≡ 4 + 64 * length items.now) }
+    ensures names { IfOk result (λ _. AllByRecursion (λ item. IsName item.name) items.now) }
 {
     let mut bytes = Bytes::new(alloc);
     put_directory(&mut bytes, items.all())?;

@@ -1,11 +1,13 @@
 //! Laws over the definitions, each the contract of a function that does nothing.
 
-ghost use Rattle.std.specs.Prelude.{◌≡◌, ℕ, ◌<◌, ◌++◌, List, length, Err};
+ghost use Rattle.std.specs.Prelude.{◌≡◌, ℕ, ◌*◌, ◌<◌, ◌++◌, List, length, Err};
 ghost use Rattle.std.specs.List.{AllByRecursion};
 ghost use Rattle.vt_outside.specs.Name.{IsName};
 ghost use Rattle.cfg_directory.specs.declared.item.Item.{Item};
 ghost use Rattle.cfg_directory.specs.declared.container.ImageFault.TheVariants.{Truncated};
-ghost use Rattle.cfg_directory.specs.Items.{IsItems};
+ghost use Rattle.vt_bytes.specs.Numbers.{be, be_bytes};
+ghost use Rattle.cfg_directory.specs.Items.{IsItems, directory_of};
+ghost use Rattle.cfg_directory.specs.Listing.{listed_in, listed_of, entries_of};
 ghost use Rattle.cfg_directory.specs.Container.{IsContainer, container_of, read_so};
 
 /// States that bytes are a container of one list of items at most.
@@ -23,4 +25,12 @@ pub fn written_items_are_contained()
 pub fn every_front_is_truncated()
     ensures { (items : List Item) (bytes front rest : List ℕ) → IsContainer bytes items → bytes ≡ front ++ rest → 0 < length rest
         → read_so front ≡ Err Truncated }
+{}
+
+/// States that the directory of items, where each name is a file name, is their number and then an entry of 64 bytes for each, and
+/// that the entries list the items.
+pub fn a_directory_lists_its_items()
+    ensures { (items : List Item) → IsItems items → AllByRecursion (λ item. IsName item.name) items
+        → (length (entries_of items) ≡ 64 * length items) × (listed_in (length items) (entries_of items) ≡ listed_of items)
+        × (directory_of items ≡ be_bytes 4 (length items) ++ entries_of items) × (be (be_bytes 4 (length items)) ≡ length items) }
 {}

@@ -12,9 +12,12 @@ mod item;
 mod items;
 pub mod laws;
 mod listed;
+mod listing;
 mod reading;
 
 pub use container::{ImageFault, read_image, write_image};
 pub use directory::directory_bytes;
 pub use item::Item;
 pub use items::Items;
+pub use listed::Listed;
+pub use listing::list_entries;

@@ -10,21 +10,17 @@ ghost use Rattle.cfg_directory.specs.Container.{Gives, HasEntries, listed_so, li
 ghost use Rattle.cfg_directory.specs.Parts.{is_set, count_at, directory_at, flags_at, parts_of};
 
 use crate::container::ImageFault;
-use crate::directory::entry_rows;
 use crate::item::Item;
 use crate::listed::Listed;
+use crate::listing::ENTRY_SIZE;
 use std::alloc::Global;
 use vt_bytes::get_be;
-use vt_layout::{blank_name, read_name, read_u16, read_u32};
 use vt_outside::{Bytes, List, Name, OutOfMemory};
 
 // How many files there may be, and how many bytes they may have in all.
 const FILE_LIMIT: u64 = 1024;
 
 const BYTES_LIMIT: u64 = 67_108_864;
-
-// The bytes of an entry.
-const ENTRY_SIZE: usize = 64;
 
 /// Reads the items that `bytes` are a container of.
 #[tactic(auto, unfolding(crate::specs::Parts::parts_of))]
@@ -90,13 +86,10 @@ fn read_entry(index: u32, before: &[Listed], entry: &[u8]) -> Result<Listed, Ima
     ensures exact { Gives (λ listed. listed) result (listed_of index before.now entry.now) }
     ensures sure { result ≢ Err NoMemory }
 {
-    let rows = entry_rows(0, 0, &blank_name());
-    let Ok(name) = read_name(entry, &rows, 3) else {
+    let Ok(listed) = Listed::read(entry) else {
         return Err(ImageFault::BadName(index));
     };
-    let size = read_u32(entry, &rows, 0);
-    let select = read_u16(entry, &rows, 1);
-    checked(index, before, Listed { name, select, size })
+    checked(index, before, listed)
 }
 
 // What an entry at an index says, unless it may not stand behind these.

@@ -4,3 +4,5 @@ pub mod Runs
 pub mod Moved
 pub mod Kept
 pub mod Pieces
+pub mod Started
+pub mod Awaited

@@ -25,7 +25,8 @@ next_twice : (bytes : List ℕ) (offset k n : ℕ) → offset ≤ length bytes
     → next_of bytes offset k ++ next_of bytes (min (offset + k) (length bytes)) n ≡ next_of bytes offset (k + n)
 next_twice bytes offset k n within = same_lists _ _ (grind (arith, places)) (λ i d h. grind (arith, places))
 
-length-next_of : (bytes : List ℕ) (offset k : ℕ) → length (next_of bytes offset k) ≡ k
+-- the next bytes are as many as were asked for
+pub length-next_of : (bytes : List ℕ) (offset k : ℕ) → length (next_of bytes offset k) ≡ k
 length-next_of bytes offset k = grind (arith, places)
 
 end_twice : (offset k n end : ℕ) → min (min (offset + k) end + n) end ≡ min (offset + (k + n)) end
@@ -88,7 +89,7 @@ move_none Write d m address within =
 -- ---- a transfer
 
 -- all that are left are moved, and it is over
-ends : (flight : Flight) (bytes : ℕ) (a : Attached) → flight.moved < flight.transfer.length → left_of flight ≤ bytes
+pub ends : (flight : Flight) (bytes : ℕ) (a : Attached) → flight.moved < flight.transfer.length → left_of flight ≤ bytes
     → move_next (Some flight) bytes a ≡ finish flight.descriptor flight.transfer (move_by flight (left_of flight) a)
 ends flight bytes a some enough =
     let count : min bytes (left_of flight) ≡ left_of flight = omega arith in
@@ -97,7 +98,7 @@ ends flight bytes a some enough =
     ∙ cond-true (flight.moved + left_of flight == flight.transfer.length) _ _ (eq-eqb (flight.moved + left_of flight) flight.transfer.length all)
 
 -- fewer are moved, and it is in flight
-goes_on : (flight : Flight) (bytes : ℕ) (a : Attached) → bytes < left_of flight
+pub goes_on : (flight : Flight) (bytes : ℕ) (a : Attached) → bytes < left_of flight
     → move_next (Some flight) bytes a ≡ with_flight (move_by flight bytes a) (Some (record flight { moved = flight.moved + bytes }))
 goes_on flight bytes a fewer =
     let count : min bytes (left_of flight) ≡ bytes = omega arith in
@@ -179,7 +180,7 @@ transfer_ends a flight sizes device memory can_move is enough =
     pieces_are_one a sizes device memory can_move ∙ ap (λ (o : Option Flight). move_next o (sum sizes) a) is ∙ ends flight (sum sizes) a some.left enough
 
 -- bytes beside those that are moved stay
-beside : (kind : Kind) (d : DeviceState) (m : Memory) (start count address : ℕ) → IsMemory m → (address < start) ⊎ (start + count ≤ address)
+pub beside : (kind : Kind) (d : DeviceState) (m : Memory) (start count address : ℕ) → IsMemory m → (address < start) ⊎ (start + count ≤ address)
     → at (move_as kind start count (attached d m)).memory address ≡ at m address
 beside Write d m start count address lawful other = refl
 beside Skip d m start count address lawful other = refl

@@ -2,6 +2,7 @@ pub mod Device
 pub mod Descriptor
 pub mod Transfers
 pub mod Events
+pub mod Reads
 pub use Rattle.vt_bytes.specs.Numbers
 pub use Rattle.vt_bytes.specs.Memory
 pub use Rattle.cfg_directory.specs.Items

@@ -1,5 +1,7 @@
 ghost use Rattle.std.specs.Prelude.{◌≡◌, ◌<◌, ◌^◌, ◌↔◌, [], length, None, IfOk, IsTrue, IsSome, false};
+ghost use Rattle.std.specs.List.{AllByRecursion};
 ghost use Rattle.std.specs.Option.{option_copied};
+ghost use Rattle.vt_outside.specs.Name.{IsName};
 ghost use Rattle.cfg_directory.specs.Items.{selected};
 ghost use Rattle.cfg_dma.specs.Device.{IsDevice, contents, bytes_of};
 
@@ -61,7 +63,7 @@ impl Device {
     /// Makes a device of the files `items`, with room for `transfers` transfers to finish. Item 0x0000 is selected, at offset 0.
     /// All the memory that the device needs comes from `alloc`. It fails with `OutOfMemory` only where memory runs out.
     pub fn begin(alloc: Global, items: Items, transfers: u32) -> Result<Device, OutOfMemory>
-        ensures { IfOk result (λ device. device ≡ record {
+        ensures begun { IfOk result (λ device. device ≡ record {
           items = items;
           select = 0x0000;
           offset = 0;
@@ -70,6 +72,8 @@ impl Device {
           finished = [];
           spare = transfers;
         }) }
+        ensures names { IfOk result (λ _. AllByRecursion (λ item. IsName item.name) items) }
+        ensures device { IfOk result IsDevice }
     {
         let directory = directory_bytes(alloc, &items)?;
         let finished = Vec::with_capacity(alloc, transfers as usize)?;

@@ -1,11 +1,13 @@
 //! Laws over all devices and memories, each the contract of a function that does nothing.
 
-ghost use Rattle.std.specs.Prelude.{◌≡◌, ℕ, ◌+◌, ◌<◌, ◌≤◌, ◌⊎◌, List, sum, Some, IsSome};
-ghost use Rattle.vt_bytes.specs.Memory.{IsMemory, at};
+ghost use Rattle.std.specs.Prelude.{◌≡◌, ℕ, ◌+◌, ◌<◌, ◌≤◌, ◌⊎◌, List, sum, Some, None, IsSome};
+ghost use Rattle.vt_bytes.specs.Memory.{IsMemory, at, with_bytes};
+ghost use Rattle.cfg_dma.specs.declared.transfer.Finished.{Finished};
 ghost use Rattle.cfg_dma.specs.declared.transfer.Flight.{Flight};
 ghost use Rattle.cfg_dma.specs.Device.{IsDevice};
 ghost use Rattle.cfg_dma.specs.Transfers.{Attached, CanMove, room_of, left_of, move_by, finish, piece, pieces};
 ghost use Rattle.cfg_dma.specs.Events.{Event, MayHappen, happens};
+ghost use Rattle.cfg_dma.specs.Reads.{CanRead, AsksFor, IsMoving, IsAwaited, GoesOn, IsBesideRead, started, descriptor_bytes};
 
 /// States that a transfer leaves the same, in whatever pieces it is moved: any pieces, one after the other, are one piece of as
 /// many bytes.
@@ -36,4 +38,24 @@ pub fn events_keep_the_room()
     ensures { (e : Event) (a : Attached) → IsDevice a.device → CanMove a → MayHappen e a
         → CanMove (happens e a) × (room_of (happens e a).device ≡ room_of a.device)
         × ((happens e a).memory.top ≡ a.memory.top) × ((happens e a).memory.fill ≡ a.memory.fill) }
+{}
+
+/// States that a read that is asked for is in flight, and that memory is changed by its descriptor alone.
+pub fn a_read_is_started()
+    ensures { (a : Attached) (before : List Finished) (descriptor control : ℕ) (transfer : Finished) → IsDevice a.device → IsMemory a.memory
+        → a.device.flight ≡ None → 0 < a.device.spare → a.device.finished ≡ before
+        → CanRead a.device.items a.memory.top descriptor transfer → AsksFor control a.device transfer
+        → IsMoving a.device.items before descriptor transfer (started descriptor control transfer.length transfer.address a)
+        × GoesOn a (started descriptor control transfer.length transfer.address a)
+        × ((started descriptor control transfer.length transfer.address a).memory
+        ≡ with_bytes a.memory descriptor (descriptor_bytes control transfer.length transfer.address)) }
+{}
+
+/// States that a read that is awaited stays so over any piece, until it is over, and that a piece changes memory in its range and its
+/// descriptor alone.
+pub fn a_read_moves_on()
+    ensures { (a : Attached) (before : List Finished) (descriptor bytes : ℕ) (transfer : Finished) → IsDevice a.device → IsMemory a.memory
+        → CanRead a.device.items a.memory.top descriptor transfer → IsAwaited a.device.items before descriptor transfer a
+        → IsAwaited a.device.items before descriptor transfer (piece bytes a) × GoesOn a (piece bytes a)
+        × ((address : ℕ) → IsBesideRead address descriptor transfer → at (piece bytes a).memory address ≡ at a.memory address) }
 {}

@@ -4,7 +4,7 @@ use Rattle.std.proofs.lemmas.Bool.{cond-true, lt-ltb}
 use Rattle.std.proofs.lemmas.List.{drop_more}
 use Rattle.std.proofs.lemmas.Option.{slice_get_within, get_or_from_slice_get}
 use Rattle.rand_pcg.specs.Lcg.{Lcg}
-use Rattle.firmware_load.specs.declared.event.Event.{Event}
+use Rattle.load_machine.specs.declared.event.Event.{Event}
 use Rattle.firmware_load.specs.Schedules.{for_seed}
 use Rattle.firmware_load.specs.Drawing.{drawn_event, behind_event, drawn_events}
 

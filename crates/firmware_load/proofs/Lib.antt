@@ -2,3 +2,15 @@ mod Drawn
 mod OfSeed
 mod Given
 mod SoMany
+pub mod RoomOfLoads
+pub mod CommandsDone
+pub mod Allocating
+pub mod AtStages
+pub mod Machines
+pub mod Opening
+pub mod AtCommands
+pub mod CanMove
+pub mod StepInside
+pub mod OnRun
+pub mod Turns
+pub mod Loaded

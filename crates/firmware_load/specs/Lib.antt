@@ -1,9 +1,8 @@
-pub mod Guarded
-pub mod Machine
-pub mod Steps
-pub mod Runs
-pub mod Moves
-pub mod Kept
 pub mod Schedules
 pub mod Drawing
+pub mod World
+pub mod Inside
 pub use Rattle.zone_alloc.specs.Policies
+pub use Rattle.load_machine.specs.Runs
+pub use Rattle.load_machine.specs.Kept
+pub use Rattle.load_machine.specs.Loads

@@ -1,8 +1,8 @@
 -- The events that schedules have for a seed.
 use Rattle.std.specs.Prelude.{⊤, ℕ, zero, suc, ◌+◌, ◌/◌, ◌%◌, ◌^◌, ◌<◌, ◌≤◌, List, [], ◌∷◌, nat_lt, if◌then◌else◌}
 use Rattle.zone_alloc.specs.Policies.{word_of}
-use Rattle.firmware_load.specs.declared.event.Event.{Event}
-use Rattle.firmware_load.specs.declared.event.Event.TheVariants.{Device, Firmware, Other}
+use Rattle.load_machine.specs.declared.event.Event.{Event}
+use Rattle.load_machine.specs.declared.event.Event.TheVariants.{Device, Firmware, Other}
 
 -- A listed schedule: its events, and those of them that are left.
 pub record ListedState : Type 0 where

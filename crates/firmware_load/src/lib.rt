@@ -1,23 +1,30 @@
-//! The events of a load, and the schedules that give them.
+//! A load over events: a firmware reads the directory, the script and the files from a fw_cfg device by its DMA engine, while the device
+//! moves bytes in pieces and the guest's other processors write memory, in any order.
 //!
-//! While a firmware loads tables, its fw_cfg device moves bytes and other processors write memory, in any order. An `Event` is one
-//! step of one of them, and a `Schedule` is what gives events one after the other: a list of them for each seed. `ListSchedule` has
-//! the same list for every seed. `SeededSchedule` draws its events from the words of the seed's generator, so that a seed is all that
-//! one has to tell to have a run again.
+//! [`World`] is the machine of such a load (`load_machine` defines it): [`World::step`] is one step of it for one `Event`, and
+//! [`World::load`] takes the events of a plan until the load has ended. Its contract says that its answer and the files in memory are those
+//! of the run of the script on plain lists, with the places that the allocator gave, whatever the events are; and what else it leaves.
 //!
-//! The machine that these events drive, one step for each, is defined in `specs/`: its states and steps in `Guarded`, `Machine` and `Steps`, whole
-//! runs in `Runs`, the transfers of a load in `Moves`, and what every run keeps in `Kept`. Its code is still to come.
+//! A [`Schedule`] is such a plan: it gives events one after the other, a list of them for each seed. `ListSchedule` has the same list for
+//! every seed. `SeededSchedule` draws its events from the words of the seed's generator, so that a seed is all that one has to tell to have
+//! a run again.
 //!
-//! No call here takes memory, and each takes the same few steps, however many events there are.
+//! No call but `World::begin` takes memory.
 #![tactic(auto)]
 
-mod event;
+mod commands;
+mod firmware;
+mod guest;
 pub mod laws;
 mod list_schedule;
+mod loading;
+mod rooms;
+mod run;
 mod schedule;
 mod seeded_schedule;
+mod world;
 
-pub use event::Event;
 pub use list_schedule::ListSchedule;
 pub use schedule::Schedule;
 pub use seeded_schedule::SeededSchedule;
+pub use world::World;

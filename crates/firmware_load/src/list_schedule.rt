@@ -1,7 +1,7 @@
 ghost use Rattle.std.specs.Prelude.{◌≡◌, []};
 
-use crate::event::Event;
 use crate::schedule::Schedule;
+use load_machine::Event;
 use std::marker::Model;
 use vt_outside::List;
 

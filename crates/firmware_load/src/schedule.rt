@@ -1,10 +1,10 @@
 ghost use Rattle.std.specs.Prelude.{◌≡◌, ℕ, ◌^◌, ◌≤◌, List, [], ◌∷◌, IfSome, IfNone};
 
-use crate::event::Event;
+use load_machine::Event;
 
 /// What gives events one after the other, by a seed.
 pub trait Schedule {
-    ghost use Rattle.firmware_load.specs.declared.event.Event.{Event};
+    ghost use Rattle.load_machine.specs.declared.event.Event.{Event};
 
     // The events that it has for each seed. For a number that isn't a u64 there are none.
     ghost events: { Self → ℕ → List Event };

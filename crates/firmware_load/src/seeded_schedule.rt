@@ -3,8 +3,8 @@ ghost use Rattle.rand_pcg.specs.Pcg.{pcg32};
 ghost use Rattle.firmware_load.specs.Schedules.{write_by};
 ghost use Rattle.firmware_load.specs.Drawing.{drawn_event, behind_event};
 
-use crate::event::Event;
 use crate::schedule::Schedule;
+use load_machine::Event;
 use rand_core::SeedableRng;
 use rand_core::utils::NextWord;
 use rand_pcg::Pcg32;
@@ -25,7 +25,7 @@ pub struct SeededSchedule {
 
 impl Model for SeededSchedule {
     ghost use Rattle.std.specs.Prelude.{List};
-    ghost use Rattle.firmware_load.specs.declared.event.Event.{Event};
+    ghost use Rattle.load_machine.specs.declared.event.Event.{Event};
     ghost use Rattle.firmware_load.specs.Drawing.{drawn_events};
 
     ghost Value = { List Event };

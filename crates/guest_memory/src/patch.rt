@@ -1,6 +1,6 @@
 ghost use Rattle.std.specs.Prelude.{◌≡◌, ◌+◌, ◌^◌, ◌≤◌, ◌↔◌, ◌⊎◌, IsErr, OnOk, OnErr};
 ghost use Rattle.vt_bytes.specs.Numbers.{le, le_bytes};
-ghost use Rattle.vt_bytes.specs.Memory.{IsRamRange, IsMemory, ShowTheSame, bytes_at, with_bytes};
+ghost use Rattle.vt_bytes.specs.Memory.{IsRamRange, IsMemory, bytes_at, with_bytes};
 
 use crate::memory::GuestMemory;
 use thiserror::Error;
@@ -13,14 +13,14 @@ pub struct TooFar;
 impl GuestMemory {
     /// Adds `amount` to the little-endian number in the `size` bytes at the guest address `address`. `size` must be 1, 2, 4 or
     /// 8, and each of those addresses must be RAM. Each other byte stays. It fails with `TooFar` where the sum doesn't fit in
-    /// `size` bytes, and then the memory shows what it showed.
+    /// `size` bytes, and then no byte is touched.
     pub fn patch_add(&mut self, address: u64, size: u8, amount: u64) -> Result<(), TooFar>
         requires size { (size ≡ 1) ⊎ ((size ≡ 2) ⊎ ((size ≡ 4) ⊎ (size ≡ 8))) }
         requires ram { IsRamRange self.old.top address size }
         ensures ok { OnOk result (self.new ≡ with_bytes self.old address
             (le_bytes size (le (bytes_at self.old address size) + amount))) }
         ensures too_far { IsErr result ↔ (256 ^ size ≤ le (bytes_at self.old address size) + amount) }
-        ensures err { OnErr result (ShowTheSame self.old self.new) }
+        ensures err { OnErr result (self.new ≡ self.old) }
         ensures lawful { IsMemory self.old }
     {
         // That a memory is lawful is said by its top's call.

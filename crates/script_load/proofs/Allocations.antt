@@ -44,7 +44,7 @@ use Rattle.script_load.proofs.OneMoreFile.{IsNew, files_pushed, step_pushed}
 use Rattle.script_load.proofs.Placings.{distinct_infos, few_placed}
 
 -- a range in a zone is RAM and ends low
-in_zone : (top place size : ℕ) → IsTop top → (zone : Zone) → (zone_range top zone).start ≤ place → place + size ≤ (zone_range top zone).end
+pub in_zone : (top place size : ℕ) → IsTop top → (zone : Zone) → (zone_range top zone).start ≤ place → place + size ≤ (zone_range top zone).end
     → IsRamRange top place size × (place + size ≤ 2 ^ 32)
 in_zone top place size lawful High from within = (λ i l. inr (inr (inl (omega arith, omega arith))), omega arith)
 in_zone top place size lawful Fseg from within = (λ i l. inr (inl (omega arith, omega arith)), omega arith)
@@ -107,11 +107,12 @@ few_bytes l name bytes align zone is =
       is.kept.items.small,
     )
 
--- the file is there, and isn't placed
-none_from : {A : Type 0} (o : Option A) → is_some o ≡ false → o ≡ None
+-- an option that passes no test of being there is none
+pub none_from : {A : Type 0} (o : Option A) → is_some o ≡ false → o ≡ None
 none_from None none = refl
 none_from (Some x) none = absurd (true≢false none)
 
+-- the file is there, and isn't placed
 pub unplaced : (l : Loading) (name : List ℕ) (align zone : ℕ) → early_cause (Allocate name align zone) (progress_of l) ≡ None
     → placed_named l.placements.placed.items name ≡ None
 unplaced l name align zone early =

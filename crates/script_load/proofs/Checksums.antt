@@ -5,15 +5,16 @@ use Rattle.std.proofs.lemmas.List.{set_split}
 use Rattle.std.proofs.lemmas.Option.{same_Some}
 use Rattle.vt_bytes.specs.Numbers.{byte_sum}
 use Rattle.vt_bytes.specs.Parts.{put_at}
-use Rattle.vt_bytes.specs.Memory.{Memory, IsRam, IsRamRange, at, bytes_at, Puts}
+use Rattle.vt_bytes.specs.Memory.{Memory, IsRam, IsRamRange, at, bytes_at, with_bytes, Puts}
 use Rattle.script_load.specs.declared.placed.PlacedFile.{PlacedFile}
 use Rattle.loader_script.specs.Run.{Placed, placed_with, with_sum}
-use Rattle.script_load.specs.FilesInMemory.{placed_named, placed_in, files_in, ArePlaced, Stays, CanSum}
+use Rattle.script_load.specs.FilesInMemory.{placed_named, placed_in, files_in, summed, ArePlaced, Stays, CanSum}
 use Rattle.script_load.proofs.NamedInMemory.{found_in}
 use Rattle.vt_bytes.proofs.Bytes.{length-bytes_at, part-bytes_at, index-bytes_at}
 use Rattle.script_load.proofs.Writes.{ram_part}
 use Rattle.script_load.proofs.PlacedFiles.{IsWrite, found_is_placed, file_written, stays_written}
 use Rattle.script_load.proofs.Patches.{with_sum-is}
+use Rattle.script_load.proofs.Pointers.{place_found}
 
 -- one byte put at a place of a list is that place set
 put_one : (bytes : List ℕ) (offset byte : ℕ) → offset < length bytes → slice_set bytes offset byte ≡ put_at bytes offset (byte ∷ [])
@@ -109,3 +110,14 @@ pub sum_stays : (m new : Memory) (placed : List PlacedFile) (name : List ℕ) (o
     → field ≡ p.place + offset → IsSum m placed name offset start count p → Puts m new field (byte ∷ []) → Stays m new placed placed
 sum_stays m new placed name offset start count field byte p field_is sum puts =
     stays_written m new placed name p offset (byte ∷ []) sum.found (byte_write m new placed name offset start count field byte p field_is sum puts)
+
+-- the memory with the byte in it is the one that the definition gives
+pub summed_from : (m : Memory) (placed : List PlacedFile) (name : List ℕ) (offset start count field from byte : ℕ) (p : PlacedFile)
+    → field ≡ p.place + offset → from ≡ p.place + start → placed_named placed name ≡ Some p
+    → byte ≡ (at m field + (256 - byte_sum (bytes_at m from count))) % 256
+    → with_bytes m field (byte ∷ []) ≡ summed m placed name offset start count
+summed_from m placed name offset start count field from byte p field_is from_is found byte_is =
+    let place = sym (place_found placed name p found) in
+    ap (λ b. with_bytes m field (b ∷ [])) byte_is
+    ∙ ap₂ (λ a range. with_bytes m a ((at m a + (256 - byte_sum (bytes_at m range count))) % 256 ∷ []))
+    (field_is ∙ ap (λ at. at + offset) place) (from_is ∙ ap (λ at. at + start) place)

@@ -55,7 +55,7 @@ entries_write : (count : ℕ) (bytes : List ℕ) → AllByRecursion WritesNothin
 entries_write zero bytes = tt
 entries_write (suc count) bytes = (entry_writes (take 128 bytes), entries_write count (drop 128 bytes))
 
-length-entries : (count : ℕ) (bytes : List ℕ) → length (entries_of count bytes) ≡ count
+pub length-entries : (count : ℕ) (bytes : List ℕ) → length (entries_of count bytes) ≡ count
 length-entries zero bytes = refl
 length-entries (suc count) bytes = ap suc (length-entries count (drop 128 bytes))
 

@@ -14,3 +14,4 @@ pub mod OneCommand
 pub mod Allocations
 pub mod WholeRuns
 pub mod Decoded
+pub mod Goes

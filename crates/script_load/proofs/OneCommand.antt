@@ -1,10 +1,10 @@
 -- One command on memory, as it stands in the run of the script.
-use Rattle.std.proofs.Common.{◌≡◌, ℕ, ◌+◌, ◌^◌, ◌<◌, ◌≤◌, List, [], ◌∷◌, length, Option, option_map, Some, None, refl, ap, ap₂, sym, subst, ◌∙◌}
+use Rattle.std.proofs.Common.{◌≡◌, ℕ, ◌+◌, ◌^◌, ◌<◌, ◌≤◌, List, [], ◌∷◌, length, Option, option_map, Some, None, refl, ap, sym, subst, ◌∙◌}
 use Rattle.std.proofs.Common.{Result, Ok, Err, OnErr, IfErr}
 use Rattle.std.specs.List.{AllByRecursion}
 use Rattle.std.proofs.lemmas.Option.{same_Some, none-some}
-use Rattle.vt_bytes.specs.Memory.{Memory, IsRam, ShowTheSame}
-use Rattle.vt_bytes.proofs.Bytes.{length-bytes_at, bytes_at-same}
+use Rattle.vt_bytes.specs.Memory.{Memory, at}
+use Rattle.vt_bytes.proofs.Bytes.{length-bytes_at}
 use Rattle.loader_script.specs.declared.entry.Entry.{Entry}
 use Rattle.loader_script.specs.declared.entry.Entry.TheVariants.{AddPointer, AddChecksum, Misnamed, Skipped}
 use Rattle.loader_script.specs.Run.{File, Placed, file_of, placed_of, pointer_sum, with_pointer, with_sum, cause_of, carried_out}
@@ -14,7 +14,7 @@ use Rattle.loader_script.proofs.Named.{same_name, of_found, found_passes}
 use Rattle.std.specs.Str.{bytes_eq}
 use Rattle.script_load.specs.declared.placed.PlacedFile.{PlacedFile}
 use Rattle.script_load.specs.declared.loading.Loading.{Loading}
-use Rattle.script_load.specs.FilesInMemory.{files_in, progress_in, ArePlaced, IsOfSize, IsLoading, Stays, CanPoint, CanSum}
+use Rattle.script_load.specs.FilesInMemory.{files_in, progress_in, IsOfSize, IsLoading, Stays, CanPoint, CanSum}
 use Rattle.script_load.specs.LoadingInside.{IsKept, GoesOn}
 use Rattle.loader_script.specs.declared.refusing.Cause.{Cause}
 use Rattle.script_load.specs.declared.loading.Stop.{Stop}
@@ -118,20 +118,12 @@ pub misnamed_refused : (m : Memory) (files : List File) (placed : List PlacedFil
 misnamed_refused m files placed command none =
     conditions_from (Misnamed command) (progress_in m files placed []) (cause_late (Misnamed command) (progress_in m files placed []) none)
 
--- memories that show the same hold the same files, and no byte changed
-pub same_files : (m new : Memory) (placed : List PlacedFile) → ShowTheSame m new → ArePlaced m.top placed → files_in new placed ≡ files_in m placed
-same_files m new [] same placed = refl
-same_files m new (p ∷ files) same placed =
-    ap₂ (λ (x : Placed) (xs : List Placed). x ∷ xs)
-    (ap (λ held. record { name = p.name; place = p.place; bytes = held })
-    (bytes_at-same new m p.place p.size (λ i l. same.bytes (p.place + i) (placed.0 i l))))
-    (same_files m new files same placed.3)
-
-pub stays_same : (m new : Memory) (placed : List PlacedFile) → ShowTheSame m new → Stays m new placed placed
+-- a memory that isn't touched holds what it held
+pub stays_same : (m new : Memory) (placed : List PlacedFile) → new ≡ m → Stays m new placed placed
 stays_same m new placed same = record {
-  top = same.top;
-  fill = same.fill;
-  others = λ address ram beside. (beside, same.bytes address (subst (λ top. IsRam top address) same.top ram));
+  top = ap (λ (n : Memory). n.top) same;
+  fill = ap (λ (n : Memory). n.fill) same;
+  others = λ address ram beside. (beside, ap (λ n. at n address) same);
 }
 
 -- a load that places no file goes on

@@ -13,7 +13,7 @@ use Rattle.script_load.specs.FilesInMemory.{placed_range, EndsLow, placed_in, fi
 use Rattle.script_load.proofs.Writes.{stays}
 
 -- what holds of each element and of one more
-all_push : {A : Type 0} (P : A → Type 0) (xs : List A) (x : A) → AllByRecursion P xs → P x → AllByRecursion P (xs ++ x ∷ [])
+pub all_push : {A : Type 0} (P : A → Type 0) (xs : List A) (x : A) → AllByRecursion P xs → P x → AllByRecursion P (xs ++ x ∷ [])
 all_push P [] x all one = (one, tt)
 all_push P (y ∷ ys) x all one = (all.0, all_push P ys x all.1 one)
 
@@ -43,7 +43,7 @@ first_apart top q p placed new = record {
 }
 
 -- with it all are placed
-ArePlaced-push : (top : ℕ) (placed : List PlacedFile) (p : PlacedFile) → ArePlaced top placed → IsNew top placed p → ArePlaced top (placed ++ p ∷ [])
+pub ArePlaced-push : (top : ℕ) (placed : List PlacedFile) (p : PlacedFile) → ArePlaced top placed → IsNew top placed p → ArePlaced top (placed ++ p ∷ [])
 ArePlaced-push top [] p placed new = (new.ram, new.low, tt, tt)
 ArePlaced-push top (q ∷ files) p placed new = (
   placed.0,

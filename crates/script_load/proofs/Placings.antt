@@ -174,7 +174,7 @@ places_put placed f (info ∷ infos) distinct none there =
     ]
 
 -- one place more
-count_put : (places : List (Option ℕ)) (i place : ℕ) → i < length places → get_or places i None ≡ None
+pub count_put : (places : List (Option ℕ)) (i place : ℕ) → i < length places → get_or places i None ≡ None
     → count_places (slice_set places i (Some place)) ≡ suc (count_places places)
 count_put [] i place within none = absurd (omega (arith, within))
 count_put (None ∷ places) zero place within none = refl
@@ -189,7 +189,7 @@ count_most (None ∷ places) = omega (arith, count_most places)
 count_most (Some p ∷ places) = omega (arith, count_most places)
 
 -- a place that is none leaves fewer places than files
-count_few : (places : List (Option ℕ)) (i : ℕ) → i < length places → get_or places i None ≡ None → count_places places < length places
+pub count_few : (places : List (Option ℕ)) (i : ℕ) → i < length places → get_or places i None ≡ None → count_places places < length places
 count_few [] i within none = absurd (omega (arith, within))
 count_few (None ∷ places) i within none = omega (arith, count_most places)
 count_few (Some p ∷ places) zero within none = absurd (none-some p (sym none))
@@ -235,7 +235,7 @@ pub found_there : (infos : List FileInfo) (name : List ℕ) (found : Option ℕ)
 found_there infos name found there is = is ∙ cond-true _ _ _ (lt-ltb _ _ (there_within infos name there))
 
 -- a file that isn't placed stands nowhere
-unplaced_nowhere : (placed : List PlacedFile) (infos : List FileInfo) (name : List ℕ) → placed_named placed name ≡ None
+pub unplaced_nowhere : (placed : List PlacedFile) (infos : List FileInfo) (name : List ℕ) → placed_named placed name ≡ None
     → get_or (places_in placed infos) (index_of infos name) None ≡ None
 unplaced_nowhere placed [] name none = refl
 unplaced_nowhere placed (info ∷ infos) name none =

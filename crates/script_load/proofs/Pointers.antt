@@ -1,12 +1,13 @@
 -- A number of a placed file that gets a place added.
-use Rattle.std.proofs.Common.{◌≡◌, ℕ, ◌+◌, ◌<◌, ◌≤◌, List, length, Some, Result, Ok, Err, IsErr, OnOk, OnErr, ◌↔◌, inl, inr, arith, refl, ap, subst, sym, ◌∙◌}
+use Rattle.std.proofs.Common.{◌≡◌, ℕ, ◌+◌, ◌<◌, ◌≤◌, List, length, Some, Result, Ok, Err, IsErr, OnOk, OnErr, ◌↔◌, inl, inr, arith, refl, ap, ap₂, subst, sym, ◌∙◌}
+use Rattle.std.specs.Option.{option_map_or}
 use Rattle.std.proofs.lemmas.Bool.{cases_lt, true≢false}
 use Rattle.std.proofs.lemmas.Option.{same_Some}
 use Rattle.vt_bytes.specs.Numbers.{le, le_bytes}
-use Rattle.vt_bytes.specs.Memory.{Memory, IsRamRange, bytes_at, Puts}
+use Rattle.vt_bytes.specs.Memory.{Memory, IsRamRange, bytes_at, with_bytes, Puts}
 use Rattle.script_load.specs.declared.placed.PlacedFile.{PlacedFile}
 use Rattle.loader_script.specs.Run.{Placed, placed_with, pointer_sum, with_pointer}
-use Rattle.script_load.specs.FilesInMemory.{placed_named, placed_in, files_in, ArePlaced, Stays, CanPoint}
+use Rattle.script_load.specs.FilesInMemory.{placed_named, place_of, placed_in, files_in, pointed, ArePlaced, Stays, CanPoint}
 use Rattle.script_load.proofs.NamedInMemory.{found_in}
 use Rattle.vt_bytes.proofs.Bytes.{length-bytes_at, part-bytes_at}
 use Rattle.vt_bytes.proofs.Numbers.{length-le_bytes}
@@ -96,3 +97,15 @@ pub pointer_stays : (m new : Memory) (placed : List PlacedFile) (dest src : List
 pointer_stays m new placed dest src offset size field p s field_is pointer puts =
     stays_written m new placed dest p offset (le_bytes size (le (bytes_at m field size) + s.place)) pointer.dest_is
     (pointer_write m new placed dest src offset size field p s field_is pointer puts)
+
+-- the place of a file that is found
+pub place_found : (placed : List PlacedFile) (name : List ℕ) (p : PlacedFile) → placed_named placed name ≡ Some p → place_of placed name ≡ p.place
+place_found placed name p found = ap (λ o. option_map_or (λ (q : PlacedFile). q.place) o 0) found
+
+-- the memory with the sum in it is the one that the definition gives
+pub pointed_from : (m : Memory) (placed : List PlacedFile) (dest src : List ℕ) (offset size field : ℕ) (p s : PlacedFile) → field ≡ p.place + offset
+    → placed_named placed dest ≡ Some p → placed_named placed src ≡ Some s
+    → with_bytes m field (le_bytes size (le (bytes_at m field size) + s.place)) ≡ pointed m placed dest src offset size
+pointed_from m placed dest src offset size field p s field_is dest_is src_is =
+    ap₂ (λ at place. with_bytes m at (le_bytes size (le (bytes_at m at size) + place)))
+    (field_is ∙ ap (λ place. place + offset) (sym (place_found placed dest p dest_is))) (sym (place_found placed src s src_is))

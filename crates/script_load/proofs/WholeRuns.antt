@@ -18,16 +18,11 @@ use Rattle.script_load.specs.declared.loading.Stop.TheVariants as stop
 use Rattle.script_load.specs.FilesInMemory.{placed_ranges, files_in}
 use Rattle.script_load.specs.LoadingInside.{IsKept, GoesOn, files_now}
 use Rattle.script_load.specs.Loads.{IsLoaded}
-use Rattle.script_load.specs.Runs.{Answers, EndsWith, done, request_by, request_at, result_of}
+use Rattle.script_load.specs.Runs.{Answers, EndsWith, RunsFrom, done, request_by, request_at, result_of}
 use Rattle.script_load.specs.Steps.{LeadsOn, EndsAt, end_at, fault_at}
 use Rattle.script_load.proofs.Allocations.{ranges_in}
 use Rattle.script_load.proofs.LeftMemory.{left_from_stays}
 use Rattle.script_load.proofs.PlainRuns.{is_run}
-
--- However the run ends from here on, so it ends from its first command on.
-abbrev pub RunsFrom : Answers → List File → List Entry → ℕ → List Placed → Type 0
-RunsFrom May files script index now = (end : End) (final : List Placed)
-    → EndsWith May files index (drop index script) now end final → EndsWith May files 0 script [] end final
 
 -- a load begins with no file
 pub begins : (May : Answers) (files : List File) (script : List Entry) (l : Loading) → l.placements.placed.items ≡ []

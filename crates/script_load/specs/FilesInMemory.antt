@@ -1,11 +1,12 @@
 -- Files that a load has placed, with the bytes that memory holds there.
-use Rattle.std.specs.Prelude.{◌≡◌, ◌≢◌, ℕ, ◌+◌, ◌^◌, ◌<◌, ◌≤◌, ◌⊎◌, List, [], ◌∷◌, length, map, find, Option, Some}
+use Rattle.std.specs.Prelude.{◌≡◌, ◌≢◌, ℕ, ◌+◌, ◌-◌, ◌%◌, ◌^◌, ◌<◌, ◌≤◌, ◌⊎◌, List, [], ◌∷◌, length, map, find, Option, Some}
 use Rattle.std.specs.List.{AllByRecursion}
-use Rattle.std.specs.Option.{option_map}
+use Rattle.std.specs.Option.{option_map, option_map_or}
 use Rattle.std.specs.Str.{bytes_eq}
 use Rattle.vt_outside.specs.Placement.{Range, Apart}
 use Rattle.vt_layout.specs.Rows.{IsPointerSize}
-use Rattle.vt_bytes.specs.Memory.{Memory, IsRam, IsRamRange, at, bytes_at}
+use Rattle.vt_bytes.specs.Numbers.{le, le_bytes, byte_sum}
+use Rattle.vt_bytes.specs.Memory.{Memory, IsRam, IsRamRange, at, bytes_at, with_bytes}
 use Rattle.loader_script.specs.Run.{File, Placed, Progress, file_of, placed_of}
 use Rattle.script_load.specs.declared.placed.PlacedFile.{PlacedFile}
 use Rattle.script_load.specs.Runs.{at_files}
@@ -24,6 +25,22 @@ EndsLow p = p.place + p.size ≤ 2 ^ 32
 -- the placed file that has the name
 abbrev pub placed_named : List PlacedFile → List ℕ → Option PlacedFile
 placed_named placed name = find (λ (p : PlacedFile). bytes_eq p.name name) placed
+
+-- where the placed file of a name stands
+abbrev pub place_of : List PlacedFile → List ℕ → ℕ
+place_of placed name = option_map_or (λ (p : PlacedFile). p.place) (placed_named placed name) 0
+
+-- the memory after the place of one file is added to a number in another
+abbrev pub pointed : Memory → List PlacedFile → List ℕ → List ℕ → ℕ → ℕ → Memory
+pointed m placed dest src offset size =
+    let field = place_of placed dest + offset in
+    with_bytes m field (le_bytes size (le (bytes_at m field size) + place_of placed src))
+
+-- the memory after the sum of a range of a file is subtracted from a byte of it
+abbrev pub summed : Memory → List PlacedFile → List ℕ → ℕ → ℕ → ℕ → Memory
+summed m placed name offset start count =
+    let place = place_of placed name in
+    with_bytes m (place + offset) ((at m (place + offset) + (256 - byte_sum (bytes_at m (place + start) count))) % 256 ∷ [])
 
 -- a placed file with its bytes in memory
 abbrev pub placed_in : Memory → PlacedFile → Placed

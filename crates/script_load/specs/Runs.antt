@@ -1,5 +1,5 @@
 -- The run of a script whose Allocates are answered by an allocator, and the end of a load.
-use Rattle.std.specs.Prelude.{◌≡◌, ◌≢◌, ℕ, suc, List, [], ◌∷◌, ◌++◌, length, map, slice_get, Option, Some, None, Result, Ok, Err}
+use Rattle.std.specs.Prelude.{◌≡◌, ◌≢◌, ℕ, suc, List, [], ◌∷◌, ◌++◌, length, map, drop, slice_get, Option, Some, None, Result, Ok, Err}
 use Rattle.std.specs.Option.{option_map_or}
 use Rattle.vt_outside.specs.Placement.{Range}
 use Rattle.loader_script.specs.declared.entry.Entry.{Entry}
@@ -68,6 +68,11 @@ pub data EndsWith (May : Answers) (files : List File) : ℕ → List Entry → L
       → carried_out entry (at_files files placed []) ≡ Some (at_files files next [])
       → EndsWith May files (suc index) script next end final
       → EndsWith May files index (entry ∷ script) placed end final
+
+-- However the run ends from here on, so it ends from its first command on.
+abbrev pub RunsFrom : Answers → List File → List Entry → ℕ → List Placed → Type 0
+RunsFrom May files script index now = (end : End) (final : List Placed)
+    → EndsWith May files index (drop index script) now end final → EndsWith May files 0 script [] end final
 
 -- The run of a script over files ends so, with these files placed. Their ranges are those that were handed out, in their order, and the
 -- run is that on plain lists with these places. A run that has room ends in the same way where more places are given, and leaves those.

@@ -1,9 +1,8 @@
-ghost use Rattle.std.specs.Prelude.{◌≡◌, ◌≢◌, ℕ, ◌<◌, ◌≤◌, ◌^◌, [], true, length, Some, None, Ok, Err, IfOk, IfErr, OnOk, OnErr};
+ghost use Rattle.std.specs.Prelude.{◌≡◌, ◌≢◌, ℕ, ◌≤◌, [], true, length, Some, None, Ok, Err, IfOk, IfErr, OnOk, OnErr};
 ghost use Rattle.std.specs.List.{AllByRecursion};
 ghost use Rattle.vt_outside.specs.Stream.{Rose};
 ghost use Rattle.vt_bytes.specs.Memory.{IsTop};
-ghost use Rattle.cfg_directory.specs.Items.{IsItems};
-ghost use Rattle.loader_script.specs.Run.{infos_of, cause_of};
+ghost use Rattle.loader_script.specs.Run.{cause_of};
 ghost use Rattle.loader_script.specs.declared.entry.Entry.TheVariants.{Allocate, AddPointer, AddChecksum};
 ghost use Rattle.loader_script.specs.declared.refusing.Cause.TheVariants.{TooFar};
 ghost use Rattle.image_files.specs.Items.{files_of};
@@ -18,10 +17,10 @@ ghost use Rattle.script_load.specs.World.{IsBlank};
 use crate::commands::{add_checksum, add_pointer, bytes_of};
 use crate::fault::LoadFault;
 use crate::placed::PlacedFile;
-use crate::placements::Placements;
-use cfg_directory::{Item, Items};
+use crate::placements::{Placements, infos_of};
+use cfg_directory::Items;
 use guest_memory::GuestMemory;
-use loader_script::{Cause, Entry, FileInfo};
+use loader_script::{Cause, Entry};
 use std::alloc::Global;
 use vt_outside::{Name, OutOfMemory};
 use zone_alloc::{NoRoom, Zone, ZoneAlloc};
@@ -273,28 +272,5 @@ impl From<guest_memory::TooFar> for Stop {
 
     fn from(_far: guest_memory::TooFar) -> Stop {
         Stop::Refused(Cause::TooFar)
-    }
-}
-
-// What the causes of a refusal need to know of files.
-fn infos_of(alloc: Global, items: &[Item]) -> Result<Vec<FileInfo>, OutOfMemory>
-    requires { IsItems items.now }
-    ensures { IfOk result (λ infos. infos.items ≡ infos_of (files_of items.now)) }
-{
-    let mut infos = Vec::with_capacity(alloc, items.len())?;
-    for item in items {
-        infos.push_reserved(info_of(item));
-    }
-    Ok(infos)
-}
-
-fn info_of(item: &Item) -> FileInfo
-    requires { length item.now.bytes < 2 ^ 32 }
-    ensures { result ≡ record { name = item.now.name; size = length item.now.bytes; writable = item.now.writable } }
-{
-    FileInfo {
-        name: item.name,
-        size: item.bytes.len() as u32,
-        writable: item.writable,
     }
 }

@@ -1,9 +1,12 @@
 use vt_outside::Name;
 
-/// Where a file was placed, and how many bytes it has there.
+/// Tells where a file was placed: its name, the guest address of its first byte, and how many bytes it has there.
 #[derive(Clone, Copy, Debug)]
-pub(crate) struct PlacedFile {
-    pub(crate) name: Name,
-    pub(crate) place: u64,
-    pub(crate) size: u64,
+pub struct PlacedFile {
+    /// The name of the file.
+    pub name: Name,
+    /// The guest address of its first byte.
+    pub place: u64,
+    /// How many bytes it has.
+    pub size: u64,
 }

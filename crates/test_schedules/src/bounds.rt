@@ -3,8 +3,9 @@
 ghost use Rattle.std.specs.Prelude.{◌≡◌, [], ◌∷◌, IfSome, IfNone, IsSome};
 ghost use Rattle.firmware_load.specs.Schedules.{seeded_events};
 
-use firmware_load::Event::Device;
-use firmware_load::{Event, Schedule, SeededSchedule};
+use firmware_load::{Schedule, SeededSchedule};
+use load_machine::Event;
+use load_machine::Event::Device;
 use std::process::Abort;
 use std::test::Fail;
 

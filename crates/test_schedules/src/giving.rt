@@ -1,6 +1,7 @@
 //! Schedules, and the events that they are to give.
 
-use firmware_load::{Event, Schedule};
+use firmware_load::Schedule;
+use load_machine::Event;
 use std::process::Abort;
 
 /// The schedule gives these events next, in order.

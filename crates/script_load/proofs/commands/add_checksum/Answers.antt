@@ -1,11 +1,11 @@
-use Rattle.std.proofs.Common.{◌≡◌, ◌+◌, ◌-◌, ◌%◌, IsSome, arith, ap, ap₂, refl, subst, sym}
+use Rattle.std.proofs.Common.{◌≡◌, ◌+◌, ◌-◌, ◌%◌, IsSome, arith, ap, ap₂, refl, subst, sym, ◌∙◌}
 use Rattle.vt_bytes.specs.Numbers.{byte_sum}
 use Rattle.vt_bytes.specs.Memory.{at, bytes_at}
 use Rattle.vt_bytes.proofs.Memories.{puts_byte_with}
 use Rattle.script_load.specs.FilesInMemory.{EndsLow}
 use Rattle.script_load.proofs.NamedInMemory.{some_named}
 use Rattle.script_load.proofs.PlacedFiles.{found_is_placed}
-use Rattle.script_load.proofs.Checksums.{IsSum, sum_ram, byte_ram, sum_after, sum_stays}
+use Rattle.script_load.proofs.Checksums.{IsSum, sum_ram, byte_ram, sum_after, sum_stays, summed_from}
 use Rattle.script_load.proofs.commands.add_checksum.Goals as goal
 
 pub placed_of-requires : goal.placed_of-requires
@@ -62,3 +62,15 @@ returns-clause-stays c =
     sum_stays _ _ _ _ _ _ _ _ _ _ (ap (λ offset. c.placed_of.result.now.place + offset) c.from.ensures) sum
     (puts_byte_with _ _ _ _ c.write.ensures.lawful (byte_ram _ _ _ _ _ _ _ _ (ap (λ offset. c.placed_of.result.now.place + offset) c.from.ensures) sum)
     c.write.ensures.after)
+
+pub returns-clause-exact : goal.returns-clause-exact
+returns-clause-exact c =
+    let byte : (c.read-byte.result + (256 - c.sum_range-sum.result)) % 256
+    ≡ (at c.args.memory.now (c.placed_of.result.now.place + c.from.result) + (256 - byte_sum
+    (bytes_at c.args.memory.now (c.placed_of.result.now.place + c.from-2.result) c.args.length))) % 256 =
+    ap₂ (λ byte range. (byte + (256 - range)) % 256) c.read-byte.ensures c.sum_range-sum.ensures in
+    c.write.ensures.after
+    ∙ summed_from c.args.memory.now c.args.placed.now c.args.name.now c.args.offset c.args.start c.args.length
+    (c.placed_of.result.now.place + c.from.result) (c.placed_of.result.now.place + c.from-2.result) _ c.placed_of.result.now
+    (ap (λ offset. c.placed_of.result.now.place + offset) c.from.ensures) (ap (λ start. c.placed_of.result.now.place + start) c.from-2.ensures)
+    c.placed_of.ensures byte

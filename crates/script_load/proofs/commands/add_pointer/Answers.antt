@@ -1,9 +1,9 @@
-use Rattle.std.proofs.Common.{◌≡◌, ◌+◌, IsSome, arith, ap, refl, subst, sym}
+use Rattle.std.proofs.Common.{◌≡◌, ◌+◌, IsSome, arith, ap, refl, subst, sym, ◌∙◌}
 use Rattle.vt_bytes.proofs.Memories.{puts_number_with}
 use Rattle.script_load.specs.FilesInMemory.{EndsLow}
 use Rattle.script_load.proofs.NamedInMemory.{some_named}
 use Rattle.script_load.proofs.PlacedFiles.{found_is_placed}
-use Rattle.script_load.proofs.Pointers.{IsPointer, OnOk-map, fits_from, far_from, pointer_ram, pointer_number, pointer_after, pointer_stays}
+use Rattle.script_load.proofs.Pointers.{IsPointer, OnOk-map, fits_from, far_from, pointer_ram, pointer_number, pointer_after, pointer_stays, pointed_from}
 use Rattle.script_load.proofs.commands.add_pointer.Goals as goal
 
 pub placed_of-requires : goal.placed_of-requires
@@ -56,4 +56,12 @@ returns-clause-stays c =
     OnOk-map c.patch_add.result
     (λ with. pointer_stays _ _ _ _ _ _ _ (c.placed_of.result.now.place + c.from.result) _ _ (field_is c) (pointer_of c)
     (puts_number_with _ _ _ _ _ c.patch_add.ensures.lawful (pointer_ram _ _ _ _ _ _ _ _ _ (field_is c) (pointer_of c)) with))
+    c.patch_add.ensures.ok
+
+pub returns-clause-exact : goal.returns-clause-exact
+returns-clause-exact c =
+    OnOk-map c.patch_add.result
+    (λ with. with ∙ pointed_from c.args.memory.now c.args.placed.now c.args.dest.now c.args.src.now c.args.offset c.args.size
+    (c.placed_of.result.now.place + c.from.result) c.placed_of.result.now c.placed_of-2.result.now (field_is c) c.placed_of.ensures
+    c.placed_of-2.ensures)
     c.patch_add.ensures.ok

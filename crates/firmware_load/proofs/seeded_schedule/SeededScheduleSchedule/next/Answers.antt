@@ -1,6 +1,6 @@
 use Rattle.std.proofs.Common.{ℕ, ◌-◌, ◌∷◌, sym, ap, ap₂, ◌∙◌}
 use Rattle.rand_pcg.specs.Lcg.{Lcg}
-use Rattle.firmware_load.specs.declared.event.Event.{Event}
+use Rattle.load_machine.specs.declared.event.Event.{Event}
 use Rattle.firmware_load.specs.Drawing.{drawn_events}
 use Rattle.firmware_load.proofs.Given.{none_left, one_left}
 use Rattle.firmware_load.proofs.seeded_schedule.SeededScheduleSchedule.next.Goals as goal

@@ -1,6 +1,8 @@
+use Rattle.std.proofs.Common.{ap}
 use Rattle.image_files.specs.Items.{files_of}
+use Rattle.script_load.specs.FilesInMemory.{files_in}
 use Rattle.script_load.proofs.Causes.{pointer_stops}
-use Rattle.script_load.proofs.OneCommand.{on_err, pointer_can, pointer_carries, same_files}
+use Rattle.script_load.proofs.OneCommand.{on_err, pointer_can, pointer_carries}
 use Rattle.script_load.proofs.loading.Loading.add_pointer.Goals as goal
 
 pub add_pointer-requires-clause-lawful : goal.add_pointer-requires-clause-lawful
@@ -16,8 +18,7 @@ returns-in_err-add_pointer-clause-far c =
 pub returns-in_err-add_pointer-clause-same : goal.returns-in_err-add_pointer-clause-same
 returns-in_err-add_pointer-clause-same c =
     on_err c.from_residual.result _
-    (same_files c.args.self.now.memory c.add_pointer.new.memory c.args.self.now.placements.placed.items c.in_err-add_pointer.ensures.same
-    c.requires.kept.loading.apart)
+    (ap (λ m. files_in m c.args.self.now.placements.placed.items) c.in_err-add_pointer.ensures.same)
 
 pub returns-clause-carries : goal.returns-clause-carries
 returns-clause-carries c =

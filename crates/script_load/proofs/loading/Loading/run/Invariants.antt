@@ -3,7 +3,7 @@ use Rattle.image_files.specs.Items.{files_of}
 use Rattle.script_load.specs.Allocators.{MayAnswer}
 use Rattle.script_load.specs.FilesInMemory.{placed_ranges}
 use Rattle.script_load.specs.LoadingInside.{GoesOn, files_now}
-use Rattle.script_load.proofs.WholeRuns.{RunsFrom}
+use Rattle.script_load.specs.Runs.{RunsFrom}
 use Rattle.script_load.proofs.loading.Loading.run.Given as goal
 
 abbrev pub invariant-loop-index : goal.invariant-loop-index

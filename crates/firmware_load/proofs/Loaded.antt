@@ -1,0 +1,111 @@
+-- A whole load: it follows its plan, and is closed.
+use Rattle.std.proofs.Common.{◌≡◌, ℕ, ◌≤◌, ◌⊎◌, inl, inr, Bool, true, false, List, [], ◌++◌, Option, Some, IfSome, Result, Ok, Err, arith, refl, sym, ap, subst, ◌∙◌}
+use Rattle.std.proofs.lemmas.Bool.{cases_Bool, true≢false}
+use Rattle.std.proofs.lemmas.List.{append-nil}
+use Rattle.vt_outside.specs.Placement.{Range}
+use Rattle.vt_outside.specs.Stream.{Rose}
+use Rattle.zone_alloc.specs.declared.alloc.Request.{Request}
+use Rattle.script_load.specs.declared.fault.LoadFault.{LoadFault}
+use Rattle.script_load.specs.declared.fault.LoadFault.TheVariants.{NoRoom}
+use Rattle.script_load.specs.FilesInMemory.{placed_ranges}
+use Rattle.script_load.specs.Loads.{IsAsked}
+use Rattle.script_load.specs.Runs.{Answers}
+use Rattle.load_machine.specs.declared.event.Event.{Event}
+use Rattle.load_machine.specs.declared.stage.Stage.{Stage}
+use Rattle.load_machine.specs.declared.stage.Stage.TheVariants.{AsksCount, AwaitsCount, AsksEntries, AwaitsEntries, AsksScript, AwaitsScript}
+use Rattle.load_machine.specs.declared.stage.Stage.TheVariants.{AtCommand, AwaitsFile, Done, Refused}
+use Rattle.load_machine.specs.Loads.{most_closing, stage_after}
+use Rattle.load_machine.specs.Machine.{Machine, memory_of}
+use Rattle.load_machine.specs.Runs.{EndsAfter, closing_events, has_ended}
+use Rattle.load_machine.proofs.WholeRuns.{loaded_over}
+use Rattle.firmware_load.specs.World.{IsLoadOver}
+use Rattle.firmware_load.specs.declared.loading.Loading.{Loading}
+use Rattle.firmware_load.specs.Inside.{machine_in, IsOnRun, AsksOnTheWay}
+use Rattle.firmware_load.proofs.OnRun.{Follows, asks_through, asks_no_more}
+
+-- What closing a load leads to, from wherever it is on its run.
+abbrev pub IsClosed : Answers → Machine → Machine → Type 0
+IsClosed May between last =
+    (begun : Machine) (before : List Event) → IsOnRun May begun before between
+    → (closing : ℕ) × (closing ≤ most_closing between.attached.device.items) × (has_ended between.stage ≡ true → closing ≡ 0)
+    × IsOnRun May begun (before ++ closing_events closing) last
+
+-- A load that was begun, has followed its plan and was closed, is over.
+pub load_over : (May : Answers) (first between last : Machine) (left_first left : List Event) (handed : List Range)
+    (answer : Result (Unit {0}) LoadFault) → IsOnRun May first [] first → Follows May first between left_first left
+    → (has_ended between.stage ≡ true) ⊎ (left ≡ []) → IsClosed May between last → has_ended last.stage ≡ true
+    → last.stage ≡ stage_after answer → handed ≡ placed_ranges last.placed → IsLoadOver May first left_first left handed answer last
+load_over May first between last left_first left handed answer on follows ends closes over stage placed =
+    let so = follows first [] on in
+    let taken = so.0 in
+    let closed = closes first taken so.2 in
+    let closing = closed.0 in
+    record {
+      taken = taken;
+      closing = closing;
+      plan = so.1;
+      few = subst (λ its. closing ≤ most_closing its) so.2.kept.items closed.1;
+      after_plan = λ some. elim ends as (λ _. left ≡ []) [
+        | inl ended ↦ let none = closed.2 ended in absurd (omega (arith, some, none))
+        | inr none ↦ none
+      ];
+      ran = subst (λ (es : List Event). EndsAfter May es first last) (append-nil (taken ++ closing_events closing)) (closed.3.goes_on [] last (refl, over));
+      leaves = loaded_over May first.attached.device.items (memory_of first).top (memory_of first).fill taken closing handed answer last closed.3.kept
+          stage placed;
+    }
+
+-- what was asked on the whole way
+pub asks_in_all : (first between last : Loading) (refusals_first refusals_between refusals : ℕ) (refused_first refused_between refused : Option Request)
+    → AsksOnTheWay first between refusals_first refusals_between refused_first refused_between
+    → AsksOnTheWay between last refusals_between refusals refused_between refused
+    → AsksOnTheWay first last refusals_first refusals refused_first refused
+asks_in_all first between last refusals_first refusals_between refusals refused_first refused_between refused before after =
+    elim (cases_Bool (has_ended between.stage)) as (λ _. AsksOnTheWay first last refusals_first refusals refused_first refused) [
+      | inl over ↦
+          asks_no_more first between last refusals_first refusals_between refusals refused_first refused_between refused over before after
+      | inr running ↦
+          asks_through first between last refusals_first refusals_between refusals refused_first refused_between refused running before after
+    ]
+
+-- whether a stage is a refusal
+abbrev is_refused : Stage → Bool
+is_refused (Refused why) = true
+is_refused AsksCount = false
+is_refused AwaitsCount = false
+is_refused (AsksEntries size taken) = false
+is_refused (AwaitsEntries size taken) = false
+is_refused (AsksScript select size taken) = false
+is_refused (AwaitsScript select size taken) = false
+is_refused (AtCommand index) = false
+is_refused (AwaitsFile index) = false
+is_refused Done = false
+
+same_refusal : (why other : LoadFault) → Refused why ≡ Refused other → why ≡ other
+same_refusal why other is = cc
+
+-- an answer that is no room comes with the stage that says so, and no other does
+answers_no_room : (answer : Result (Unit {0}) LoadFault) (index : ℕ) (s : Stage) → s ≡ stage_after answer → s ≡ Refused (NoRoom index)
+    → answer ≡ Err (NoRoom index)
+answers_no_room (Ok nothing) index s is at = absurd (true≢false (ap is_refused (sym at ∙ is)))
+answers_no_room (Err why) index s is at = ap Err (same_refusal why (NoRoom index) (sym is ∙ at))
+
+-- What a load says of its allocator: where it answers that there is no room, and where it doesn't.
+pub without_room : (first last : Loading) (refusals_first refusals : ℕ) (refused_first refused : Option Request) (answer : Result (Unit {0}) LoadFault)
+    → AsksOnTheWay first last refusals_first refusals refused_first refused → first.stage ≡ AsksCount → last.stage ≡ stage_after answer
+    → ((index : ℕ) → answer ≡ Err (NoRoom index) → Rose refusals_first refusals × IsAsked first.guest.device.items index refused)
+    × (((index : ℕ) → answer ≡ Err (NoRoom index) → ⊥) → refusals ≡ refusals_first)
+without_room first last refusals_first refusals refused_first refused answer asks begun stage = (
+  λ index is.
+      elim (asks.no_room index (stage ∙ ap stage_after is)) as (λ _. Rose refusals_first refusals × IsAsked first.guest.device.items index refused) [
+        | inl there ↦ absurd (true≢false (sym (ap has_ended there) ∙ ap has_ended begun))
+        | inr so ↦ so
+      ],
+  λ never. asks.sound (λ index is. absurd (never index (answers_no_room answer index last.stage stage is))),
+)
+
+-- what was asked, said of a world that holds the load
+pub asked_of_world : (seen : Option Machine) (loading : Option Loading) (l : Loading) (index : ℕ) (asked : Option Request)
+    → machine_in loading ≡ seen → loading ≡ Some l → IsAsked l.guest.device.items index asked
+    → IfSome seen (λ w. IsAsked w.attached.device.items index asked)
+asked_of_world seen loading l index asked is there asks =
+    subst (λ (o : Option Machine). IfSome o (λ w. IsAsked w.attached.device.items index asked)) (ap machine_in (sym there) ∙ is) asks

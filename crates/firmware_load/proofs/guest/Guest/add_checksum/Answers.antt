@@ -1,0 +1,14 @@
+use Rattle.image_files.specs.Items.{files_of}
+use Rattle.script_load.proofs.OneCommand.{sum_can}
+use Rattle.firmware_load.proofs.CommandsDone.{sum_done}
+use Rattle.firmware_load.proofs.guest.Guest.add_checksum.Goals as goal
+
+pub add_checksum-requires-clause-lawful : goal.add_checksum-requires-clause-lawful
+add_checksum-requires-clause-lawful c =
+    rw c.deref.ensures.value (sum_can c.args.self.now.memory (files_of c.args.self.now.device.items) c.args.self.now.placements.placed.items _ _ _ _
+    c.requires.loading c.requires.early)
+
+pub returns-clause-goes : goal.returns-clause-goes
+returns-clause-goes c = λ listed script.
+    sum_done c.args.self.now.device c.args.self.now.memory c.add_checksum.new.memory c.args.self.now.placements.placed.items listed script
+    c.args.name.now c.args.offset c.args.start c.args.length c.args.index c.requires.early (rw c.deref.ensures.value at c.add_checksum.ensures.exact)

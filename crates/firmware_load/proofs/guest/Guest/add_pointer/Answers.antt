@@ -1,0 +1,22 @@
+use Rattle.image_files.specs.Items.{files_of}
+use Rattle.script_load.proofs.OneCommand.{pointer_can}
+use Rattle.firmware_load.proofs.CommandsDone.{pointer_done, pointer_refused}
+use Rattle.firmware_load.proofs.guest.Guest.add_pointer.Goals as goal
+
+pub add_pointer-requires-clause-lawful : goal.add_pointer-requires-clause-lawful
+add_pointer-requires-clause-lawful c =
+    rw c.deref.ensures.value
+    (pointer_can c.args.self.now.memory (files_of c.args.self.now.device.items) c.args.self.now.placements.placed.items _ _ _ _
+    c.requires.loading c.requires.early)
+
+pub returns-in-Ok-clause-goes : goal.returns-in-Ok-clause-goes
+returns-in-Ok-clause-goes c = λ listed script.
+    pointer_done c.args.self.now.device c.args.self.now.memory c.add_pointer.new.memory c.args.self.now.placements.placed.items listed script
+    c.args.dest.now c.args.src.now c.args.offset c.args.size c.args.index c.requires.early (rw c.deref.ensures.value at c.in-Ok.ensures.fits)
+    (rw c.deref.ensures.value at c.in-Ok.ensures.exact)
+
+pub returns-in-Err-clause-goes : goal.returns-in-Err-clause-goes
+returns-in-Err-clause-goes c = λ listed script.
+    pointer_refused c.args.self.now.device c.args.self.now.memory c.add_pointer.new.memory c.args.self.now.placements.placed.items listed script
+    c.args.dest.now c.args.src.now c.args.offset c.args.size c.args.index c.requires.early (rw c.deref.ensures.value at c.in-Err.ensures.far)
+    c.in-Err.ensures.same

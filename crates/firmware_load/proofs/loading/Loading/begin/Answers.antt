@@ -1,0 +1,46 @@
+use Rattle.std.proofs.Common.{List, length, arith, refl, ap, subst, ◌∙◌}
+use Rattle.vt_bytes.specs.Memory.{IsMemory}
+use Rattle.cfg_directory.specs.declared.item.Item.{Item}
+use Rattle.cfg_directory.specs.Items.{IsItems}
+use Rattle.cfg_dma.specs.Device.{DeviceState}
+use Rattle.image_files.specs.Items.{files_of}
+use Rattle.loader_script.specs.Run.{infos_of}
+use Rattle.script_load.specs.Script.{script_in}
+use Rattle.load_machine.specs.declared.stage.Stage.TheVariants.{AsksCount}
+use Rattle.firmware_load.specs.declared.loading.Loading.{Loading}
+use Rattle.firmware_load.proofs.Opening.{IsOpening, new_device, opening_begun, opening_inside, room_more}
+use Rattle.firmware_load.proofs.loading.Loading.begin.Goals as goal
+
+pub returns : goal.returns
+returns c =
+    let l : Loading = record {
+      guest = record { device = c.in_ok-device.device; memory = c.in_ok-memory.memory; placements = c.in_ok-placements.placements };
+      stage = AsksCount;
+      listed = c.in_ok-listed.listed;
+      script = c.in_ok-script.script;
+    } in
+    let opening : IsOpening c.args.items c.args.top c.args.fill l = record {
+      lawful = subst IsItems c.items.view_is c.items.invariant;
+      names = c.in_ok-device.ensures.names;
+      device = c.in_ok-device.ensures.device;
+      device_is = c.in_ok-device.ensures.begun
+          ∙ ap (λ room. let d : DeviceState = record (new_device c.args.items) { spare = room } in d) c.most_transfers-transfers.ensures;
+      memory = subst IsMemory c.memory.view_is c.memory.invariant;
+      top_is = c.in_ok-memory.ensures.top;
+      fill_is = c.in_ok-memory.ensures.fill;
+      filled = c.in_ok-memory.ensures.filled;
+      is_top = c.requires;
+      stage = refl;
+      listed = c.in_ok-listed.ensures.items;
+      script = c.in_ok-script.ensures.items;
+      placed = c.in_ok-placements.ensures.none;
+      placements = c.in_ok-placements.ensures.are;
+      infos = c.in_ok-placements.ensures.infos
+          ∙ (c.in_ok-infos.ensures ∙ ap (λ (its : List Item). infos_of (files_of its)) c.all-2.ensures.items);
+      listed_room = omega (arith, c.in_ok-listed.ensures.capacity, ap length c.all.ensures.items);
+      script_room = room_more (script_in c.args.items) c.script_len.result _ c.in_ok-script.ensures.capacity c.script_len.ensures;
+    } in
+    record {
+      begun = opening_begun c.args.items c.args.top c.args.fill l opening;
+      inside = opening_inside c.args.items c.args.top c.args.fill l opening;
+    }

@@ -1,0 +1,209 @@
+ghost use Rattle.std.specs.Prelude.{◌≡◌, ◌≢◌, ℕ, ◌+◌, ◌<◌, ◌^◌, List, [], ◌∷◌, ◌++◌, true, Some, None, IsSome};
+ghost use Rattle.vt_outside.specs.Stream.{Rose};
+ghost use Rattle.loader_script.specs.declared.entry.Entry.{Entry};
+ghost use Rattle.loader_script.specs.declared.entry.Entry.TheVariants.{Allocate, AddPointer, AddChecksum};
+ghost use Rattle.script_load.specs.Allocators.{AreZonesOf, MayAnswer};
+ghost use Rattle.script_load.specs.declared.fault.LoadFault.TheVariants.{NoRoom};
+ghost use Rattle.script_load.specs.FilesInMemory.{placed_ranges, placed_named, IsLoading};
+ghost use Rattle.script_load.specs.Placing.{ArePlacements};
+ghost use Rattle.cfg_directory.specs.declared.listed.Listed.{Listed as ListedFile};
+ghost use Rattle.loader_script.specs.Refusal.{info_of, AreDistinct};
+ghost use Rattle.image_files.specs.Items.{files_of};
+ghost use Rattle.cfg_dma.specs.Reads.{started, selected_read};
+ghost use Rattle.cfg_dma.specs.Transfers.{attached};
+ghost use Rattle.load_machine.specs.Guarded.{descriptor_at};
+ghost use Rattle.load_machine.specs.Machine.{listed_named};
+ghost use Rattle.load_machine.specs.Steps.{at_command};
+ghost use Rattle.load_machine.specs.declared.stage.Stage.TheVariants.{AtCommand, Refused};
+ghost use Rattle.load_machine.specs.Runs.{request_for};
+ghost use Rattle.script_load.specs.Runs.{early_cause};
+ghost use Rattle.firmware_load.specs.Inside.{machine_at, progress_now, IsReady, GoesByCommand};
+
+use crate::guest::{Guest, selected_read};
+use cfg_directory::Listed;
+use guest_memory::TooFar;
+use load_machine::Stage;
+use loader_script::{Cause, Entry};
+use script_load::{LoadFault, PlacedFile, add_checksum, add_pointer};
+use vt_outside::Name;
+use zone_alloc::{Zone, ZoneAlloc};
+
+impl Guest {
+    /// Carries out the command of an index, or refuses it, and returns how far the firmware is then. `place` is asked once, for an
+    /// Allocate that isn't refused. The caller says that the guest is ready for a command.
+    pub(crate) fn carry_out<A: ZoneAlloc>(
+        &mut self,
+        entry: &Entry,
+        index: u32,
+        listed: &[Listed],
+        place: &mut A,
+    ) -> Stage
+        requires ready { IsReady self.old listed.now entry.now }
+        requires index { index + 1 < 2 ^ 32 }
+        requires begun { A.begun place.old ≡ true }
+        requires zones { AreZonesOf self.old.memory.top (A.zones place.old) }
+        requires handed { A.handed place.old ≡ placed_ranges self.old.placements.placed.items }
+        ensures goes { (script : List Entry) → GoesByCommand
+            (MayAnswer A.handed A.zones A.policy A.gives (A.zones place.old) (A.policy place.old)) index entry.now
+            (machine_at self.old (AtCommand index) listed.now script) (machine_at self.new result listed.now script) }
+        ensures placements { ArePlacements self.new.placements }
+        ensures infos { self.new.placements.infos ≡ self.old.placements.infos }
+        ensures handed { A.handed place.new ≡ placed_ranges self.new.placements.placed.items }
+        ensures unasked { request_for entry.now (machine_at self.old (AtCommand index) listed.now []) ≡ None → place.new ≡ place.old }
+        ensures no_room { (at : ℕ) → result ≡ Refused (NoRoom at) → (at ≡ index) × Rose (A.refusals place.old) (A.refusals place.new)
+            × (A.refused place.new ≡ request_for entry.now (machine_at self.old (AtCommand index) listed.now [])) }
+        ensures sound { ((at : ℕ) → result ≢ Refused (NoRoom at)) → A.refusals place.new ≡ A.refusals place.old }
+        ensures zones { A.zones place.new ≡ A.zones place.old }
+        ensures policy { A.policy place.new ≡ A.policy place.old }
+        ensures begun { A.begun place.new ≡ A.begun place.old }
+    {
+        if let Some(cause) = self.placements.refusal(entry) {
+            return Stage::Refused(LoadFault::Command { index, cause });
+        }
+        match entry {
+            Entry::Allocate { file, align, zone } => {
+                self.allocate(file, *align, *zone, index, listed, place)
+            }
+            Entry::AddPointer {
+                dest,
+                src,
+                offset,
+                size,
+            } => self.add_pointer(dest, src, *offset, *size, index),
+            Entry::AddChecksum {
+                file,
+                offset,
+                start,
+                length,
+            } => self.add_checksum(file, *offset, *start, *length, index),
+            Entry::Skipped(_) => Stage::AtCommand(index + 1),
+            Entry::WritePointer { .. } | Entry::Misnamed(_) => unreachable!(),
+        }
+    }
+
+    // Asks for a place for a file, and starts the read that brings the file there.
+    fn allocate<A: ZoneAlloc>(
+        &mut self,
+        name: &Name,
+        align: u32,
+        zone: u8,
+        index: u32,
+        listed: &[Listed],
+        place: &mut A,
+    ) -> Stage
+        requires ready { IsReady self.old listed.now (Allocate name.now align zone) }
+        requires early { early_cause (Allocate name.now align zone) (progress_now self.old) ≡ None }
+        requires begun { A.begun place.old ≡ true }
+        requires zones { AreZonesOf self.old.memory.top (A.zones place.old) }
+        requires handed { A.handed place.old ≡ placed_ranges self.old.placements.placed.items }
+        ensures goes { (script : List Entry) → GoesByCommand
+            (MayAnswer A.handed A.zones A.policy A.gives (A.zones place.old) (A.policy place.old)) index (Allocate name.now align zone)
+            (machine_at self.old (AtCommand index) listed.now script) (machine_at self.new result listed.now script) }
+        ensures placements { ArePlacements self.new.placements }
+        ensures infos { self.new.placements.infos ≡ self.old.placements.infos }
+        ensures handed { A.handed place.new ≡ placed_ranges self.new.placements.placed.items }
+        ensures asked { request_for (Allocate name.now align zone) (machine_at self.old (AtCommand index) listed.now []) ≢ None }
+        ensures no_room { (at : ℕ) → result ≡ Refused (NoRoom at) → (at ≡ index) × Rose (A.refusals place.old) (A.refusals place.new)
+            × (A.refused place.new ≡ request_for (Allocate name.now align zone) (machine_at self.old (AtCommand index) listed.now [])) }
+        ensures sound { ((at : ℕ) → result ≢ Refused (NoRoom at)) → A.refusals place.new ≡ A.refusals place.old }
+        ensures zones { A.zones place.new ≡ A.zones place.old }
+        ensures policy { A.policy place.new ≡ A.policy place.old }
+        ensures begun { A.begun place.new ≡ A.begun place.old }
+    {
+        let file = listed_of(listed, name);
+        match place.place(Zone::numbered(zone), file.size, align) {
+            Ok(at) => {
+                self.bring(file, at);
+                Stage::AwaitsFile(index)
+            }
+            Err(_) => Stage::Refused(LoadFault::NoRoom { index }),
+        }
+    }
+
+    // Places a file, and starts the read of all of it, straight to its place.
+    fn bring(&mut self, file: &Listed, at: u64)
+        requires idle { self.old.device.flight ≡ None }
+        requires room { 0 < self.old.device.spare }
+        requires are { ArePlacements self.old.placements }
+        requires distinct { AreDistinct self.old.placements.infos.items }
+        requires there { IsSome (info_of self.old.placements.infos.items file.now.name) }
+        requires fresh { placed_named self.old.placements.placed.items file.now.name ≡ None }
+        ensures after { attached self.new.device self.new.memory
+            ≡ started descriptor_at (selected_read file.now.select) file.now.size at (attached self.old.device self.old.memory) }
+        ensures placed { self.new.placements.placed.items
+            ≡ self.old.placements.placed.items ++ record { name = file.now.name; place = at; size = file.now.size } ∷ [] }
+        ensures are { ArePlacements self.new.placements }
+        ensures infos { self.new.placements.infos ≡ self.old.placements.infos }
+    {
+        self.start(selected_read(file.select), file.size, at);
+        self.placements.put(PlacedFile {
+            name: file.name,
+            place: at,
+            size: u64::from(file.size),
+        });
+    }
+
+    // Adds the place of `src` to a number in `dest`, or refuses to where the sum doesn't fit.
+    fn add_pointer(&mut self, dest: &Name, src: &Name, offset: u32, size: u8, index: u32) -> Stage
+        requires loading { IsLoading self.old.memory.top (files_of self.old.device.items) self.old.placements.placed.items }
+        requires early { early_cause (AddPointer dest.now src.now offset size) (progress_now self.old) ≡ None }
+        requires index { index + 1 < 2 ^ 32 }
+        ensures goes { (listed : List ListedFile) (script : List Entry) →
+            machine_at self.new result listed script
+            ≡ at_command index (Some (AddPointer dest.now src.now offset size)) None (machine_at self.old (AtCommand index) listed script) }
+        ensures placements { self.new.placements ≡ self.old.placements }
+        ensures roomy { (at : ℕ) → result ≢ Refused (NoRoom at) }
+    {
+        match add_pointer(
+            &mut self.memory,
+            &self.placements.placed,
+            dest,
+            src,
+            offset,
+            size,
+        ) {
+            Ok(()) => Stage::AtCommand(index + 1),
+            Err(TooFar) => Stage::Refused(LoadFault::Command {
+                index,
+                cause: Cause::TooFar,
+            }),
+        }
+    }
+
+    // Subtracts the sum of a range of a file from a byte of it.
+    fn add_checksum(
+        &mut self,
+        name: &Name,
+        offset: u32,
+        start: u32,
+        length: u32,
+        index: u32,
+    ) -> Stage
+        requires loading { IsLoading self.old.memory.top (files_of self.old.device.items) self.old.placements.placed.items }
+        requires early { early_cause (AddChecksum name.now offset start length) (progress_now self.old) ≡ None }
+        requires index { index + 1 < 2 ^ 32 }
+        ensures goes { (listed : List ListedFile) (script : List Entry) →
+            machine_at self.new result listed script
+            ≡ at_command index (Some (AddChecksum name.now offset start length)) None (machine_at self.old (AtCommand index) listed script) }
+        ensures placements { self.new.placements ≡ self.old.placements }
+        ensures roomy { (at : ℕ) → result ≢ Refused (NoRoom at) }
+    {
+        add_checksum(
+            &mut self.memory,
+            &self.placements.placed,
+            name,
+            offset,
+            start,
+            length,
+        );
+        Stage::AtCommand(index + 1)
+    }
+}
+
+// The listed file of the name. There is one.
+fn listed_of<'a>(listed: &'a [Listed], name: &Name) -> &'a Listed
+    requires { IsSome (listed_named listed.now name.now) }
+    ensures { listed_named listed.now name.now ≡ Some result.now }
+{
+    listed.iter().find(|file| file.name == *name).unwrap()
+}

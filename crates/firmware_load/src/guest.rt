@@ -1,0 +1,126 @@
+ghost use Rattle.std.specs.Prelude.{◌≡◌, ◌==◌, ◌<◌, ◌≤◌, ◌++◌, [], ◌∷◌, length, None};
+ghost use Rattle.vt_bytes.specs.Numbers.{be};
+ghost use Rattle.vt_bytes.specs.Memory.{IsTop, bytes_at};
+ghost use Rattle.cfg_dma.specs.Reads.{started, descriptor_bytes, selected_read};
+ghost use Rattle.cfg_dma.specs.Transfers.{attached};
+ghost use Rattle.load_machine.specs.Guarded.{descriptor_at, buffer_at, is_guarded, written_by_other};
+ghost use Rattle.load_machine.specs.Steps.{cleared};
+
+use cfg_dma::Device;
+use guest_memory::GuestMemory;
+use script_load::Placements;
+use vt_bytes::{get_be, put_be};
+
+// How many bytes of high memory files may be placed in.
+const HIGH_ZONE_BYTES: u64 = 0x100_0000;
+
+// Where the firmware works: 16 bytes for the descriptor of a transfer, and a buffer that it reads through.
+const DESCRIPTOR: u64 = 0x7000;
+
+const DESCRIPTOR_LOW: u32 = 0x7000;
+
+/// Where the firmware's buffer is.
+pub(crate) const BUFFER: u64 = 0x8000;
+
+/// How many bytes the buffer has.
+pub(crate) const BUFFER_BYTES: u32 = 4096;
+
+/// What the firmware of a load works on: the fw_cfg device, the memory that it is attached to, and which files are placed.
+#[derive(Drop)]
+pub(crate) struct Guest {
+    pub(crate) device: Device,
+    pub(crate) memory: GuestMemory,
+    pub(crate) placements: Placements,
+}
+
+/// A control word that asks for a read from where the last one ended.
+pub(crate) const NEXT_READ: u32 = 0x02;
+
+// A read of an item that is selected.
+const SELECTED_READ: u32 = 0x0A;
+
+/// Returns the control word that asks for a read of an item from its start.
+pub(crate) fn selected_read(select: u16) -> u32
+    ensures { result ≡ selected_read select }
+{
+    u32::from(select) * 0x1_0000 + SELECTED_READ
+}
+
+impl Guest {
+    /// Starts a transfer of `size` bytes at a guest address: writes its descriptor into the work range, and the descriptor's address
+    /// into the device. None may be in flight, and there must be room for one more to finish.
+    pub(crate) fn start(&mut self, control: u32, size: u32, address: u64)
+        requires idle { self.old.device.flight ≡ None }
+        requires room { 0 < self.old.device.spare }
+        ensures after { attached self.new.device self.new.memory
+            ≡ started descriptor_at control size address (attached self.old.device self.old.memory) }
+        ensures placements { self.new.placements ≡ self.old.placements }
+    {
+        let descriptor = descriptor(control, size, address);
+        self.memory.copy_in(DESCRIPTOR, &descriptor);
+        self.device.write_address_high(0);
+        self.device
+            .write_address_low(&mut self.memory, DESCRIPTOR_LOW);
+    }
+
+    /// Looks at the control word: tells whether the transfer is over.
+    pub(crate) fn is_over(&self) -> bool
+        ensures { result ≡ (be (bytes_at self.now.memory descriptor_at 4) == 0) }
+    {
+        get_be(self.memory.window(DESCRIPTOR, 4), 0, 4) == 0
+    }
+
+    /// Lends the first bytes of the buffer, at most 4,096.
+    pub(crate) fn buffered(&self, count: u32) -> &[u8]
+        requires { count ≤ 4096 }
+        ensures bytes { result.now ≡ bytes_at self.now.memory buffer_at count }
+        ensures len { length result.now ≡ count }
+    {
+        self.memory.window(BUFFER, count)
+    }
+
+    /// Another processor writes a byte. Nothing happens where the address is no RAM, or is guarded.
+    pub(crate) fn write_by_other(&mut self, addr: u64, byte: u8)
+        ensures memory { self.new.memory ≡ written_by_other addr byte self.old.memory }
+        ensures device { self.new.device ≡ self.old.device }
+        ensures placements { self.new.placements ≡ self.old.placements }
+    {
+        if self.memory.is_ram(addr) && !is_guarded(self.memory.top(), addr) {
+            self.memory.write(addr, byte);
+        }
+    }
+
+    /// Puts the fill byte into the work range.
+    pub(crate) fn clear(&mut self)
+        ensures memory { self.new.memory ≡ cleared self.old.memory }
+        ensures device { self.new.device ≡ self.old.device }
+        ensures placements { self.new.placements ≡ self.old.placements }
+    {
+        let fill = self.memory.fill();
+        self.memory.copy_in(DESCRIPTOR, &[fill; 16]);
+        self.memory.copy_in(BUFFER, &[fill; BUFFER_BYTES as usize]);
+    }
+}
+
+// The bytes of a descriptor: three numbers, each high byte first.
+fn descriptor(control: u32, size: u32, address: u64) -> [u8; 16]
+    ensures { result ≡ descriptor_bytes control size address }
+{
+    let mut bytes = [0; 16];
+    put_be(&mut bytes, 0, 4, u64::from(control));
+    put_be(&mut bytes, 4, 4, u64::from(size));
+    put_be(&mut bytes, 8, 8, address);
+    bytes
+}
+
+// Whether no other processor writes at an address: it lies in the work range, in the BIOS area, in which the F segment is, or in high memory.
+fn is_guarded(top: u32, addr: u64) -> bool
+    requires { IsTop top }
+    ensures { result ≡ is_guarded top addr }
+{
+    let high = u64::from(top) - HIGH_ZONE_BYTES;
+    (0x7000..0x7010).contains(&addr)
+        || (0x8000..0x9000).contains(&addr)
+        || (0xE_0000..0x10_0000).contains(&addr)
+        || (high..u64::from(top)).contains(&addr)
+}

@@ -1,0 +1,48 @@
+ghost use Rattle.std.specs.Prelude.{◌≡◌, ◌≤◌, ◌<◌, ◌-◌, ◌^◌, length, IfOk};
+ghost use Rattle.load_machine.specs.Loads.{script_size};
+ghost use Rattle.load_machine.specs.Moves.{most_transfers, pieces_of};
+ghost use Rattle.script_load.specs.Script.{script_in};
+
+use cfg_directory::Items;
+use image_files::loader_name;
+
+// The most bytes of a script, and how many a command has.
+const LONGEST_SCRIPT: usize = 1_048_576;
+
+const COMMAND_BYTES: usize = 128;
+
+/// Returns how many transfers a load of items makes at most.
+pub(crate) fn most_transfers(items: &Items) -> u32
+    ensures { result ≡ most_transfers items.now }
+{
+    let files = items.all().len() as u32;
+    1 + pieces_of(64 * files) + pieces_of(script_size(items)) + files
+}
+
+/// Returns a number of commands that no script of the items exceeds.
+pub(crate) fn script_len(items: &Items) -> usize
+    ensures { IfOk (script_in items.now) (λ script. length script ≤ result) }
+{
+    (script_size(items) as usize).min(LONGEST_SCRIPT) / COMMAND_BYTES
+}
+
+// How many bytes the file of the script has, if there is one.
+fn script_size(items: &Items) -> u32
+    ensures size { result ≡ script_size items.now }
+    ensures small { result < 2 ^ 32 - 4096 }
+{
+    // That the files are few and small is said where they are lent.
+    let _items = items.all();
+    match items.find(&loader_name()) {
+        Some(item) => item.bytes.len() as u32,
+        None => 0,
+    }
+}
+
+// How many reads so many bytes take through the buffer.
+fn pieces_of(size: u32) -> u32
+    requires { size < 2 ^ 32 - 4096 }
+    ensures value { result ≡ pieces_of size }
+{
+    (size + 4095) / 4096
+}

@@ -1,0 +1,175 @@
+ghost use Rattle.std.specs.Prelude.{◌≡◌, ◌≢◌, ℕ, List, [], ◌∷◌, ◌++◌, true, None, Ok, Err, IsSome, IfSome, IsSomeAnd, OnOk, OnErr};
+ghost use Rattle.vt_outside.specs.Stream.{Rose};
+ghost use Rattle.vt_bytes.specs.Memory.{IsTop};
+ghost use Rattle.cfg_directory.specs.declared.item.Item.{Item};
+ghost use Rattle.script_load.specs.Allocators.{AreZonesOf, MayAnswer};
+ghost use Rattle.script_load.specs.FilesInMemory.{placed_ranges};
+ghost use Rattle.script_load.specs.Loads.{IsAsked};
+ghost use Rattle.load_machine.specs.declared.event.Event.{Event as EventOf};
+ghost use Rattle.load_machine.specs.Kept.{IsKept};
+ghost use Rattle.load_machine.specs.Loads.{IsBegun};
+ghost use Rattle.load_machine.specs.Machine.{memory_of};
+ghost use Rattle.load_machine.specs.Runs.{StepsTo, request_of};
+ghost use Rattle.firmware_load.specs.World.{state_of, IsWithoutRoom, IsSound, IsLoadOver};
+
+use crate::loading::Loading;
+use crate::schedule::Schedule;
+use cfg_directory::Items;
+use cfg_dma::Device;
+use guest_memory::GuestMemory;
+use load_machine::Event;
+use script_load::{LoadFault, State};
+use std::alloc::Global;
+use std::marker::Model;
+use vt_outside::OutOfMemory;
+use zone_alloc::ZoneAlloc;
+
+/// A guest's memory, the fw_cfg device that is attached to it, and a firmware that loads tables from it.
+#[derive(Drop)]
+pub struct World {
+    loading: Option<Loading>,
+}
+
+impl Model for World {
+    ghost use Rattle.std.specs.Prelude.{Option, IfSome};
+    ghost use Rattle.load_machine.specs.Machine.{Machine};
+    ghost use Rattle.firmware_load.specs.Inside.{machine_in, IsInside};
+
+    ghost Value = { Option Machine };
+
+    ghost view = { λ w. machine_in w.loading };
+
+    ghost invariant = { λ w. IfSome w.loading IsInside };
+}
+
+impl World {
+    /// Returns a world in which nothing was begun.
+    pub fn idle() -> World
+        ensures { result ≡ None }
+    {
+        World { loading: None }
+    }
+
+    /// Begins a load of `items` into memory below the address `top`, in which every byte is `fill`. `top` is a multiple of 1 MiB
+    /// from 0x4000000 to 0xC0000000. A load that was begun before is dropped. All memory that the load needs comes from `alloc`.
+    /// Returns `OutOfMemory` when memory runs out; the world is then idle.
+    pub fn begin(
+        &mut self,
+        alloc: Global,
+        items: Items,
+        top: u32,
+        fill: u8,
+    ) -> Result<(), OutOfMemory>
+        requires { IsTop top }
+        ensures ok { OnOk result (IsSomeAnd self.new (IsBegun items top fill)) }
+        ensures err { OnErr result (self.new ≡ None) }
+    {
+        self.loading = None;
+        self.loading = Some(Loading::begin(alloc, items, top, fill)?);
+        Ok(())
+    }
+
+    /// Takes the step of one event: the device moves a piece of its transfer, the firmware takes a step, or another processor writes a
+    /// byte. A load was begun; `place` was begun with the zones of this memory, and has handed out the ranges of the files that are
+    /// placed, and no others. It is asked for a place once where an Allocate is carried out, and else not at all. It takes no memory.
+    ///
+    /// When the load has ended, an event of the firmware has no effect.
+    pub fn step<A: ZoneAlloc>(&mut self, place: &mut A, event: Event)
+        requires some { IsSome self.old }
+        requires begun { A.begun place.old ≡ true }
+        requires zones { IfSome self.old (λ w. AreZonesOf (memory_of w).top (A.zones place.old)) }
+        requires handed { IfSome self.old (λ w. A.handed place.old ≡ placed_ranges w.placed) }
+
+        // It is the one step of the machine, with an answer that the allocator may give.
+        ensures steps { IfSome self.old (λ old. IsSomeAnd self.new (StepsTo
+            (MayAnswer A.handed A.zones A.policy A.gives (A.zones place.old) (A.policy place.old)) event old)) }
+        ensures kept { IfSome self.old (λ old. IsSomeAnd self.new (λ new. (items : List Item) (top fill : ℕ) (events : List EventOf)
+            → IsKept (MayAnswer A.handed A.zones A.policy A.gives (A.zones place.old) (A.policy place.old)) items top fill events old
+            → IsKept (MayAnswer A.handed A.zones A.policy A.gives (A.zones place.old) (A.policy place.old)) items top fill (events ++ event ∷ []) new)) }
+
+        // What the allocator was asked, where it refused, and what it keeps.
+        ensures handed { IfSome self.new (λ w. A.handed place.new ≡ placed_ranges w.placed) }
+        ensures unasked { IfSome self.old (λ w. request_of event w ≡ None → place.new ≡ place.old) }
+        ensures no_room { IfSome self.old (λ old. IsSomeAnd self.new (λ new.
+            IsWithoutRoom event old new (A.refusals place.old) (A.refusals place.new) (A.refused place.new))) }
+        ensures sound { IfSome self.old (λ old. IsSomeAnd self.new (λ new. IsSound old new (A.refusals place.old) (A.refusals place.new))) }
+        ensures zones { A.zones place.new ≡ A.zones place.old }
+        ensures policy { A.policy place.new ≡ A.policy place.old }
+        ensures begun { A.begun place.new ≡ A.begun place.old }
+    {
+        match &mut self.loading {
+            Some(loading) => loading.step(place, event),
+            None => unreachable!(),
+        }
+    }
+
+    /// Takes the events of `plan` until the load has ended, and after their end a step of the firmware and a piece as long as any
+    /// transfer, in turn, so that it always ends. The load was just begun; `place` was begun with the zones of this memory, and has
+    /// handed nothing out since. It is asked once for each Allocate that isn't refused: for the zone and the align of the command, and
+    /// the file's size. It takes no memory.
+    ///
+    /// Returns `NoScript` where no file has the script's name, `ScriptLength` where its length is no script's, `Command` at the first
+    /// command that is refused, with its first cause, and `NoRoom` at the first one for whose file `place` has no room. No list of
+    /// events changes the answer but through the places that are given.
+    pub fn load<A: ZoneAlloc, C: Schedule>(
+        &mut self,
+        place: &mut A,
+        plan: &mut C,
+    ) -> Result<(), LoadFault>
+        requires fresh { IsSomeAnd self.old (λ w. IsBegun w.attached.device.items (memory_of w).top (memory_of w).fill w) }
+        requires begun { A.begun place.old ≡ true }
+        requires zones { IfSome self.old (λ w. AreZonesOf (memory_of w).top (A.zones place.old)) }
+        requires handed { A.handed place.old ≡ [] }
+
+        // It is the run over the plan's events that it has taken and, behind their end, over some that end it; and no shorter run has ended.
+        ensures loaded { IfSome self.old (λ old. IsSomeAnd self.new (IsLoadOver
+            (MayAnswer A.handed A.zones A.policy A.gives (A.zones place.old) (A.policy place.old)) old (C.left plan.old) (C.left plan.new)
+            (A.handed place.new) result)) }
+        ensures plan { C.events plan.new ≡ C.events plan.old }
+
+        // Where the allocator refused, and what it keeps.
+        ensures no_room { (index : ℕ) → result ≡ Err (LoadFault.NoRoom index) → Rose (A.refusals place.old) (A.refusals place.new)
+            × IfSome self.old (λ w. IsAsked w.attached.device.items index (A.refused place.new)) }
+        ensures sound { ((index : ℕ) → result ≢ Err (LoadFault.NoRoom index)) → A.refusals place.new ≡ A.refusals place.old }
+        ensures zones { A.zones place.new ≡ A.zones place.old }
+        ensures policy { A.policy place.new ≡ A.policy place.old }
+        ensures begun { A.begun place.new ≡ A.begun place.old }
+    {
+        match &mut self.loading {
+            Some(loading) => loading.load(place, plan),
+            None => unreachable!(),
+        }
+    }
+
+    /// Returns how far the world is.
+    pub fn state(&self) -> State
+        ensures { result ≡ state_of self.now }
+    {
+        match &self.loading {
+            None => State::Idle,
+            Some(loading) => loading.state(),
+        }
+    }
+
+    /// Returns the guest's memory, borrowed. A load was begun.
+    pub fn memory(&self) -> &GuestMemory
+        requires { IsSome self.now }
+        ensures { IsSomeAnd self.now (λ w. result.now ≡ memory_of w) }
+    {
+        match &self.loading {
+            Some(loading) => &loading.guest.memory,
+            None => unreachable!(),
+        }
+    }
+
+    /// Returns the fw_cfg device, borrowed. A load was begun.
+    pub fn device(&self) -> &Device
+        requires { IsSome self.now }
+        ensures { IsSomeAnd self.now (λ w. result.now ≡ w.attached.device) }
+    {
+        match &self.loading {
+            Some(loading) => &loading.guest.device,
+            None => unreachable!(),
+        }
+    }
+}

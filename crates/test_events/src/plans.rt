@@ -1,0 +1,147 @@
+//! A small load over plans that are lists of events. However the events are mixed, it makes the same transfers and leaves the same files.
+
+use crate::files::{LOADER, Line, PLACE_ANCHOR, PLACE_TABLES, POINT, SUM, items_of};
+use crate::rig::{End, FILL, Held, Read, ends};
+use cfg_directory::Items;
+use firmware_load::{ListSchedule, Schedule};
+use load_machine::Event;
+use std::alloc::Global;
+use std::process::Abort;
+use std::test::Fail;
+use vt_outside::{List, OutOfMemory};
+
+/// Commands that change nothing, as QEMU pads its scripts.
+pub(crate) const PADDING: Line = Line(1, 0, &[], b"");
+
+/// What the small load leaves: 5 + 0x3000000 is 0x3000005, and 0x41 + 0x42 + 5 + 3 + 0x77 + 0x88 + 0x76 is 0x200.
+pub(crate) const ANCHOR: Held = Held(0xF_0000, b"\x41\x42\x05\0\0\x03\x77\x88\x76");
+
+pub(crate) const TABLES: Held = Held(0x300_0000, b"\xc1\xc2\xc3\xc4\xc5");
+
+/// Makes the device of the small load.
+pub(crate) fn small_items(alloc: Global) -> Result<Items, Fail> {
+    let lines = [PLACE_ANCHOR, PLACE_TABLES, POINT, SUM, PADDING];
+    items_of(alloc, 0, LOADER, &lines)
+}
+
+/// Returns the transfers of the small load: the number of files, the entries of four files, five commands, and both files.
+pub(crate) fn reads_to(anchor: u64, tables: u64) -> [Read; 5] {
+    [
+        Read(0x19, 0, 4, 0x8000),
+        Read(0x19, 4, 256, 0x8000),
+        Read(0x23, 0, 640, 0x8000),
+        Read(0x20, 0, 9, anchor),
+        Read(0x21, 0, 5, tables),
+    ]
+}
+
+// Places that no other processor writes: both ends of the descriptor, of the buffer, of the BIOS area and of high memory, which begins
+// with a placed file, and both ends of the other file.
+const GUARDED: [u64; 10] = [
+    0x7000, 0x700F, 0x8000, 0x8FFF, 0xE_0000, 0xF_FFFF, 0x300_0000, 0x3FF_FFFF, 0xF_0000, 0xF_0008,
+];
+
+// Places beside these that they do write, and two that are no RAM.
+const WRITTEN: [u64; 7] = [
+    0x1_2345, 0x6FFF, 0x7010, 0x9000, 0x2FF_FFFF, 0xA_0000, 0x400_0000,
+];
+
+// The guarded places that hold no table keep the fill byte, and the others what was written last, in round 21.
+const UNWRITTEN: [Held; 5] = [
+    ANCHOR,
+    TABLES,
+    Held(0xE_0000, &[FILL]),
+    Held(0xF_FFFF, &[FILL]),
+    Held(0x3FF_FFFF, &[FILL]),
+];
+
+const LEFT: [Held; 7] = [
+    ANCHOR,
+    TABLES,
+    Held(0x1_2345, &[21]),
+    Held(0x6FFF, &[21]),
+    Held(0x7010, &[21]),
+    Held(0x9000, &[21]),
+    Held(0x2FF_FFFF, &[21]),
+];
+
+// Plans: how many rounds, how many bytes a piece has, and where is written behind each event; what the load leaves, and how many events
+// are left.
+//
+// By single bytes the transfers take 4, 256, 640, 9 and 5 rounds, each with one round more in which the firmware sees the end, the other
+// three commands one each, and the load ends with the first event of round 923. By pieces of 100 bytes they take 1, 3, 7, 1 and 1, and
+// the load ends with the first event of round 22.
+const PLANS: [(u16, u32, &[u64], &[Held], u32); 4] = [
+    (0, 0, &[], &[ANCHOR, TABLES], 0),
+    (1000, 1, &[], &[ANCHOR, TABLES], 155),
+    (30, 100, &GUARDED, &UNWRITTEN, 197),
+    (30, 100, &WRITTEN, &LEFT, 143),
+];
+
+#[test]
+fn plans(rt: HostRuntime) -> Result<(), Fail> {
+    for (count, bytes, addresses, left, events) in PLANS {
+        let mut plan = plan_of(rt.alloc(), count, bytes, addresses)?;
+        ends_within(&rt, rt.alloc(), &mut plan, left, events)?;
+    }
+    Ok(())
+}
+
+fn ends_within(
+    rt: &impl Abort,
+    alloc: Global,
+    plan: &mut ListSchedule,
+    left: &[Held],
+    events: u32,
+) -> Result<(), Fail> {
+    let end = End {
+        answer: Ok(()),
+        reads: &reads_to(0xF_0000, 0x300_0000),
+        left,
+    };
+    ends(rt, alloc, small_items(alloc)?, &[], plan, &end)?;
+    assert_eq!(rt; count_left(plan), events);
+    Ok(())
+}
+
+/// Makes a plan of so many rounds, all of which are left: a step of the firmware and a piece of so many bytes, and behind each of them
+/// the round's number, modulo 256, is written at these addresses.
+pub(crate) fn plan_of(
+    alloc: Global,
+    count: u16,
+    bytes: u32,
+    addresses: &[u64],
+) -> Result<ListSchedule, OutOfMemory> {
+    let mut events = List::new(alloc);
+    for round in 1..=count {
+        let byte = (round % 256) as u8;
+        put_event(&mut events, Event::Firmware, byte, addresses)?;
+        put_event(&mut events, Event::Device(bytes), byte, addresses)?;
+    }
+    let mut plan = ListSchedule::new(events);
+    plan.begin(0);
+    Ok(plan)
+}
+
+// An event, and writes behind it.
+fn put_event(
+    events: &mut List<Event>,
+    event: Event,
+    byte: u8,
+    addresses: &[u64],
+) -> Result<(), OutOfMemory> {
+    events.push(event)?;
+    for addr in addresses {
+        events.push(Event::Other { addr: *addr, byte })?;
+    }
+    Ok(())
+}
+
+// How many events are left of a plan, which has at most 2,000.
+fn count_left(plan: &mut ListSchedule) -> u32 {
+    let mut count = 0u32;
+    for _ in 0..2000 {
+        count = count.saturating_add(u32::from(plan.next().is_some()));
+    }
+    count
+}

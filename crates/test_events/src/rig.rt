@@ -1,0 +1,172 @@
+//! Loads over a plan, and how they end.
+
+ghost use Rattle.std.specs.Prelude.{◌≡◌, true, [], IfSome, IsSome, IsSomeAnd, OnOk};
+ghost use Rattle.script_load.specs.Allocators.{AreZonesOf};
+ghost use Rattle.load_machine.specs.Loads.{IsBegun};
+ghost use Rattle.load_machine.specs.Machine.{memory_of};
+
+use cfg_directory::Items;
+use cfg_dma::{Device, Finished, Kind};
+use firmware_load::{Schedule, World};
+use guest_memory::GuestMemory;
+use script_load::{LoadFault, State};
+use std::alloc::Global;
+use std::process::Abort;
+use std::test::Fail;
+use vt_outside::{List, OutOfMemory};
+use zone_alloc::{FailingAlloc, Policy, ZoneAlloc, zones_of};
+
+/// The top of a memory of 64 MiB. Its high zone is 0x3000000 to 0x3FFFFFF.
+pub(crate) const TOP: u32 = 0x400_0000;
+
+/// What each byte of RAM holds before a load.
+pub(crate) const FILL: u8 = 0xA5;
+
+/// A read that is over: the selector, the offset in the item, how many bytes, and their address.
+#[derive(Clone, Copy)]
+pub(crate) struct Read(
+    pub(crate) u16,
+    pub(crate) u32,
+    pub(crate) u32,
+    pub(crate) u64,
+);
+
+/// Bytes that memory holds from an address on.
+#[derive(Clone, Copy)]
+pub(crate) struct Held(pub(crate) u64, pub(crate) &'static [u8]);
+
+/// The work range, a descriptor and a buffer, as it is before a load and when one is done.
+pub(crate) const NO_DESCRIPTOR: Held = Held(0x7000, &[FILL; 16]);
+
+pub(crate) const NO_BUFFER: Held = Held(0x8000, &[FILL; 4096]);
+
+/// How a load ends: its answer, the reads that are over, and bytes that are left in memory.
+#[derive(Clone, Copy)]
+pub(crate) struct End<'a> {
+    pub(crate) answer: Result<(), LoadFault>,
+    pub(crate) reads: &'a [Read],
+    pub(crate) left: &'a [Held],
+}
+
+/// Begins a load of `items` in a world, below [`TOP`].
+pub(crate) fn begin(alloc: Global, world: &mut World, items: Items) -> Result<(), OutOfMemory>
+    ensures fresh { OnOk result (IsSomeAnd world.new (λ w. IsBegun w.attached.device.items (memory_of w).top (memory_of w).fill w)) }
+    ensures top { OnOk result (IfSome world.new (λ w. (memory_of w).top ≡ 0x4000000)) }
+{
+    world.begin(alloc, items, TOP, FILL)
+}
+
+/// Begins an allocator with the zones below [`TOP`].
+pub(crate) fn begin_zones<A: ZoneAlloc>(
+    alloc: Global,
+    place: &mut A,
+    by: Policy,
+) -> Result<(), OutOfMemory>
+    ensures begun { OnOk result (A.begun place.new ≡ true) }
+    ensures handed { OnOk result (A.handed place.new ≡ []) }
+    ensures zones { OnOk result (AreZonesOf 0x4000000 (A.zones place.new)) }
+{
+    place.begin(alloc, zones_of(TOP), by)
+}
+
+/// The load of `items` over the events of a plan ends so, where these calls for a place are refused.
+pub(crate) fn ends<C: Schedule>(
+    rt: &impl Abort,
+    alloc: Global,
+    items: Items,
+    fails: &[u32],
+    plan: &mut C,
+    end: &End<'_>,
+) -> Result<(), Fail> {
+    let mut list = List::new(alloc);
+    list.extend(fails)?;
+    let mut failing = FailingAlloc::new(list);
+    begin_zones(alloc, &mut failing, Policy::Low)?;
+    let mut world = World::idle();
+    begin(alloc, &mut world, items)?;
+    ends_as(rt, &mut world, &mut failing, plan, end);
+    Ok(())
+}
+
+/// The load that was begun ends so, over the events of a plan.
+pub(crate) fn ends_as<A: ZoneAlloc, C: Schedule>(
+    rt: &impl Abort,
+    world: &mut World,
+    place: &mut A,
+    plan: &mut C,
+    end: &End<'_>,
+)
+    requires fresh { IsSomeAnd world.old (λ w. IsBegun w.attached.device.items (memory_of w).top (memory_of w).fill w) }
+    requires begun { A.begun place.old ≡ true }
+    requires handed { A.handed place.old ≡ [] }
+    requires zones { IfSome world.old (λ w. AreZonesOf (memory_of w).top (A.zones place.old)) }
+    ensures { IsSome world.new }
+{
+    let answer = world.load(place, plan);
+    assert_eq!(rt; answer, end.answer);
+    is_so(rt, world, end);
+}
+
+// The load has ended so.
+fn is_so(rt: &impl Abort, world: &World, end: &End<'_>)
+    requires { IsSome world.now }
+{
+    is_in(rt, world, state_after(end.answer));
+    has_read(rt, world.device(), end.reads);
+    are_held(rt, world.memory(), end.left);
+    if end.answer.is_ok() {
+        are_held(rt, world.memory(), &[NO_DESCRIPTOR, NO_BUFFER]);
+    }
+}
+
+fn state_after(answer: Result<(), LoadFault>) -> State {
+    match answer {
+        Ok(()) => State::Done,
+        Err(fault) => State::Refused(fault),
+    }
+}
+
+/// The world is in a state.
+pub(crate) fn is_in(rt: &impl Abort, world: &World, state: State) {
+    assert_eq!(rt; world.state(), state);
+}
+
+/// These transfers are over.
+pub(crate) fn has_read(rt: &impl Abort, device: &Device, reads: &[Read]) {
+    assert_eq!(rt; device.finished().len(), reads.len());
+    for (finished, read) in device.finished().iter().zip(reads) {
+        is_read(rt, finished, read);
+    }
+}
+
+fn is_read(rt: &impl Abort, finished: &Finished, read: &Read) {
+    let Read(select, offset, length, address) = *read;
+    let expected = Finished {
+        kind: Kind::Read,
+        select,
+        offset,
+        length,
+        address,
+        error: false,
+    };
+    assert_eq!(rt; *finished, expected);
+}
+
+/// Memory holds these bytes.
+pub(crate) fn are_held(rt: &impl Abort, memory: &GuestMemory, left: &[Held]) {
+    for held in left {
+        is_held(rt, memory, held);
+    }
+}
+
+// All of its bytes are in one frame.
+fn is_held(rt: &impl Abort, memory: &GuestMemory, held: &Held) {
+    let Held(address, bytes) = held;
+    assert!(rt; bytes.len() <= 4096);
+    assert!(rt; memory.is_ram(*address) && *address % 4096 + bytes.len() as u64 <= 4096);
+    assert_eq!(rt;
+        memory.window(*address, bytes.len() as u32),
+        *bytes,
+        "at {address}"
+    );
+}

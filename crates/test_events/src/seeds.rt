@@ -1,0 +1,86 @@
+//! The small load over the events of seeds, with each policy of an allocator. A begun world fills 33 MiB, so that no test takes more than
+//! some 200 seeds.
+
+use crate::plans::{ANCHOR, TABLES, reads_to, small_items};
+use crate::rig::{End, Held, begin, begin_zones, ends_as};
+use firmware_load::{Schedule, SeededSchedule, World};
+use std::alloc::Global;
+use std::ops::Range;
+use std::process::Abort;
+use std::test::Fail;
+use zone_alloc::{Policy, ShelfAlloc};
+
+// Both files are at the last multiples of their aligns. 5 + 0x3FFFFC0 is 0x3FFFFC5, and 0x41 + 0x42 + 0xC5 + 0xFF + 0xFF + 3 + 0x77 + 0x88
+// + 0xB8 is 0x500.
+const AT_TOP: [Held; 2] = [
+    Held(0xF_FFF0, b"\x41\x42\xc5\xff\xff\x03\x77\x88\xb8"),
+    Held(0x3FF_FFC0, b"\xc1\xc2\xc3\xc4\xc5"),
+];
+
+// The words of seed 0 begin with 11cdd903 and fc843fd7, so that the goals are 0xFD903 and 0x3843FD7. 5 + 0x3844000 is 0x3844005, and
+// 0x41 + 0x42 + 5 + 0x40 + 0x84 + 3 + 0x77 + 0x88 + 0xB2 is 0x300.
+const SCATTERED: [Held; 2] = [
+    Held(0xF_D910, b"\x41\x42\x05\x40\x84\x03\x77\x88\xb2"),
+    Held(0x384_4000, b"\xc1\xc2\xc3\xc4\xc5"),
+];
+
+#[test]
+fn low_places(rt: HostRuntime) -> Result<(), Fail> {
+    all_end(&rt, rt.alloc(), Policy::Low, 0..200, &[ANCHOR, TABLES])
+}
+
+#[test]
+fn more_low_places(rt: HostRuntime) -> Result<(), Fail> {
+    all_end(&rt, rt.alloc(), Policy::Low, 200..400, &[ANCHOR, TABLES])
+}
+
+#[test]
+fn top_places(rt: HostRuntime) -> Result<(), Fail> {
+    all_end(&rt, rt.alloc(), Policy::Top, 400..600, &AT_TOP)
+}
+
+#[test]
+fn scattered_places(rt: HostRuntime) -> Result<(), Fail> {
+    all_end(&rt, rt.alloc(), Policy::Scatter(0), 600..800, &SCATTERED)
+}
+
+#[test]
+fn more_scattered_places(rt: HostRuntime) -> Result<(), Fail> {
+    all_end(&rt, rt.alloc(), Policy::Scatter(0), 800..1001, &SCATTERED)
+}
+
+fn all_end(
+    rt: &impl Abort,
+    alloc: Global,
+    by: Policy,
+    seeds: Range<u64>,
+    left: &[Held; 2],
+) -> Result<(), Fail> {
+    let end = End {
+        answer: Ok(()),
+        reads: &reads_to(left[0].0, left[1].0),
+        left,
+    };
+    for seed in seeds {
+        ends_over(rt, alloc, by, seed, &end)?;
+    }
+    Ok(())
+}
+
+// The load ends so over the events of a seed.
+fn ends_over(
+    rt: &impl Abort,
+    alloc: Global,
+    by: Policy,
+    seed: u64,
+    end: &End<'_>,
+) -> Result<(), Fail> {
+    let mut plan = SeededSchedule::new();
+    plan.begin(seed);
+    let mut shelf = ShelfAlloc::new();
+    begin_zones(alloc, &mut shelf, by)?;
+    let mut world = World::idle();
+    begin(alloc, &mut world, small_items(alloc)?)?;
+    ends_as(rt, &mut world, &mut shelf, &mut plan, end);
+    Ok(())
+}

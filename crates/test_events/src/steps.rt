@@ -1,0 +1,135 @@
+//! Single steps of a world.
+
+ghost use Rattle.std.specs.Prelude.{◌≡◌, true, IfSome, IsSome};
+ghost use Rattle.script_load.specs.Allocators.{AreZonesOf};
+ghost use Rattle.script_load.specs.FilesInMemory.{placed_ranges};
+ghost use Rattle.load_machine.specs.Machine.{memory_of};
+
+use crate::plans::{ANCHOR, TABLES, reads_to, small_items};
+use crate::rig::{
+    Held, NO_BUFFER, NO_DESCRIPTOR, TOP, are_held, begin, begin_zones, has_read, is_in,
+};
+use firmware_load::World;
+use load_machine::Event::{self, Device, Firmware, Other};
+use script_load::State;
+use std::process::Abort;
+use std::test::Fail;
+use zone_alloc::{Policy, ShelfAlloc, ZoneAlloc};
+
+// What is seen of a world: its state, whether a transfer is in flight, how many of the small load are over, and bytes of memory.
+#[derive(Clone, Copy)]
+struct Seen(State, bool, usize, &'static [Held]);
+
+// Before its first step, and after a piece with nothing in flight.
+const BEGUN: Seen = Seen(State::Running, false, 0, &[NO_DESCRIPTOR, NO_BUFFER]);
+
+// The descriptor of a read of 4 bytes of the directory into the buffer.
+const ASKED: Seen = Seen(
+    State::Running,
+    true,
+    0,
+    &[Held(0x7000, b"\0\x19\0\x0a\0\0\0\x04\0\0\0\0\0\0\x80\0")],
+);
+
+// The transfer is over: its control word is 0, and the number of files is in the buffer.
+const OVER: Seen = Seen(
+    State::Running,
+    false,
+    1,
+    &[
+        Held(0x7000, b"\0\0\0\0\0\0\0\x04\0\0\0\0\0\0\x80\0"),
+        Held(0x8000, b"\0\0\0\x04\xa5"),
+    ],
+);
+
+const DONE: Seen = Seen(
+    State::Done,
+    false,
+    5,
+    &[NO_DESCRIPTOR, NO_BUFFER, ANCHOR, TABLES],
+);
+
+// Events, how often they come in turn, and what is seen then.
+struct Turns(u8, &'static [Event], Seen);
+
+const WHOLE: Event = Device(u32::MAX);
+
+// The firmware waits until the transfer is over. It then takes a step for the number of files, two each for the entries, the script and
+// both files, and one for each command behind these and for the end.
+const TURNS: [Turns; 7] = [
+    Turns(0, &[], BEGUN),
+    Turns(1, &[Device(7)], BEGUN),
+    Turns(3, &[Firmware], ASKED),
+    Turns(3, &[Device(0), Device(1), Firmware], ASKED),
+    Turns(1, &[Device(1)], OVER),
+    Turns(13, &[Firmware, WHOLE], DONE),
+    Turns(
+        2,
+        &[
+            Firmware,
+            Device(5),
+            Other {
+                addr: 0x8000,
+                byte: 1,
+            },
+        ],
+        DONE,
+    ),
+];
+
+#[test]
+fn steps(rt: HostRuntime) -> Result<(), Fail> {
+    let mut world = World::idle();
+    is_in(&rt, &world, State::Idle);
+    let mut shelf = ShelfAlloc::new();
+    begin_zones(rt.alloc(), &mut shelf, Policy::Low)?;
+    begin(rt.alloc(), &mut world, small_items(rt.alloc())?)?;
+    goes(&rt, &mut world, &mut shelf);
+    Ok(())
+}
+
+// The world goes on as it should.
+fn goes<A: ZoneAlloc>(rt: &impl Abort, world: &mut World, place: &mut A)
+    requires some { IsSome world.old }
+    requires begun { A.begun place.old ≡ true }
+    requires zones { AreZonesOf 0x4000000 (A.zones place.old) }
+    requires handed { IfSome world.old (λ w. A.handed place.old ≡ placed_ranges w.placed) }
+{
+    for Turns(count, events, seen) in &TURNS {
+        for _ in 0..*count {
+            for event in *events {
+                take(rt, world, place, *event);
+            }
+        }
+        is_seen(rt, world, seen);
+    }
+}
+
+// The world takes the step of an event.
+fn take<A: ZoneAlloc>(rt: &impl Abort, world: &mut World, place: &mut A, event: Event)
+    requires some { IsSome world.old }
+    requires begun { A.begun place.old ≡ true }
+    requires zones { AreZonesOf 0x4000000 (A.zones place.old) }
+    requires handed { IfSome world.old (λ w. A.handed place.old ≡ placed_ranges w.placed) }
+    ensures some { IsSome world.new }
+    ensures begun { A.begun place.new ≡ true }
+    ensures zones { AreZonesOf 0x4000000 (A.zones place.new) }
+    ensures handed { IfSome world.new (λ w. A.handed place.new ≡ placed_ranges w.placed) }
+{
+    assert_eq!(rt; world.memory().top(), TOP);
+    world.step(place, event);
+}
+
+fn is_seen(rt: &impl Abort, world: &World, seen: &Seen)
+    requires { IsSome world.now }
+{
+    let Seen(state, busy, count, held) = *seen;
+    is_in(rt, world, state);
+    assert_eq!(rt; world.device().busy(), busy);
+    has_read(
+        rt,
+        world.device(),
+        &reads_to(0xF_0000, 0x300_0000)[..count.min(5)],
+    );
+    are_held(rt, world.memory(), held);
+}
