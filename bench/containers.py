@@ -3,9 +3,9 @@
 
 usage: containers.py FOLDER
 
-`large.container` has one file of 15 MiB, which its script places and sums up. `many.container` has 1,000 files of 4 KiB and a script of
-8,192 commands, the most that one may have: each file is placed, and then pointers and sums follow, of one file after the other. Both
-are spelled as docs/FORMATS.md says. `alone.container` has a script of no commands and no other file.
+`large.container` has one file of 16 MiB, all of high memory, which its script places and sums up. `many.container` has 1,000 files of
+4 KiB and a script of 8,192 commands, the most that one may have: each file is placed, and then pointers and sums follow, of one file
+after the other. Both are spelled as docs/FORMATS.md says. `alone.container` has a script of no commands and no other file.
 """
 
 import pathlib
@@ -45,7 +45,7 @@ def container(files):
 
 
 def large():
-    size = 15 << 20
+    size = 16 << 20
     return container([("large", bytes(size)), (SCRIPT, allocate("large") + add_checksum("large", size))])
 
 

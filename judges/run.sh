@@ -1,9 +1,10 @@
 #!/usr/bin/env bash
 # Has programs that others wrote read the memory that `vmtables boot` leaves for each description of examples/: dmidecode reads
 # the SMBIOS structures, and iasl the ACPI tables. Each must print what is described and find no fault; and each must find one
-# where a bit of a checksum is flipped, or it would be no judge. Then `vmtables load` is given files that QEMU made for machines of
-# its own, and what `vmtables build` makes for each description, and judge_load.py judges the memory that it leaves of them; of a
-# description it must be the memory that `boot` leaves. Nothing is proved here.
+# where a bit of a checksum is flipped, or it would be no judge. They judge boots of each policy of places and of some seeds of
+# events too. Then `vmtables load` is given files that QEMU made for machines of its own, and what `vmtables build` makes for each
+# description, and judge_load.py judges the memory that it leaves of them; of a description it must be the memory that `boot`
+# leaves. Nothing is proved here.
 #
 # usage: judges/run.sh [PROGRAM]     PROGRAM stands for ./vmtables
 #
@@ -22,6 +23,8 @@ judges=(dmidecode iasl qemu-system-x86_64)
 packages=(dmidecode acpica-tools qemu-system-x86) # the package of each judge in Debian
 asked=()                                          # the judges that were asked
 machines=(pc q35)                                 # the machines of QEMU whose files are loaded
+policies=(low top scatter)                        # the policies of places, and the seeds of events, with which descriptions boot
+seeds=(1 7 18446744073709551615)
 faults=0
 
 has() {
@@ -130,11 +133,12 @@ $said"
     fi
 }
 
-# Boots the description into a dump and makes files of that, or counts a fault.
+# make_files [WORD..]: boots the description with the words into a dump and makes files of that, or counts a fault.
 make_files() {
-    local said
+    local said words="boot $*"
+    words=${words% }
     mkdir "$folder"
-    said=$("$program" boot 2>&1 >"$folder/dump" <"$description") || { fault "vmtables boot" "the dump" "$said"; return 1; }
+    said=$("$program" boot "$@" 2>&1 >"$folder/dump" <"$description") || { fault vmtables "$words" "$said"; return 1; }
     said=$(python3 "$here/dump_tables.py" "$folder/dump" "$folder" 2>&1) || { fault dump_tables.py "the dump" "$said"; return 1; }
     said=$(python3 "$here/described.py" "$description" "$folder" 2>&1) || { fault described.py "the text" "$said"; return 1; }
 }
@@ -208,15 +212,34 @@ judge_machines() {
     done
 }
 
+# Has the tables of the folder judged.
+judge_tables() {
+    find_described_tables
+    ! has dmidecode || ask dmidecode judge_structures smbios.bin 5
+    ! has iasl || ask_iasl
+}
+
+# Boots the description over the events of seeds, with each policy, and has the tables judged.
+judge_events() {
+    local policy seed
+    for policy in "${policies[@]}"; do
+        for seed in "${seeds[@]}"; do
+            folder=$work/$(basename "$description" .toml)-$policy-$seed
+            echo "$description: boot --policy $policy --seed $seed"
+            ! make_files --policy "$policy" --seed "$seed" || judge_tables
+        done
+    done
+}
+
 judge_description() {
     description=$1
     folder=$work/$(basename "$1" .toml)
     echo "$description"
-    make_files || return
-    find_described_tables
-    ! has dmidecode || ask dmidecode judge_structures smbios.bin 5
-    ! has iasl || ask_iasl
-    judge_container
+    if make_files; then
+        judge_tables
+        judge_container
+    fi
+    judge_events
 }
 
 # Whether there is what makes files for the judges.

@@ -3,7 +3,7 @@ use Rattle.std.proofs.Common.{◌≡◌, ◌≢◌, ℕ, ◌<◌, List, [], ◌�
 use Rattle.std.proofs.Common.{MatchOption, refl, sym, ap, ap₂, subst, arith, ◌∙◌}
 use Rattle.std.specs.Option.{option_map_or}
 use Rattle.std.specs.Str.{bytes_eq}
-use Rattle.std.proofs.lemmas.List.{length-map}
+use Rattle.std.proofs.lemmas.List.{length-map, map-append}
 use Rattle.std.proofs.lemmas.Option.{same_Some, none-some}
 use Rattle.vt_outside.specs.Placement.{Range, IsFree}
 use Rattle.cfg_directory.specs.declared.item.Item.{Item}
@@ -70,6 +70,13 @@ fewer_placed p items name are infos there fresh =
 pub few_handed : (items : List Item) (placed : List PlacedFile) (handed : List Range) → IsItems items → length placed < length items
     → handed ≡ placed_ranges placed → length handed < 1024
 few_handed items placed handed lawful fewer is = omega (arith, fewer, lawful.few, ap length is, length-map placed placed_range)
+
+-- where a place is given, the ranges that are handed out are those of the files that are placed then
+pub handed_more : (handed handed_now : List Range) (placed placed_now : List PlacedFile) (p : PlacedFile) → handed ≡ placed_ranges placed
+    → handed_now ≡ handed ++ placed_range p ∷ [] → placed_now ≡ placed ++ p ∷ [] → handed_now ≡ placed_ranges placed_now
+handed_more handed handed_now placed placed_now p before more now =
+    more ∙ ap (λ (ranges : List Range). ranges ++ placed_range p ∷ []) before ∙ sym (map-append placed_range placed (p ∷ []))
+    ∙ ap placed_ranges (sym now)
 
 -- ---- the file
 

@@ -3,7 +3,7 @@ use Rattle.std.proofs.Common.{◌≡◌, ℕ, ◌≤◌, ◌⊎◌, inl, inr, Bo
 use Rattle.std.proofs.lemmas.Bool.{cases_Bool, true≢false}
 use Rattle.std.proofs.lemmas.List.{append-nil}
 use Rattle.vt_outside.specs.Placement.{Range}
-use Rattle.vt_outside.specs.Stream.{Rose}
+use Rattle.vt_outside.specs.Stream.{next_count}
 use Rattle.zone_alloc.specs.declared.alloc.Request.{Request}
 use Rattle.script_load.specs.declared.fault.LoadFault.{LoadFault}
 use Rattle.script_load.specs.declared.fault.LoadFault.TheVariants.{NoRoom}
@@ -92,11 +92,11 @@ answers_no_room (Err why) index s is at = ap Err (same_refusal why (NoRoom index
 -- What a load says of its allocator: where it answers that there is no room, and where it doesn't.
 pub without_room : (first last : Loading) (refusals_first refusals : ℕ) (refused_first refused : Option Request) (answer : Result (Unit {0}) LoadFault)
     → AsksOnTheWay first last refusals_first refusals refused_first refused → first.stage ≡ AsksCount → last.stage ≡ stage_after answer
-    → ((index : ℕ) → answer ≡ Err (NoRoom index) → Rose refusals_first refusals × IsAsked first.guest.device.items index refused)
+    → ((index : ℕ) → answer ≡ Err (NoRoom index) → (refusals ≡ next_count refusals_first) × IsAsked first.guest.device.items index refused)
     × (((index : ℕ) → answer ≡ Err (NoRoom index) → ⊥) → refusals ≡ refusals_first)
 without_room first last refusals_first refusals refused_first refused answer asks begun stage = (
   λ index is.
-      elim (asks.no_room index (stage ∙ ap stage_after is)) as (λ _. Rose refusals_first refusals × IsAsked first.guest.device.items index refused) [
+      elim (asks.no_room index (stage ∙ ap stage_after is)) as (λ _. (refusals ≡ next_count refusals_first) × IsAsked first.guest.device.items index refused) [
         | inl there ↦ absurd (true≢false (sym (ap has_ended there) ∙ ap has_ended begun))
         | inr so ↦ so
       ],

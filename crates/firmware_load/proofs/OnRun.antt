@@ -4,7 +4,7 @@ use Rattle.std.proofs.lemmas.Bool.{true≢false}
 use Rattle.std.proofs.lemmas.Option.{none-some}
 use Rattle.std.proofs.lemmas.List.{append-nil}
 use Rattle.vt_outside.specs.Placement.{Range}
-use Rattle.vt_outside.specs.Stream.{Rose}
+use Rattle.vt_outside.specs.Stream.{next_count}
 use Rattle.zone_alloc.specs.declared.alloc.Request.{Request}
 use Rattle.cfg_directory.specs.declared.item.Item.{Item}
 use Rattle.script_load.specs.Allocators.{AreLawful}
@@ -107,7 +107,7 @@ step_asks May event before after refusals_before refusals refused_before refused
     inside.kept (lawful_steps May top event (machine_of before) (machine_of after) lawful steps) in
     record {
       no_room = λ index is.
-          elim (without index is) as (λ _. (before.stage ≡ Refused (NoRoom index)) ⊎ (Rose refusals_before refusals × IsAsked items index refused)) [
+          elim (without index is) as (λ _. (before.stage ≡ Refused (NoRoom index)) ⊎ ((refusals ≡ next_count refusals_before) × IsAsked items index refused)) [
             | inl there ↦ inl there
             | inr refuses ↦ inr (
               refuses.0,
@@ -137,10 +137,10 @@ asks_through first between last refusals_first refusals_between refusals refused
     let same : refusals_between ≡ refusals_first = before.sound (λ index is. absurd (not_there between.stage index running is)) in
     record {
       no_room = λ index is.
-          inr (elim (after.no_room index is) as (λ _. Rose refusals_first refusals × IsAsked first.guest.device.items index refused) [
+          inr (elim (after.no_room index is) as (λ _. (refusals ≡ next_count refusals_first) × IsAsked first.guest.device.items index refused) [
             | inl there ↦ absurd (not_there between.stage index running there)
             | inr refuses ↦ (
-              subst (λ (n : ℕ). Rose n refusals) same refuses.0,
+              refuses.0 ∙ ap next_count same,
               subst (λ (its : List Item). IsAsked its index refused) before.items refuses.1,
             )
           ]);
@@ -160,10 +160,10 @@ asks_no_more first between last refusals_first refusals_between refusals refused
     record {
       no_room = λ index is.
           elim (before.no_room index (sym still.0 ∙ is)) as (λ _. (first.stage ≡ Refused (NoRoom index))
-          ⊎ (Rose refusals_first refusals × IsAsked first.guest.device.items index refused)) [
+          ⊎ ((refusals ≡ next_count refusals_first) × IsAsked first.guest.device.items index refused)) [
             | inl there ↦ inl there
             | inr refuses ↦ inr (
-              subst (Rose refusals_first) (sym still.1) refuses.0,
+              still.1 ∙ refuses.0,
               subst (IsAsked first.guest.device.items index) (sym still.2) refuses.1,
             )
           ];

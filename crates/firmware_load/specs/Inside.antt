@@ -16,7 +16,7 @@ use Rattle.script_load.specs.Runs.{Answers, at_files}
 use Rattle.script_load.specs.Loads.{IsAsked}
 use Rattle.script_load.specs.Script.{script_in}
 use Rattle.script_load.specs.declared.fault.LoadFault.TheVariants.{NoRoom}
-use Rattle.vt_outside.specs.Stream.{Rose}
+use Rattle.vt_outside.specs.Stream.{next_count}
 use Rattle.zone_alloc.specs.declared.alloc.Request.{Request}
 use Rattle.script_load.specs.Steps.{WritesNothing}
 use Rattle.load_machine.specs.declared.event.Event.{Event}
@@ -107,7 +107,7 @@ pub record IsTurn (May : Answers) (before after : Machine) : Type 0 where
 -- the command of that index asks; a load that has ended asks nothing.
 pub record AsksOnTheWay (before after : Loading) (refusals_before refusals : ℕ) (refused_before refused : Option Request) : Type 0 where
   pub no_room : (index : ℕ) → after.stage ≡ Refused (NoRoom index) → (before.stage ≡ Refused (NoRoom index))
-      ⊎ (Rose refusals_before refusals × IsAsked before.guest.device.items index refused)
+      ⊎ ((refusals ≡ next_count refusals_before) × IsAsked before.guest.device.items index refused)
   pub sound : ((index : ℕ) → after.stage ≡ Refused (NoRoom index) → before.stage ≡ Refused (NoRoom index)) → refusals ≡ refusals_before
   pub ended : has_ended before.stage ≡ true → (after.stage ≡ before.stage) × (refusals ≡ refusals_before) × (refused ≡ refused_before)
   pub items : after.guest.device.items ≡ before.guest.device.items

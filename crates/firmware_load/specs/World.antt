@@ -1,7 +1,7 @@
 -- The world of a load over events: the machine that was begun, if one was, and how far it is.
 use Rattle.std.specs.Prelude.{◌≡◌, ℕ, ◌⊎◌, ◌<◌, ◌≤◌, List, [], ◌++◌, Option, Some, None, Result}
 use Rattle.vt_outside.specs.Placement.{Range}
-use Rattle.vt_outside.specs.Stream.{Rose}
+use Rattle.vt_outside.specs.Stream.{next_count}
 use Rattle.zone_alloc.specs.declared.alloc.Request.{Request}
 use Rattle.script_load.specs.declared.fault.LoadFault.{LoadFault}
 use Rattle.script_load.specs.declared.fault.LoadFault.TheVariants.{NoRoom}
@@ -34,10 +34,10 @@ abbrev pub state_of : Option Machine → State
 state_of None = state.Idle
 state_of (Some w) = state_at w.stage
 
--- A step that comes to NoRoom was refused by the allocator: its count of refusals rose, and the request that it refused is the step's.
+-- A step that comes to NoRoom was refused by the allocator, once: it counted one refusal, and the request that it refused is the step's.
 abbrev pub IsWithoutRoom : Event → Machine → Machine → ℕ → ℕ → Option Request → Type 0
 IsWithoutRoom event before after refusals_before refusals refused = (index : ℕ) → after.stage ≡ Refused (NoRoom index)
-    → (before.stage ≡ Refused (NoRoom index)) ⊎ (Rose refusals_before refusals × (refused ≡ request_of event before))
+    → (before.stage ≡ Refused (NoRoom index)) ⊎ ((refusals ≡ next_count refusals_before) × (refused ≡ request_of event before))
 
 -- And where it doesn't come to NoRoom nothing was refused.
 abbrev pub IsSound : Machine → Machine → ℕ → ℕ → Type 0

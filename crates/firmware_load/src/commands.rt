@@ -1,5 +1,5 @@
 ghost use Rattle.std.specs.Prelude.{◌≡◌, ◌≢◌, ℕ, ◌+◌, ◌<◌, ◌^◌, List, [], ◌∷◌, ◌++◌, true, Some, None, IsSome};
-ghost use Rattle.vt_outside.specs.Stream.{Rose};
+ghost use Rattle.vt_outside.specs.Stream.{next_count};
 ghost use Rattle.loader_script.specs.declared.entry.Entry.{Entry};
 ghost use Rattle.loader_script.specs.declared.entry.Entry.TheVariants.{Allocate, AddPointer, AddChecksum};
 ghost use Rattle.script_load.specs.Allocators.{AreZonesOf, MayAnswer};
@@ -50,7 +50,7 @@ impl Guest {
         ensures infos { self.new.placements.infos ≡ self.old.placements.infos }
         ensures handed { A.handed place.new ≡ placed_ranges self.new.placements.placed.items }
         ensures unasked { request_for entry.now (machine_at self.old (AtCommand index) listed.now []) ≡ None → place.new ≡ place.old }
-        ensures no_room { (at : ℕ) → result ≡ Refused (NoRoom at) → (at ≡ index) × Rose (A.refusals place.old) (A.refusals place.new)
+        ensures no_room { (at : ℕ) → result ≡ Refused (NoRoom at) → (at ≡ index) × (A.refusals place.new ≡ next_count (A.refusals place.old))
             × (A.refused place.new ≡ request_for entry.now (machine_at self.old (AtCommand index) listed.now [])) }
         ensures sound { ((at : ℕ) → result ≢ Refused (NoRoom at)) → A.refusals place.new ≡ A.refusals place.old }
         ensures zones { A.zones place.new ≡ A.zones place.old }
@@ -103,7 +103,7 @@ impl Guest {
         ensures infos { self.new.placements.infos ≡ self.old.placements.infos }
         ensures handed { A.handed place.new ≡ placed_ranges self.new.placements.placed.items }
         ensures asked { request_for (Allocate name.now align zone) (machine_at self.old (AtCommand index) listed.now []) ≢ None }
-        ensures no_room { (at : ℕ) → result ≡ Refused (NoRoom at) → (at ≡ index) × Rose (A.refusals place.old) (A.refusals place.new)
+        ensures no_room { (at : ℕ) → result ≡ Refused (NoRoom at) → (at ≡ index) × (A.refusals place.new ≡ next_count (A.refusals place.old))
             × (A.refused place.new ≡ request_for (Allocate name.now align zone) (machine_at self.old (AtCommand index) listed.now [])) }
         ensures sound { ((at : ℕ) → result ≢ Refused (NoRoom at)) → A.refusals place.new ≡ A.refusals place.old }
         ensures zones { A.zones place.new ≡ A.zones place.old }

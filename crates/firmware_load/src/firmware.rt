@@ -1,6 +1,5 @@
 ghost use Rattle.std.specs.Prelude.{◌≡◌, ◌≢◌, ℕ, ◌+◌, ◌++◌, ◌-◌, ◌*◌, ◌/◌, ◌%◌, ◌<◌, ◌≤◌, ◌^◌, ◌==◌, true, false, length, None, Some, List, vec_len, vec_capacity, if◌then◌else◌};
 ghost use Rattle.std.specs.Option.{option_copied};
-ghost use Rattle.vt_outside.specs.Stream.{Rose};
 ghost use Rattle.vt_bytes.specs.Numbers.{be};
 ghost use Rattle.cfg_directory.specs.declared.listed.Listed.{Listed as ListedFile};
 ghost use Rattle.loader_script.specs.Spelling.{entries_of};
@@ -165,15 +164,15 @@ impl Loading {
         ensures rooms { SameRooms self.old self.new }
     {
         if self.guest.is_over() {
-            let count = asked(size - taken);
-            take_commands(self.guest.buffered(count), &mut self.script);
-            self.stage = if taken + count == size {
+            let bytes = asked(size - taken);
+            take_commands(self.guest.buffered(bytes), &mut self.script);
+            self.stage = if taken + bytes == size {
                 Stage::AtCommand(0)
             } else {
                 Stage::AsksScript {
                     select,
                     size,
-                    taken: taken + count,
+                    taken: taken + bytes,
                 }
             };
         }

@@ -1,5 +1,5 @@
 ghost use Rattle.std.specs.Prelude.{◌≡◌, ◌≢◌, ◌≤◌, ◌⊎◌, ℕ, List, [], ◌++◌, true, false, Err};
-ghost use Rattle.vt_outside.specs.Stream.{Rose};
+ghost use Rattle.vt_outside.specs.Stream.{next_count};
 ghost use Rattle.script_load.specs.Allocators.{AreZonesOf, MayAnswer};
 ghost use Rattle.script_load.specs.Loads.{IsAsked};
 ghost use Rattle.load_machine.specs.Loads.{IsBegun, stage_after, most_closing};
@@ -32,7 +32,7 @@ impl Loading {
         ensures loaded { IsLoadOver (MayAnswer A.handed A.zones A.policy A.gives (A.zones place.old) (A.policy place.old)) (machine_of self.old)
             (C.left plan.old) (C.left plan.new) (A.handed place.new) result (machine_of self.new) }
         ensures plan { C.events plan.new ≡ C.events plan.old }
-        ensures no_room { (index : ℕ) → result ≡ Err (LoadFault.NoRoom index) → Rose (A.refusals place.old) (A.refusals place.new)
+        ensures no_room { (index : ℕ) → result ≡ Err (LoadFault.NoRoom index) → (A.refusals place.new ≡ next_count (A.refusals place.old))
             × IsAsked self.old.guest.device.items index (A.refused place.new) }
         ensures sound { ((index : ℕ) → result ≢ Err (LoadFault.NoRoom index)) → A.refusals place.new ≡ A.refusals place.old }
         ensures zones { A.zones place.new ≡ A.zones place.old }

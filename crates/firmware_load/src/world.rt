@@ -1,5 +1,5 @@
 ghost use Rattle.std.specs.Prelude.{◌≡◌, ◌≢◌, ℕ, List, [], ◌∷◌, ◌++◌, true, None, Ok, Err, IsSome, IfSome, IsSomeAnd, OnOk, OnErr};
-ghost use Rattle.vt_outside.specs.Stream.{Rose};
+ghost use Rattle.vt_outside.specs.Stream.{next_count};
 ghost use Rattle.vt_bytes.specs.Memory.{IsTop};
 ghost use Rattle.cfg_directory.specs.declared.item.Item.{Item};
 ghost use Rattle.script_load.specs.Allocators.{AreZonesOf, MayAnswer};
@@ -128,7 +128,7 @@ impl World {
         ensures plan { C.events plan.new ≡ C.events plan.old }
 
         // Where the allocator refused, and what it keeps.
-        ensures no_room { (index : ℕ) → result ≡ Err (LoadFault.NoRoom index) → Rose (A.refusals place.old) (A.refusals place.new)
+        ensures no_room { (index : ℕ) → result ≡ Err (LoadFault.NoRoom index) → (A.refusals place.new ≡ next_count (A.refusals place.old))
             × IfSome self.old (λ w. IsAsked w.attached.device.items index (A.refused place.new)) }
         ensures sound { ((index : ℕ) → result ≢ Err (LoadFault.NoRoom index)) → A.refusals place.new ≡ A.refusals place.old }
         ensures zones { A.zones place.new ≡ A.zones place.old }

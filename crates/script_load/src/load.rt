@@ -1,5 +1,5 @@
 ghost use Rattle.std.specs.Prelude.{◌≡◌, ◌≢◌, ℕ, [], true, Ok, Err, IfOk, IfErr};
-ghost use Rattle.vt_outside.specs.Stream.{Rose};
+ghost use Rattle.vt_outside.specs.Stream.{next_count};
 ghost use Rattle.vt_bytes.specs.Memory.{IsTop};
 ghost use Rattle.image_files.specs.Items.{files_of};
 ghost use Rattle.script_load.specs.Allocators.{AreZonesOf, MayAnswer};
@@ -65,7 +65,7 @@ impl Load {
         ensures items { self.new.loading.items ≡ self.old.loading.items }
         ensures top { self.new.loading.memory.top ≡ self.old.loading.memory.top }
         ensures fill { self.new.loading.memory.fill ≡ self.old.loading.memory.fill }
-        ensures no_room { (index : ℕ) → result ≡ Err (LoadFault.NoRoom index) → Rose (A.refusals place.old) (A.refusals place.new)
+        ensures no_room { (index : ℕ) → result ≡ Err (LoadFault.NoRoom index) → (A.refusals place.new ≡ next_count (A.refusals place.old))
             × IfOk (script_in self.old.loading.items) (λ script. A.refused place.new ≡ request_at (files_of self.old.loading.items) script index) }
         ensures sound { ((index : ℕ) → result ≢ Err (LoadFault.NoRoom index)) → A.refusals place.new ≡ A.refusals place.old }
         ensures zones { A.zones place.new ≡ A.zones place.old }
@@ -91,7 +91,7 @@ impl Load {
         ensures items { self.new.loading.items ≡ self.old.loading.items }
         ensures top { self.new.loading.memory.top ≡ self.old.loading.memory.top }
         ensures fill { self.new.loading.memory.fill ≡ self.old.loading.memory.fill }
-        ensures no_room { (index : ℕ) → result ≡ Err (LoadFault.NoRoom index) → Rose (A.refusals place.old) (A.refusals place.new)
+        ensures no_room { (index : ℕ) → result ≡ Err (LoadFault.NoRoom index) → (A.refusals place.new ≡ next_count (A.refusals place.old))
             × IfOk (script_in self.old.loading.items) (λ script. A.refused place.new ≡ request_at (files_of self.old.loading.items) script index) }
         ensures sound { ((index : ℕ) → result ≢ Err (LoadFault.NoRoom index)) → A.refusals place.new ≡ A.refusals place.old }
         ensures zones { A.zones place.new ≡ A.zones place.old }

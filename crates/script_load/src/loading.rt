@@ -1,6 +1,6 @@
 ghost use Rattle.std.specs.Prelude.{◌≡◌, ◌≢◌, ℕ, ◌≤◌, [], true, length, Some, None, Ok, Err, IfOk, IfErr, OnOk, OnErr};
 ghost use Rattle.std.specs.List.{AllByRecursion};
-ghost use Rattle.vt_outside.specs.Stream.{Rose};
+ghost use Rattle.vt_outside.specs.Stream.{next_count};
 ghost use Rattle.vt_bytes.specs.Memory.{IsTop};
 ghost use Rattle.loader_script.specs.Run.{cause_of};
 ghost use Rattle.loader_script.specs.declared.entry.Entry.TheVariants.{Allocate, AddPointer, AddChecksum};
@@ -101,7 +101,7 @@ impl Loading {
         ensures top { self.new.memory.top ≡ self.old.memory.top }
         ensures fill { self.new.memory.fill ≡ self.old.memory.fill }
         ensures no_room { (index : ℕ) → result ≡ Err (LoadFault.NoRoom index)
-            → Rose (A.refusals place.old) (A.refusals place.new) × (A.refused place.new ≡ request_at (files_of self.old.items) script.now index) }
+            → (A.refusals place.new ≡ next_count (A.refusals place.old)) × (A.refused place.new ≡ request_at (files_of self.old.items) script.now index) }
         ensures sound { ((index : ℕ) → result ≢ Err (LoadFault.NoRoom index)) → A.refusals place.new ≡ A.refusals place.old }
         ensures zones { A.zones place.new ≡ A.zones place.old }
         ensures policy { A.policy place.new ≡ A.policy place.old }
@@ -130,7 +130,7 @@ impl Loading {
             entry.now (files_now self.old)) }
         ensures same { OnErr result (files_now self.new ≡ files_now self.old) }
         ensures no_room { result ≡ Err Stop.NoRoom
-            → Rose (A.refusals place.old) (A.refusals place.new) × (A.refused place.new ≡ request_by (files_of self.old.items) entry.now) }
+            → (A.refusals place.new ≡ next_count (A.refusals place.old)) × (A.refused place.new ≡ request_by (files_of self.old.items) entry.now) }
         ensures sound { result ≢ Err Stop.NoRoom → A.refusals place.new ≡ A.refusals place.old }
         ensures zones { A.zones place.new ≡ A.zones place.old }
         ensures policy { A.policy place.new ≡ A.policy place.old }
@@ -193,7 +193,7 @@ impl Loading {
             (Allocate name.now align zone) (files_now self.old) Stop.NoRoom) }
         ensures stop { IfErr result (λ stop. stop ≡ Stop.NoRoom) }
         ensures same { OnErr result (files_now self.new ≡ files_now self.old) }
-        ensures no_room { OnErr result (Rose (A.refusals place.old) (A.refusals place.new)
+        ensures no_room { OnErr result ((A.refusals place.new ≡ next_count (A.refusals place.old))
             × (A.refused place.new ≡ Some (request_of (files_of self.old.items) name.now align zone))) }
         ensures sound { OnOk result (A.refusals place.new ≡ A.refusals place.old) }
         ensures zones { A.zones place.new ≡ A.zones place.old }

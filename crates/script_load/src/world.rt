@@ -1,5 +1,5 @@
 ghost use Rattle.std.specs.Prelude.{◌≡◌, ◌≢◌, ℕ, [], true, None, Ok, Err, IsSome, IfSome, IsSomeAnd, OnOk, OnErr};
-ghost use Rattle.vt_outside.specs.Stream.{Rose};
+ghost use Rattle.vt_outside.specs.Stream.{next_count};
 ghost use Rattle.vt_bytes.specs.Memory.{IsTop};
 ghost use Rattle.script_load.specs.Allocators.{AreZonesOf, MayAnswer};
 ghost use Rattle.script_load.specs.Loads.{IsLoad, IsAsked};
@@ -79,7 +79,7 @@ impl World {
             IsLoad (MayAnswer A.handed A.zones A.policy A.gives (A.zones place.old) (A.policy place.old)) old new (A.handed place.new) result)) }
 
         // What the allocator was asked, where it refused, and what it keeps.
-        ensures no_room { (index : ℕ) → result ≡ Err (LoadFault.NoRoom index) → Rose (A.refusals place.old) (A.refusals place.new)
+        ensures no_room { (index : ℕ) → result ≡ Err (LoadFault.NoRoom index) → (A.refusals place.new ≡ next_count (A.refusals place.old))
             × IfSome self.old (λ w. IsAsked w.items index (A.refused place.new)) }
         ensures sound { ((index : ℕ) → result ≢ Err (LoadFault.NoRoom index)) → A.refusals place.new ≡ A.refusals place.old }
         ensures zones { A.zones place.new ≡ A.zones place.old }

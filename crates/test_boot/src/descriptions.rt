@@ -6,7 +6,7 @@ use std::test::Fail;
 use vt_outside::{Bytes, OutOfMemory};
 
 // Each is a description of its own, and the line of its first fault.
-const REFUSED: [(&str, &str); 44] = [
+static REFUSED: [(&str, &str); 44] = [
     // tops
     (
         "version = 1\ntop_mib = 63\nsystem = {}\n",
@@ -182,7 +182,7 @@ const REFUSED: [(&str, &str); 44] = [
 
 // What stands below the header of `system` in a description that is lawful above it, keys of that table or other
 // tables; and the line of the first fault.
-const REFUSED_SYSTEMS: [(&str, &str); 50] = [
+static REFUSED_SYSTEMS: [(&str, &str); 50] = [
     // keys
     (
         "colour = \"red\"",
@@ -342,7 +342,7 @@ const REFUSED_SYSTEMS: [(&str, &str); 50] = [
 
 // Bytes below that header that are no UTF-8: a byte that never stands there, a lone byte of the middle, an overlong
 // form, a surrogate, and a character that is cut off.
-const NO_TEXT: [&[u8]; 5] = [
+static NO_TEXT: [&[u8]; 5] = [
     b"product = \"\xff\"\n",
     b"product = \"\x80\"\n",
     b"product = \"\xc0\xaf\"\n",
@@ -353,7 +353,7 @@ const NO_TEXT: [&[u8]; 5] = [
 // The line for bytes that are no document.
 const NOT_TOML: &str = "description: not TOML";
 
-const KEYS: [&str; 6] = [
+static KEYS: [&str; 6] = [
     "manufacturer",
     "product",
     "version",
@@ -363,7 +363,7 @@ const KEYS: [&str; 6] = [
 ];
 
 // Descriptions that are accepted.
-const ACCEPTED: [&str; 12] = [
+static ACCEPTED: [&str; 12] = [
     "version = 1\ntop_mib = 64\nsystem = {}\n",
     "version = 1\ntop_mib = 3072\nsystem = {}\n",
     "version = 1\ntop_mib = 65\nsystem = { product = \" ~\" }\n",
@@ -383,11 +383,20 @@ const HEAD: &[u8] = b"version = 1\ntop_mib = 64\n[system]\n";
 
 #[test]
 fn refused_descriptions(rt: HostRuntime) -> Result<(), Fail> {
+    are_refused(rt.alloc())?;
+    are_refused_systems(rt.alloc())
+}
+
+fn are_refused(alloc: Global) -> Result<(), Fail> {
     for (description, line) in &REFUSED {
-        is_refused(rt.alloc(), description, description.as_bytes(), line)?;
+        is_refused(alloc, description, description.as_bytes(), line)?;
     }
+    Ok(())
+}
+
+fn are_refused_systems(alloc: Global) -> Result<(), Fail> {
     for (system, line) in &REFUSED_SYSTEMS {
-        is_refused_system(rt.alloc(), system, system.as_bytes(), line)?;
+        is_refused_system(alloc, system, system.as_bytes(), line)?;
     }
     Ok(())
 }
@@ -395,11 +404,14 @@ fn refused_descriptions(rt: HostRuntime) -> Result<(), Fail> {
 #[test]
 fn descriptions_of_other_bytes(rt: HostRuntime) -> Result<(), Fail> {
     is_refused(rt.alloc(), "one byte 0xff", b"\xff", NOT_TOML)?;
+    are_no_text(rt.alloc())?;
+    are_refused_arrays(rt.alloc(), 81)?;
+    are_refused_arrays(rt.alloc(), 50_000)
+}
+
+fn are_no_text(alloc: Global) -> Result<(), Fail> {
     for bytes in &NO_TEXT {
-        is_refused_system(rt.alloc(), "no UTF-8", bytes, NOT_TOML)?;
-    }
-    for depth in [81, 50_000] {
-        are_refused_arrays(rt.alloc(), depth)?;
+        is_refused_system(alloc, "no UTF-8", bytes, NOT_TOML)?;
     }
     Ok(())
 }
@@ -422,9 +434,14 @@ fn accepted_descriptions(rt: HostRuntime) -> Result<(), Fail> {
 
 // The description is refused with this line, which a line feed ends.
 fn is_refused(alloc: Global, case: &str, description: &[u8], line: &str) -> Result<(), Fail> {
+    let say = with_line_feed(alloc, line)?;
+    ends(alloc, &boot(case, description), &refused(say.as_slice()))
+}
+
+fn with_line_feed(alloc: Global, line: &str) -> Result<Bytes, OutOfMemory> {
     let mut say = copy_of(alloc, line.as_bytes())?;
     say.push(b'\n')?;
-    ends(alloc, &boot(case, description), &refused(say.as_slice()))
+    Ok(say)
 }
 
 // A description with these bytes below the header of `system` is refused with this line.
@@ -439,10 +456,23 @@ fn is_accepted(alloc: Global, case: &str, description: &[u8]) -> Result<(), Fail
 
 // A text may have 64 bytes and no more.
 fn is_accepted_to_64_bytes(alloc: Global, key: &str) -> Result<(), Fail> {
-    let longer = with_text(alloc, key, &[b'x'; 65])?;
-    is_refused(alloc, key, longer.as_slice(), "description: rule 3 index 0")?;
-    let longest = with_text(alloc, key, &[b'x'; 64])?;
-    is_accepted(alloc, key, longest.as_slice())
+    is_refused_text(alloc, key, &[b'x'; 65])?;
+    is_accepted_text(alloc, key, &[b'x'; 64])
+}
+
+fn is_refused_text(alloc: Global, key: &str, text: &[u8]) -> Result<(), Fail> {
+    let description = with_text(alloc, key, text)?;
+    is_refused(
+        alloc,
+        key,
+        description.as_slice(),
+        "description: rule 3 index 0",
+    )
+}
+
+fn is_accepted_text(alloc: Global, key: &str, text: &[u8]) -> Result<(), Fail> {
+    let description = with_text(alloc, key, text)?;
+    is_accepted(alloc, key, description.as_slice())
 }
 
 fn are_refused_arrays(alloc: Global, depth: u32) -> Result<(), Fail> {
@@ -467,10 +497,14 @@ fn with_text(alloc: Global, key: &str, text: &[u8]) -> Result<Bytes, OutOfMemory
 // A description whose product is arrays within arrays.
 fn with_arrays(alloc: Global, depth: u32) -> Result<Bytes, OutOfMemory> {
     let mut description = with_system(alloc, b"product = ")?;
-    put_times(&mut description, b'[', depth)?;
-    put_times(&mut description, b']', depth)?;
-    description.extend(b"\n")?;
+    put_arrays(&mut description, depth)?;
     Ok(description)
+}
+
+fn put_arrays(bytes: &mut Bytes, depth: u32) -> Result<(), OutOfMemory> {
+    put_times(bytes, b'[', depth)?;
+    put_times(bytes, b']', depth)?;
+    bytes.extend(b"\n")
 }
 
 fn put_times(bytes: &mut Bytes, byte: u8, count: u32) -> Result<(), OutOfMemory> {

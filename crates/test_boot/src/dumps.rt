@@ -9,7 +9,7 @@ use std::alloc::Global;
 use std::test::Fail;
 
 // The same machine in other spellings of TOML, and with the other texts of its UUID.
-const SPELLINGS: [&str; 9] = [
+static SPELLINGS: [&str; 9] = [
     // an inline table, a literal string, an escape, and a UUID with no hyphens in upper case
     "version = 1\ntop_mib = 64\nsystem = { manufacturer = 'ACME', product = \"V\\u004d\", uuid = \"00112233445566778899AABBCCDDEEFF\" }\n",
     // quoted and dotted keys, hexadecimal numbers, a multi-line string, a comment, and a UUID in braces

@@ -6,7 +6,7 @@ use std::alloc::Global;
 use std::test::Fail;
 
 // Two digits, and the dump. Of the bytes 52, 53 and 5f the marks of an RSDP and an anchor begin.
-const DUMPS: [(&str, &str); 5] = [
+static DUMPS: [(&str, &str); 5] = [
     ("00", MINIMAL_DUMP),
     (
         "a5",

@@ -1,5 +1,6 @@
 //! Tests of the command `boot`, through the top call over streams in memory: descriptions that are refused and accepted, the dumps
-//! of the machines that they describe, other fill bytes, streams that fail, inputs of the greatest length, and worlds over many runs.
+//! of the machines that they describe, other fill bytes, policies, seeds and events, streams that fail, inputs of the greatest length,
+//! and worlds over many runs.
 #![tactic(auto)]
 
 #[cfg(test)]
@@ -8,6 +9,8 @@ mod descriptions;
 mod dumps;
 #[cfg(test)]
 mod endless;
+#[cfg(test)]
+mod events;
 #[cfg(test)]
 mod fills;
 #[cfg(test)]

@@ -11,7 +11,7 @@ use vt_outside::{Bytes, OutOfMemory};
 const LIMIT: usize = 67_108_864;
 
 // How long an input is, and how many of its bytes a call gives at most.
-const TOO_LONG_INPUTS: [(&str, usize, usize); 4] = [
+static TOO_LONG_INPUTS: [(&str, usize, usize); 4] = [
     (
         "a byte more, in pieces that end at the limit",
         LIMIT + 1,

@@ -4,10 +4,11 @@ use fixtures::{Ending, MINIMAL, MINIMAL_DUMP, boot, booted, ends_with, failing_p
 use std::alloc::Global;
 use std::test::Fail;
 use vmtables::{LoadFault, State, Status, World};
+use zone_alloc::FailingAlloc;
 
 // The places that are refused, of which the minimal machine asks for two, by the commands 0 and 1; the index of the command that ends the
 // load, and its line.
-const REFUSED: [(&[u32], u32, &[u8]); 3] = [
+static REFUSED: [(&[u32], u32, &[u8]); 3] = [
     (&[0], 0, b"no room at command 0\n"),
     (&[1], 1, b"no room at command 1\n"),
     (&[0, 1], 0, b"no room at command 0\n"),
@@ -37,11 +38,10 @@ fn no_room_at(index: u32, say: &[u8]) -> Ending<'_> {
 
 fn ends_placed(alloc: Global, fails: &[u32], ending: &Ending) -> Result<(), Fail> {
     let mut place = failing_places(alloc, fails)?;
-    ends_with(
-        alloc,
-        &boot("the minimal machine", MINIMAL.as_bytes()),
-        &mut place,
-        &mut World::idle(),
-        ending,
-    )
+    ends_with_places(alloc, &mut place, ending)
+}
+
+fn ends_with_places(alloc: Global, place: &mut FailingAlloc, ending: &Ending) -> Result<(), Fail> {
+    let run = boot("the minimal machine", MINIMAL.as_bytes());
+    ends_with(alloc, &run, place, &mut World::idle(), ending)
 }

@@ -8,7 +8,7 @@ use std::alloc::Global;
 use std::test::Fail;
 
 // Room for so many bytes, the writes that fail, and how many bytes of a line are taken, where it has as many.
-const SAYS: [(usize, &[u32], usize); 5] = [
+static SAYS: [(usize, &[u32], usize); 5] = [
     (ROOM, &[], ROOM),
     (ROOM, &[0], 0),
     (0, &[], 0),

@@ -12,7 +12,7 @@ use vt_outside::{ListSink, OutOfMemory, SureSink, SureSource, WriteSink};
 
 // Room for so many bytes, the writes that fail, and how many bytes of the dump are taken. The machine is loaded before its dump
 // is written.
-const FAILING: [(&str, usize, &[u32], usize); 11] = [
+static FAILING: [(&str, usize, &[u32], usize); 11] = [
     ("the first write fails", ROOM, &[0], 0),
     ("the second write fails", ROOM, &[1], 21),
     ("the third write fails", ROOM, &[2], 63),
@@ -72,7 +72,15 @@ fn a_flush_that_fails(rt: HostRuntime) -> Result<(), Fail> {
 // Boots the minimal machine to a writer whose flush fails.
 fn boot_to_writer(alloc: Global, writer: &mut StuckWriter) -> Result<(), Fail> {
     let mut say = sink(alloc, ROOM, &[])?;
-    let status = status_to_writer(alloc, writer, &mut say)?;
+    boot_to_writers(alloc, writer, &mut say)
+}
+
+fn boot_to_writers(
+    alloc: Global,
+    writer: &mut StuckWriter,
+    say: &mut ListSink,
+) -> Result<(), Fail> {
+    let status = status_to_writer(alloc, writer, say)?;
     is_same("a flush that fails", "status", &status, &Status::WriteFault)?;
     is_same(
         "a flush that fails",
@@ -88,21 +96,27 @@ fn status_to_writer(
     say: &mut ListSink,
 ) -> Result<Status, OutOfMemory> {
     let mut source = SureSource::new(copy_of(alloc, MINIMAL.as_bytes())?);
+    status_from(alloc, &mut source, writer, say)
+}
+
+fn status_from(
+    alloc: Global,
+    source: &mut SureSource,
+    writer: &mut StuckWriter,
+    say: &mut ListSink,
+) -> Result<Status, OutOfMemory> {
     let mut out = WriteSink::new(writer);
-    status_of(
-        alloc,
-        &["boot"],
-        &mut source,
-        &mut out,
-        say,
-        &mut World::idle(),
-    )
+    let mut world = World::idle();
+    status_of(alloc, &["boot"], source, &mut out, say, &mut world)
 }
 
 #[test]
 fn what_never_fails(rt: HostRuntime) -> Result<(), Fail> {
-    let mut world = World::idle();
-    let status = status_of_sure(rt.alloc(), &mut world)?;
+    never_fails(rt.alloc(), &mut World::idle())
+}
+
+fn never_fails(alloc: Global, world: &mut World) -> Result<(), Fail> {
+    let status = status_of_sure(alloc, world)?;
     is_same("what never fails", "status", &status, &Status::Ok)?;
     is_same("what never fails", "state", &world.state(), &State::Done)
 }

@@ -4,7 +4,7 @@ use fixtures::{MINIMAL, MINIMAL_DUMP, READ_FAULT, Run, boot, booted, ends};
 use std::test::Fail;
 
 // How many bytes a call gives at most, and the calls that fail. In pieces of 117 bytes the second call tells the end.
-const FAILING: [(&str, usize, &[u32]); 5] = [
+static FAILING: [(&str, usize, &[u32]); 5] = [
     ("the only piece", 117, &[0]),
     ("each piece", 117, &[0, 1, 2, 3]),
     ("the end", 117, &[1]),
@@ -13,7 +13,7 @@ const FAILING: [(&str, usize, &[u32]); 5] = [
 ];
 
 // The same, of calls that are never made: the first is the one after the end.
-const UNFAILING: [(&str, usize, &[u32]); 5] = [
+static UNFAILING: [(&str, usize, &[u32]); 5] = [
     ("one piece", 117, &[2]),
     ("pieces of one byte", 1, &[118]),
     ("pieces of seven bytes", 7, &[18]),

@@ -47,7 +47,7 @@ enum Step {
 }
 
 // One run after the other in one world, and what is seen of the world after it.
-const STEPS: [(Step, Seen); 13] = [
+static STEPS: [(Step, Seen); 13] = [
     (Step::IsRefused, Seen::Idle),
     (Step::IsMisspelled, Seen::Idle),
     (Step::Fails, Seen::Idle),

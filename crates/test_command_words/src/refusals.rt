@@ -28,7 +28,7 @@ const NAMES: [&[&str]; 18] = [
 ];
 
 // Words with a word that names no option of the command.
-const OPTIONS: [&[&str]; 17] = [
+const OPTIONS: [&[&str]; 22] = [
     &["build", "build"],
     &["boot", "boot"],
     &["boot", ""],
@@ -46,19 +46,27 @@ const OPTIONS: [&[&str]; 17] = [
     &["load", "--tops", "64"],
     &["load", "--to", "64"],
     &["load", "", "64"],
+    &["boot", "top"],
+    &["boot", "--Seed", "1"],
+    &["boot", "--seed=1"],
+    &["load", "--policies", "low"],
+    &["load", "-policy", "low"],
 ];
 
 // Words with an option of another command.
-const OTHERS: [&[&str]; 5] = [
+const OTHERS: [&[&str]; 8] = [
     &["build", "--fill", "a5"],
     &["build", "--top", "64"],
     &["boot", "--top", "64"],
     &["boot", "--fill", "a5", "--top", "64"],
     &["boot", "--top", "64", "--fill", "a5"],
+    &["build", "--seed", "1"],
+    &["build", "--policy", "low"],
+    &["boot", "--policy", "low", "--top", "64", "--seed", "1"],
 ];
 
 // Words with a name without its value.
-const NO_VALUE: [&[&str]; 9] = [
+const NO_VALUE: [&[&str]; 13] = [
     &["build", "--fill"],
     &["boot", "--fill"],
     &["load", "--fill"],
@@ -68,10 +76,14 @@ const NO_VALUE: [&[&str]; 9] = [
     &["load", "--fill", "--top", "64"],
     &["boot", "--fill", "a5", "--fill"],
     &["load", "--fill", "--top"],
+    &["boot", "--policy"],
+    &["load", "--seed"],
+    &["boot", "--policy", "--seed", "1"],
+    &["load", "--policy", "top", "--seed"],
 ];
 
 // Words with an option that is given twice.
-const TWICE: [&[&str]; 7] = [
+const TWICE: [&[&str]; 12] = [
     &["boot", "--fill", "a5", "--fill", "a5"],
     &["boot", "--fill", "00", "--fill", "01"],
     &["load", "--fill", "00", "--fill", "00"],
@@ -79,6 +91,13 @@ const TWICE: [&[&str]; 7] = [
     &["load", "--fill", "a5", "--top", "64", "--fill", "a5"],
     &["load", "--top", "64", "--fill", "a5", "--top", "128"],
     &["boot", "--fill", "a5", "--fill", "a5", "--fill", "a5"],
+    &["boot", "--seed", "1", "--seed", "1"],
+    &["load", "--seed", "0", "--top", "64", "--seed", "1"],
+    &["boot", "--policy", "low", "--policy", "low"],
+    &["load", "--policy", "low", "--fill", "a5", "--policy", "top"],
+    &[
+        "boot", "--policy", "scatter", "--seed", "1", "--policy", "scatter", "--seed", "1",
+    ],
 ];
 
 // What isn't two lower-case hexadecimal digits.
@@ -126,6 +145,46 @@ const NO_TOPS: [&str; 37] = [
     "18446744073709551680",
     "123456789012345678901234567890",
     "000000000000000000000000000064",
+];
+
+// What names no policy.
+const NO_POLICIES: [&str; 14] = [
+    "",
+    "Low",
+    "LOW",
+    "high",
+    "lo",
+    "lows",
+    "low ",
+    " low",
+    "low\0",
+    "Top",
+    "tops",
+    "scatte",
+    "scattered",
+    "0",
+];
+
+// What isn't a number of 64 bits, in digits without a sign or a zero in front.
+const NO_SEEDS: [&str; 18] = [
+    "",
+    "00",
+    "01",
+    "000",
+    "007",
+    "+0",
+    "+1",
+    "-0",
+    "-1",
+    " 1",
+    "1 ",
+    "0x1",
+    "a5",
+    "1e3",
+    "٦",
+    "18446744073709551616",
+    "18446744073709551625",
+    "123456789012345678901234567890",
 ];
 
 #[test]
@@ -180,6 +239,34 @@ fn tops(rt: HostRuntime) -> Result<(), Fail> {
             &rt,
             rt.alloc(),
             &["load", "--top", value, "--fill", "a5"],
+            None,
+        )?;
+    }
+    Ok(())
+}
+
+#[test]
+fn policies(rt: HostRuntime) -> Result<(), Fail> {
+    for value in NO_POLICIES {
+        is_read(&rt, rt.alloc(), &["boot", "--policy", value], None)?;
+        is_read(
+            &rt,
+            rt.alloc(),
+            &["load", "--seed", "1", "--policy", value],
+            None,
+        )?;
+    }
+    Ok(())
+}
+
+#[test]
+fn seeds(rt: HostRuntime) -> Result<(), Fail> {
+    for value in NO_SEEDS {
+        is_read(&rt, rt.alloc(), &["boot", "--seed", value], None)?;
+        is_read(
+            &rt,
+            rt.alloc(),
+            &["load", "--seed", value, "--policy", "top"],
             None,
         )?;
     }

@@ -11,7 +11,7 @@ use std::process::Abort;
 use std::test::Fail;
 
 // The last file's name, how many zeros it holds, and how the load ends.
-const UNREAD: [(&str, usize, Result<(), LoadFault>); 3] = [
+static UNREAD: [(&str, usize, Result<(), LoadFault>); 3] = [
     ("etc/table-loade", 0, Err(NoScript)),
     (LOADER, 100, Err(ScriptLength)),
     (LOADER, 0, Ok(())),
@@ -19,12 +19,21 @@ const UNREAD: [(&str, usize, Result<(), LoadFault>); 3] = [
 
 #[test]
 fn no_commands(rt: HostRuntime) -> Result<(), Fail> {
-    let zeros = [0; 100];
-    for (name, count, answer) in UNREAD {
-        let items = items_with(rt.alloc(), 0, name, &zeros[..count.min(100)])?;
-        ends_so(&rt, rt.alloc(), items, &[], answer, 2, &[NO_TABLES])?;
+    for (name, count, answer) in &UNREAD {
+        ends_unread(&rt, rt.alloc(), name, *count, *answer)?;
     }
     Ok(())
+}
+
+fn ends_unread(
+    rt: &impl Abort,
+    alloc: Global,
+    name: &str,
+    count: usize,
+    answer: Result<(), LoadFault>,
+) -> Result<(), Fail> {
+    let items = items_with(alloc, 0, name, &[0; 100][..count.min(100)])?;
+    ends_so(rt, alloc, items, &[], answer, 2, &[NO_TABLES])
 }
 
 #[test]
@@ -47,45 +56,75 @@ const NO_TABLES: Held = Held(0x300_0000, &[FILL; 5]);
 
 // The command behind the Allocates of both files, the calls for a place that are refused, why the load ends, how many of the small
 // load's transfers are over then, and what is left.
-const REFUSED: [(Line, &[u32], LoadFault, usize, &[Held]); 4] = [
-    (
-        BAD_ALIGN,
-        &[],
-        Command {
+struct Refusal {
+    line: Line,
+    fails: &'static [u32],
+    fault: LoadFault,
+    count: usize,
+    left: &'static [Held],
+}
+
+static REFUSED: [Refusal; 4] = [
+    Refusal {
+        line: BAD_ALIGN,
+        fails: &[],
+        fault: Command {
             index: 2,
             cause: Cause::BadAlign,
         },
-        5,
-        &[PLAIN, TABLES],
-    ),
-    (
-        TOO_FAR,
-        &[],
-        Command {
+        count: 5,
+        left: &[PLAIN, TABLES],
+    },
+    Refusal {
+        line: TOO_FAR,
+        fails: &[],
+        fault: Command {
             index: 2,
             cause: Cause::TooFar,
         },
-        5,
-        &[PLAIN, TABLES],
-    ),
-    (
-        PLACE_SPARE,
-        &[1],
-        NoRoom { index: 1 },
-        4,
-        &[PLAIN, NO_TABLES],
-    ),
-    (PLACE_SPARE, &[2], NoRoom { index: 2 }, 5, &[PLAIN, TABLES]),
+        count: 5,
+        left: &[PLAIN, TABLES],
+    },
+    Refusal {
+        line: PLACE_SPARE,
+        fails: &[1],
+        fault: NoRoom { index: 1 },
+        count: 4,
+        left: &[PLAIN, NO_TABLES],
+    },
+    Refusal {
+        line: PLACE_SPARE,
+        fails: &[2],
+        fault: NoRoom { index: 2 },
+        count: 5,
+        left: &[PLAIN, TABLES],
+    },
 ];
 
 #[test]
 fn refusals(rt: HostRuntime) -> Result<(), Fail> {
-    for (line, fails, fault, count, left) in REFUSED {
-        let lines = [PLACE_ANCHOR, PLACE_TABLES, line, PADDING, PADDING];
-        let items = items_of(rt.alloc(), 0, LOADER, &lines)?;
-        ends_so(&rt, rt.alloc(), items, fails, Err(fault), count, left)?;
+    for refusal in &REFUSED {
+        is_refused(&rt, rt.alloc(), refusal)?;
     }
     Ok(())
+}
+
+fn is_refused(rt: &impl Abort, alloc: Global, refusal: &Refusal) -> Result<(), Fail> {
+    let items = items_refused(alloc, refusal.line)?;
+    ends_so(
+        rt,
+        alloc,
+        items,
+        refusal.fails,
+        Err(refusal.fault),
+        refusal.count,
+        refusal.left,
+    )
+}
+
+fn items_refused(alloc: Global, line: Line) -> Result<Items, Fail> {
+    let lines = [PLACE_ANCHOR, PLACE_TABLES, line, PADDING, PADDING];
+    items_of(alloc, 0, LOADER, &lines)
 }
 
 // The load makes the first so many transfers of the small load.

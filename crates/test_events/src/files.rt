@@ -10,7 +10,7 @@ pub(crate) const LOADER: &str = "etc/table-loader";
 
 // The files before the script: one for the F segment, with a number in the bytes 2 to 5 and a sum in the last, one for high memory,
 // and one that stays where it is. They have the selectors from 0x20 on.
-const FILES: [(&str, &[u8]); 3] = [
+static FILES: [(&str, &[u8]); 3] = [
     ("etc/anchor", b"\x41\x42\x05\0\0\0\x77\x88\0"),
     ("etc/tables", b"\xc1\xc2\xc3\xc4\xc5"),
     ("etc/spare", b"\x99"),
@@ -43,10 +43,15 @@ pub(crate) fn items_of(
     lines: &[Line],
 ) -> Result<Items, Fail> {
     let mut script = Bytes::new(alloc);
-    for line in lines {
-        put_line(&mut script, line)?;
-    }
+    put_lines(&mut script, lines)?;
     items_with(alloc, empties, name, script.as_slice())
+}
+
+fn put_lines(script: &mut Bytes, lines: &[Line]) -> Result<(), OutOfMemory> {
+    for line in lines {
+        put_line(script, line)?;
+    }
+    Ok(())
 }
 
 /// Makes a device of the same files, where the last one has these bytes.
@@ -57,20 +62,37 @@ pub(crate) fn items_with(
     last: &[u8],
 ) -> Result<Items, Fail> {
     let mut container = Bytes::new(alloc);
-    container.extend(&[0, 0, 0, empties.saturating_add(4)])?;
-    put_entries(&mut container, &FILES, 0x20)?;
-    put_empties(&mut container, empties)?;
-    put_entries(&mut container, &[(name, last)], 0x23 + u16::from(empties))?;
+    put_directory(&mut container, empties, name, last)?;
     put_padded(&mut container, &[], 4 + usize::from(empties))?;
-    for (_name, bytes) in &FILES {
-        container.extend(bytes)?;
-    }
-    container.extend(last)?;
+    put_contents(&mut container, last)?;
     Ok(read_image(alloc, container.as_slice())?)
 }
 
+fn put_directory(
+    container: &mut Bytes,
+    empties: u8,
+    name: &str,
+    last: &[u8],
+) -> Result<(), OutOfMemory> {
+    container.extend(&[0, 0, 0, empties.saturating_add(4)])?;
+    put_entries(container, &FILES, 0x20)?;
+    put_empties(container, empties)?;
+    put_entries(container, &[(name, last)], 0x23 + u16::from(empties))
+}
+
+fn put_contents(container: &mut Bytes, last: &[u8]) -> Result<(), OutOfMemory> {
+    for (_name, bytes) in &FILES {
+        container.extend(bytes)?;
+    }
+    container.extend(last)
+}
+
 // The entries of files, with selectors from one on.
-fn put_entries(container: &mut Bytes, files: &[(&str, &[u8])], first: u16) -> Result<(), Fail> {
+fn put_entries(
+    container: &mut Bytes,
+    files: &[(&str, &[u8])],
+    first: u16,
+) -> Result<(), OutOfMemory> {
     let mut select = first;
     for (name, bytes) in files {
         let size = bytes.len().min(0x10_0000) as u32;

@@ -6,7 +6,7 @@ use crate::rig::{End, Read, ends};
 use std::test::Fail;
 
 // 94 commands, which have 12,032 bytes.
-const LINES: [Line; 7] = [
+static LINES: [Line; 7] = [
     Line(31, 0, &[], b""),
     PLACE_ANCHOR,
     PLACE_TABLES,
@@ -17,7 +17,7 @@ const LINES: [Line; 7] = [
 ];
 
 // The entries of 131 files have 8,384 bytes.
-const READS: [Read; 9] = [
+static READS: [Read; 9] = [
     Read(0x19, 0, 4, 0x8000),
     Read(0x19, 4, 4096, 0x8000),
     Read(0x19, 4100, 4096, 0x8000),

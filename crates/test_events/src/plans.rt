@@ -1,9 +1,13 @@
 //! A small load over plans that are lists of events. However the events are mixed, it makes the same transfers and leaves the same files.
 
+ghost use Rattle.std.specs.Prelude.{◌≡◌, IfSome, IsSomeAnd, OnOk};
+ghost use Rattle.load_machine.specs.Loads.{IsBegun};
+ghost use Rattle.load_machine.specs.Machine.{memory_of};
+
 use crate::files::{LOADER, Line, PLACE_ANCHOR, PLACE_TABLES, POINT, SUM, items_of};
-use crate::rig::{End, FILL, Held, Read, ends};
+use crate::rig::{End, FILL, Held, Read, begin, ends};
 use cfg_directory::Items;
-use firmware_load::{ListSchedule, Schedule};
+use firmware_load::{ListSchedule, Schedule, World};
 use load_machine::Event;
 use std::alloc::Global;
 use std::process::Abort;
@@ -22,6 +26,16 @@ pub(crate) const TABLES: Held = Held(0x300_0000, b"\xc1\xc2\xc3\xc4\xc5");
 pub(crate) fn small_items(alloc: Global) -> Result<Items, Fail> {
     let lines = [PLACE_ANCHOR, PLACE_TABLES, POINT, SUM, PADDING];
     items_of(alloc, 0, LOADER, &lines)
+}
+
+/// Begins the small load in a world.
+pub(crate) fn begin_small(alloc: Global, world: &mut World) -> Result<(), Fail>
+    ensures fresh { OnOk result (IsSomeAnd world.new (λ w. IsBegun w.attached.device.items (memory_of w).top (memory_of w).fill w)) }
+    ensures top { OnOk result (IfSome world.new (λ w. (memory_of w).top ≡ 0x4000000)) }
+{
+    let items = small_items(alloc)?;
+    begin(alloc, world, items)?;
+    Ok(())
 }
 
 /// Returns the transfers of the small load: the number of files, the entries of four files, five commands, and both files.
@@ -65,43 +79,79 @@ const LEFT: [Held; 7] = [
     Held(0x2FF_FFFF, &[21]),
 ];
 
-// Plans: how many rounds, how many bytes a piece has, and where is written behind each event; what the load leaves, and how many events
+// A plan of so many rounds; how many bytes a piece has, and where is written behind each event; what the load leaves, and how many events
 // are left.
-//
+struct Plan {
+    count: u16,
+    bytes: u32,
+    addresses: &'static [u64],
+    left: &'static [Held],
+    events: u32,
+}
+
 // By single bytes the transfers take 4, 256, 640, 9 and 5 rounds, each with one round more in which the firmware sees the end, the other
 // three commands one each, and the load ends with the first event of round 923. By pieces of 100 bytes they take 1, 3, 7, 1 and 1, and
 // the load ends with the first event of round 22.
-const PLANS: [(u16, u32, &[u64], &[Held], u32); 4] = [
-    (0, 0, &[], &[ANCHOR, TABLES], 0),
-    (1000, 1, &[], &[ANCHOR, TABLES], 155),
-    (30, 100, &GUARDED, &UNWRITTEN, 197),
-    (30, 100, &WRITTEN, &LEFT, 143),
+static PLANS: [Plan; 4] = [
+    Plan {
+        count: 0,
+        bytes: 0,
+        addresses: &[],
+        left: &[ANCHOR, TABLES],
+        events: 0,
+    },
+    Plan {
+        count: 1000,
+        bytes: 1,
+        addresses: &[],
+        left: &[ANCHOR, TABLES],
+        events: 155,
+    },
+    Plan {
+        count: 30,
+        bytes: 100,
+        addresses: &GUARDED,
+        left: &UNWRITTEN,
+        events: 197,
+    },
+    Plan {
+        count: 30,
+        bytes: 100,
+        addresses: &WRITTEN,
+        left: &LEFT,
+        events: 143,
+    },
 ];
 
 #[test]
 fn plans(rt: HostRuntime) -> Result<(), Fail> {
-    for (count, bytes, addresses, left, events) in PLANS {
-        let mut plan = plan_of(rt.alloc(), count, bytes, addresses)?;
-        ends_within(&rt, rt.alloc(), &mut plan, left, events)?;
+    for plan in &PLANS {
+        ends_within(&rt, rt.alloc(), plan)?;
     }
     Ok(())
 }
 
-fn ends_within(
+fn ends_within(rt: &impl Abort, alloc: Global, plan: &Plan) -> Result<(), Fail> {
+    let mut schedule = plan_of(alloc, plan.count, plan.bytes, plan.addresses)?;
+    small_load_ends(rt, alloc, &mut schedule, plan.left)?;
+    assert_eq!(rt; count_left(&mut schedule), plan.events);
+    Ok(())
+}
+
+// The small load over these events is done, and leaves these bytes.
+fn small_load_ends(
     rt: &impl Abort,
     alloc: Global,
-    plan: &mut ListSchedule,
+    schedule: &mut ListSchedule,
     left: &[Held],
-    events: u32,
 ) -> Result<(), Fail> {
     let end = End {
         answer: Ok(()),
         reads: &reads_to(0xF_0000, 0x300_0000),
         left,
     };
-    ends(rt, alloc, small_items(alloc)?, &[], plan, &end)?;
-    assert_eq!(rt; count_left(plan), events);
-    Ok(())
+    let items = small_items(alloc)?;
+    ends(rt, alloc, items, &[], schedule, &end)
 }
 
 /// Makes a plan of so many rounds, all of which are left: a step of the firmware and a piece of so many bytes, and behind each of them

@@ -78,14 +78,33 @@ pub(crate) fn ends<C: Schedule>(
     plan: &mut C,
     end: &End<'_>,
 ) -> Result<(), Fail> {
-    let mut list = List::new(alloc);
-    list.extend(fails)?;
-    let mut failing = FailingAlloc::new(list);
-    begin_zones(alloc, &mut failing, Policy::Low)?;
     let mut world = World::idle();
     begin(alloc, &mut world, items)?;
-    ends_as(rt, &mut world, &mut failing, plan, end);
+    begun_ends(rt, alloc, &mut world, fails, plan, end)
+}
+
+// The load that was begun ends so, where these calls for a place are refused.
+fn begun_ends<C: Schedule>(
+    rt: &impl Abort,
+    alloc: Global,
+    world: &mut World,
+    fails: &[u32],
+    plan: &mut C,
+    end: &End<'_>,
+) -> Result<(), Fail>
+    requires fresh { IsSomeAnd world.old (λ w. IsBegun w.attached.device.items (memory_of w).top (memory_of w).fill w) }
+    requires top { IfSome world.old (λ w. (memory_of w).top ≡ 0x4000000) }
+{
+    let mut failing = failing_places(alloc, fails)?;
+    begin_zones(alloc, &mut failing, Policy::Low)?;
+    ends_as(rt, world, &mut failing, plan, end);
     Ok(())
+}
+
+fn failing_places(alloc: Global, fails: &[u32]) -> Result<FailingAlloc, OutOfMemory> {
+    let mut list = List::new(alloc);
+    list.extend(fails)?;
+    Ok(FailingAlloc::new(list))
 }
 
 /// The load that was begun ends so, over the events of a plan.

@@ -1,8 +1,12 @@
 //! The small load over the events of seeds, with each policy of an allocator. A begun world fills 33 MiB, so that no test takes more than
 //! some 200 seeds.
 
-use crate::plans::{ANCHOR, TABLES, reads_to, small_items};
-use crate::rig::{End, Held, begin, begin_zones, ends_as};
+ghost use Rattle.std.specs.Prelude.{◌≡◌, IfSome, IsSomeAnd};
+ghost use Rattle.load_machine.specs.Loads.{IsBegun};
+ghost use Rattle.load_machine.specs.Machine.{memory_of};
+
+use crate::plans::{ANCHOR, TABLES, begin_small, reads_to};
+use crate::rig::{End, Held, begin_zones, ends_as};
 use firmware_load::{Schedule, SeededSchedule, World};
 use std::alloc::Global;
 use std::ops::Range;
@@ -75,12 +79,26 @@ fn ends_over(
     seed: u64,
     end: &End<'_>,
 ) -> Result<(), Fail> {
-    let mut plan = SeededSchedule::new();
-    plan.begin(seed);
+    let mut world = World::idle();
+    begin_small(alloc, &mut world)?;
+    begun_ends_over(rt, alloc, &mut world, by, seed, end)
+}
+
+fn begun_ends_over(
+    rt: &impl Abort,
+    alloc: Global,
+    world: &mut World,
+    by: Policy,
+    seed: u64,
+    end: &End<'_>,
+) -> Result<(), Fail>
+    requires fresh { IsSomeAnd world.old (λ w. IsBegun w.attached.device.items (memory_of w).top (memory_of w).fill w) }
+    requires top { IfSome world.old (λ w. (memory_of w).top ≡ 0x4000000) }
+{
     let mut shelf = ShelfAlloc::new();
     begin_zones(alloc, &mut shelf, by)?;
-    let mut world = World::idle();
-    begin(alloc, &mut world, small_items(alloc)?)?;
-    ends_as(rt, &mut world, &mut shelf, &mut plan, end);
+    let mut plan = SeededSchedule::new();
+    plan.begin(seed);
+    ends_as(rt, world, &mut shelf, &mut plan, end);
     Ok(())
 }

@@ -1,17 +1,17 @@
 //! Single steps of a world.
 
-ghost use Rattle.std.specs.Prelude.{◌≡◌, true, IfSome, IsSome};
+ghost use Rattle.std.specs.Prelude.{◌≡◌, true, IfSome, IsSome, IsSomeAnd};
 ghost use Rattle.script_load.specs.Allocators.{AreZonesOf};
 ghost use Rattle.script_load.specs.FilesInMemory.{placed_ranges};
+ghost use Rattle.load_machine.specs.Loads.{IsBegun};
 ghost use Rattle.load_machine.specs.Machine.{memory_of};
 
-use crate::plans::{ANCHOR, TABLES, reads_to, small_items};
-use crate::rig::{
-    Held, NO_BUFFER, NO_DESCRIPTOR, TOP, are_held, begin, begin_zones, has_read, is_in,
-};
+use crate::plans::{ANCHOR, TABLES, begin_small, reads_to};
+use crate::rig::{Held, NO_BUFFER, NO_DESCRIPTOR, TOP, are_held, begin_zones, has_read, is_in};
 use firmware_load::World;
 use load_machine::Event::{self, Device, Firmware, Other};
 use script_load::State;
+use std::alloc::Global;
 use std::process::Abort;
 use std::test::Fail;
 use zone_alloc::{Policy, ShelfAlloc, ZoneAlloc};
@@ -56,7 +56,7 @@ const WHOLE: Event = Device(u32::MAX);
 
 // The firmware waits until the transfer is over. It then takes a step for the number of files, two each for the entries, the script and
 // both files, and one for each command behind these and for the end.
-const TURNS: [Turns; 7] = [
+static TURNS: [Turns; 7] = [
     Turns(0, &[], BEGUN),
     Turns(1, &[Device(7)], BEGUN),
     Turns(3, &[Firmware], ASKED),
@@ -81,10 +81,18 @@ const TURNS: [Turns; 7] = [
 fn steps(rt: HostRuntime) -> Result<(), Fail> {
     let mut world = World::idle();
     is_in(&rt, &world, State::Idle);
+    begin_small(rt.alloc(), &mut world)?;
+    goes_on(&rt, rt.alloc(), &mut world)
+}
+
+// The world that was begun goes on as it should, with the least places.
+fn goes_on(rt: &impl Abort, alloc: Global, world: &mut World) -> Result<(), Fail>
+    requires fresh { IsSomeAnd world.old (λ w. IsBegun w.attached.device.items (memory_of w).top (memory_of w).fill w) }
+    requires top { IfSome world.old (λ w. (memory_of w).top ≡ 0x4000000) }
+{
     let mut shelf = ShelfAlloc::new();
-    begin_zones(rt.alloc(), &mut shelf, Policy::Low)?;
-    begin(rt.alloc(), &mut world, small_items(rt.alloc())?)?;
-    goes(&rt, &mut world, &mut shelf);
+    begin_zones(alloc, &mut shelf, Policy::Low)?;
+    goes(rt, world, &mut shelf);
     Ok(())
 }
 

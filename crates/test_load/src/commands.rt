@@ -1,8 +1,8 @@
 //! Commands that are refused, each for its first cause, and what the commands before them left.
 
-use crate::containers::{ANCHOR, Command, EMPTY_FILE, FILES, TARGET, container_of};
+use crate::containers::{ANCHOR, Command, EMPTY_FILE, FILES, TARGET, container_ends, container_of};
 use crate::endings::refused_at;
-use fixtures::{ends, ends_in, is_same, load};
+use fixtures::{Ending, Run, ends_in, is_same, load};
 use loader_script::Cause;
 use std::alloc::Global;
 use std::test::Fail;
@@ -17,7 +17,7 @@ const PLACED: [Command; 2] = [
 ];
 
 // A cause, its line, and commands that are refused for it behind these two.
-const REFUSED: [(Cause, &[u8], &[Command]); 8] = [
+static REFUSED: [(Cause, &[u8], &[Command]); 8] = [
     (
         Cause::BadName,
         b"command 2: cause 1\n",
@@ -105,16 +105,17 @@ fn are_refused(alloc: Global, cause: Cause, say: &[u8], commands: &[Command]) ->
 // The command is refused at index 2, whatever follows it.
 fn is_refused(alloc: Global, cause: Cause, say: &[u8], command: Command) -> Result<(), Fail> {
     let [first, second] = PLACED;
-    let container = container_of(alloc, &FILES, &[first, second, command, command])?;
-    ends(
+    container_ends(
         alloc,
-        &load("behind two that place files", container.as_slice()),
+        &load("behind two that place files", &[]),
+        &FILES,
+        &[first, second, command, command],
         &refused_at(2, cause, say),
     )
 }
 
 // A cause, its line, and commands that are refused for it with none before.
-const REFUSED_AT_ONCE: [(Cause, &[u8], &[Command]); 3] = [
+static REFUSED_AT_ONCE: [(Cause, &[u8], &[Command]); 3] = [
     (
         Cause::NotPlaced,
         b"command 0: cause 4\n",
@@ -167,16 +168,17 @@ fn is_refused_at_once(
     say: &[u8],
     command: Command,
 ) -> Result<(), Fail> {
-    let container = container_of(alloc, &FILES, &[command])?;
-    ends(
+    container_ends(
         alloc,
-        &load("alone", container.as_slice()),
+        &load("alone", &[]),
+        &FILES,
+        &[command],
         &refused_at(0, cause, say),
     )
 }
 
 // Commands of which the last is refused for want of a file, its index, the line, and what the 16 bytes are from 0xF0000 on.
-const LEFT: [(&[Command], u32, &[u8], [u8; 16]); 3] = [
+static LEFT: [(&[Command], u32, &[u8], [u8; 16]); 3] = [
     (
         &[Command::Allocate(NONE, 16, 2)],
         0,
@@ -221,14 +223,20 @@ fn leaves(
     bytes: &[u8; 16],
 ) -> Result<(), Fail> {
     let container = container_of(alloc, &FILES, commands)?;
-    let mut world = World::idle();
-    ends_in(
-        alloc,
-        &load("a missing file", container.as_slice()),
-        &mut world,
-        &refused_at(index, Cause::NoFile, say),
-    )?;
-    holds(&world, bytes)
+    let ending = refused_at(index, Cause::NoFile, say);
+    let run = load("a missing file", container.as_slice());
+    run_leaves(alloc, &run, &mut World::idle(), &ending, bytes)
+}
+
+fn run_leaves(
+    alloc: Global,
+    run: &Run,
+    world: &mut World,
+    ending: &Ending,
+    bytes: &[u8; 16],
+) -> Result<(), Fail> {
+    ends_in(alloc, run, world, ending)?;
+    holds(world, bytes)
 }
 
 // The world is that of a load that was refused, and its memory has these bytes from 0xF0000 on.

@@ -1,7 +1,9 @@
-//! Containers that are put together from their files and the commands of their script, and the files that most of them have.
+//! Containers that are put together from their files and the commands of their script, runs that load one, and the files that most of them
+//! have.
 
-use fixtures::{put_allocate, put_checksum, put_file, put_pointer};
+use fixtures::{Ending, Run, ends, put_allocate, put_checksum, put_file, put_pointer};
 use std::alloc::Global;
+use std::test::Fail;
 use vt_outside::{Bytes, OutOfMemory};
 
 // A file of a container: its name and its bytes.
@@ -30,11 +32,27 @@ pub(crate) const EMPTY_FILE: &str = "etc/empty";
 // A byte for a sum at 4, and four bytes at 8 for a pointer to the fifth byte of the target.
 pub(crate) const ANCHOR_BYTES: [u8; 12] = [0x41, 0x42, 0x43, 0x44, 0, 0, 0, 0, 4, 0, 0, 0];
 
-pub(crate) const FILES: [FileOf; 3] = [
+pub(crate) static FILES: [FileOf; 3] = [
     (ANCHOR, &ANCHOR_BYTES),
     (EMPTY_FILE, &[]),
     (TARGET, &[0xA1, 0xA2, 0xA3, 0xA4, 0xA5]),
 ];
+
+// Makes the run with the container of these files and commands for its input, and tells where it doesn't end as `ending` says.
+pub(crate) fn container_ends(
+    alloc: Global,
+    run: &Run,
+    files: &[FileOf],
+    commands: &[Command],
+    ending: &Ending,
+) -> Result<(), Fail> {
+    let container = container_of(alloc, files, commands)?;
+    let run = Run {
+        input: container.as_slice(),
+        ..*run
+    };
+    ends(alloc, &run, ending)
+}
 
 // The container of these files and the script of these commands, its last file. A guest may write none of them.
 pub(crate) fn container_of(
@@ -53,13 +71,17 @@ pub(crate) fn container_with(
     script: &[u8],
 ) -> Result<Bytes, OutOfMemory> {
     let mut bytes = Bytes::new(alloc);
-    bytes.extend(&size_of(files.len().saturating_add(1)).to_be_bytes())?;
-    put_entries(&mut bytes, files)?;
-    put_file(&mut bytes, size_of(script.len()), 0x1000, SCRIPT)?;
-    put_flags(&mut bytes, files)?;
-    put_contents(&mut bytes, files)?;
-    bytes.extend(script)?;
+    put_container(&mut bytes, files, script)?;
     Ok(bytes)
+}
+
+fn put_container(bytes: &mut Bytes, files: &[FileOf], script: &[u8]) -> Result<(), OutOfMemory> {
+    bytes.extend(&size_of(files.len().saturating_add(1)).to_be_bytes())?;
+    put_entries(bytes, files)?;
+    put_file(bytes, size_of(script.len()), 0x1000, SCRIPT)?;
+    put_flags(bytes, files)?;
+    put_contents(bytes, files)?;
+    bytes.extend(script)
 }
 
 // Selectors count from 0x20.

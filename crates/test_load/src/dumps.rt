@@ -3,8 +3,8 @@
 //! The bytes 41 to 44 of the anchor sum to 0A. At a top of 64 MiB high memory begins at 0x03000000, so that the pointer is 0x03000004, whose
 //! bytes sum to 07, and the checksum is EF. At 128 MiB it begins at 0x07000000, the pointer's bytes sum to 0B, and the checksum is EB.
 
-use crate::containers::{ANCHOR, Command, FILES, FileOf, TARGET, container_of, container_with};
-use fixtures::{Run, booted, ends, load};
+use crate::containers::{ANCHOR, Command, FILES, TARGET, container_ends};
+use fixtures::{BOOTED, Run, SEEDED_ROOM, booted, load};
 use std::alloc::Global;
 use std::test::Fail;
 
@@ -53,10 +53,18 @@ const HIGH_DUMP: &str = "top 04000000 fill 00
 end
 ";
 
+// The target at the highest place of high memory that 64 divides, and the anchor at the highest below 0x00100000 that 16 divides. The bytes
+// of the pointer 0x03FFFFC4 sum to c5, so that the checksum is 31.
+const TOP_DUMP: &str = "top 04000000 fill 00
+000ffff0 4142434431000000c4ffff0300000000
+03ffffc0 a1a2a3a4a50000000000000000000000
+end
+";
+
 const NO_ROWS: &str = "top 04000000 fill 00\nend\n";
 
 // The options, the commands, and the dump.
-const DUMPS: [(&str, &[&str], &[Command], &str); 8] = [
+static DUMPS: [(&str, &[&str], &[Command], &str); 10] = [
     ("default options", &["load"], &LINKED, LINKED_DUMP),
     (
         "default options in words",
@@ -76,6 +84,18 @@ const DUMPS: [(&str, &[&str], &[Command], &str); 8] = [
         &LINKED,
         FILLED_DUMP,
     ),
+    (
+        "default policy and seed in words",
+        &["load", "--seed", "0", "--policy", "low"],
+        &LINKED,
+        LINKED_DUMP,
+    ),
+    (
+        "places at the top",
+        &["load", "--policy", "top"],
+        &LINKED,
+        TOP_DUMP,
+    ),
     ("skipped commands", &["load"], &PADDED, LINKED_DUMP),
     ("high memory alone", &["load"], &IN_HIGH_MEMORY, HIGH_DUMP),
     ("no command", &["load"], &[], NO_ROWS),
@@ -90,6 +110,30 @@ fn dumps_of_containers(rt: HostRuntime) -> Result<(), Fail> {
     Ok(())
 }
 
+// Seeds have events of their own, and a scattered place is another for each.
+static SEEDED: [&[&str]; 3] = [
+    &["load", "--policy", "scatter", "--seed", "7"],
+    &["load", "--policy", "top", "--seed", "8"],
+    &["load", "--seed", "18446744073709551615"],
+];
+
+#[test]
+fn loads_with_seeds(rt: HostRuntime) -> Result<(), Fail> {
+    for words in &SEEDED {
+        is_loaded(rt.alloc(), words)?;
+    }
+    Ok(())
+}
+
+fn is_loaded(alloc: Global, words: &[&str]) -> Result<(), Fail> {
+    let run = Run {
+        words,
+        room: SEEDED_ROOM,
+        ..load("a seed", &[])
+    };
+    container_ends(alloc, &run, &FILES, &LINKED, &BOOTED)
+}
+
 fn is_dumped<'a>(
     alloc: Global,
     case: &'a str,
@@ -97,25 +141,16 @@ fn is_dumped<'a>(
     commands: &[Command],
     dump: &str,
 ) -> Result<(), Fail> {
-    let container = container_of(alloc, &FILES, commands)?;
     let run = Run {
         words,
-        ..load(case, container.as_slice())
+        ..load(case, &[])
     };
-    ends(alloc, &run, &booted(dump))
+    container_ends(alloc, &run, &FILES, commands, &booted(dump))
 }
 
 // The container of a script alone, of no bytes.
 #[test]
 fn a_script_of_no_bytes(rt: HostRuntime) -> Result<(), Fail> {
-    is_empty(rt.alloc(), &[])
-}
-
-fn is_empty(alloc: Global, files: &[FileOf]) -> Result<(), Fail> {
-    let container = container_with(alloc, files, &[])?;
-    ends(
-        alloc,
-        &load("a script of no bytes", container.as_slice()),
-        &booted(NO_ROWS),
-    )
+    let run = load("a script of no bytes", &[]);
+    container_ends(rt.alloc(), &run, &[], &[], &booted(NO_ROWS))
 }

@@ -1,17 +1,18 @@
-//! Machines of which `build` makes a container: loaded, it leaves the memory that `boot` leaves.
+//! Machines of which `build` makes a container: loaded, it leaves the memory that `boot` leaves, and it loads over events.
 
 use fixtures::{
-    EMPTY, EMPTY_DUMP, FULL_DUMP, MINIMAL, MINIMAL_DUMP, ON_THE_BORDER, ON_THE_BORDER_DUMP, QUOTES,
-    QUOTES_DUMP, ROOM, Run, WITH_ACPI, WITH_ACPI_AND_HPET, WITH_ACPI_AND_HPET_DUMP, WITH_ACPI_DUMP,
-    booted, ends, full_description, is_same, load, sink, source, status_of,
+    BOOTED, EMPTY, EMPTY_DUMP, Ending, FULL_DUMP, MINIMAL, MINIMAL_DUMP, ON_THE_BORDER,
+    ON_THE_BORDER_DUMP, QUOTES, QUOTES_DUMP, ROOM, Run, SEEDED_ROOM, WITH_ACPI, WITH_ACPI_AND_HPET,
+    WITH_ACPI_AND_HPET_DUMP, WITH_ACPI_DUMP, booted, ends, full_description, is_same, load, sink,
+    source, status_of,
 };
 use std::alloc::Global;
 use std::test::Fail;
 use vmtables::{Status, World};
-use vt_outside::ListSink;
+use vt_outside::{ListSink, ListSource, OutOfMemory, SureSink};
 
 // A description, its top, and the dump of the memory that the guest finds.
-const MACHINES: [(&str, &str, &str); 6] = [
+static MACHINES: [(&str, &str, &str); 6] = [
     (MINIMAL, "64", MINIMAL_DUMP),
     (EMPTY, "64", EMPTY_DUMP),
     (QUOTES, "65", QUOTES_DUMP),
@@ -35,25 +36,62 @@ fn the_longest_texts(rt: HostRuntime) -> Result<(), Fail> {
 }
 
 fn is_loaded(alloc: Global, description: &[u8], top: &str, dump: &str) -> Result<(), Fail> {
+    ends_built(
+        alloc,
+        dump,
+        description,
+        &["load", "--top", top],
+        &booted(dump),
+    )
+}
+
+#[test]
+fn loaded_over_the_events_of_a_seed(rt: HostRuntime) -> Result<(), Fail> {
+    ends_built(
+        rt.alloc(),
+        "the events of a seed",
+        MINIMAL.as_bytes(),
+        &["load", "--policy", "top", "--seed", "7"],
+        &BOOTED,
+    )
+}
+
+// The container of the described machine, loaded by these words, ends so.
+fn ends_built<'a>(
+    alloc: Global,
+    case: &'a str,
+    description: &[u8],
+    words: &'a [&'a str],
+    ending: &Ending,
+) -> Result<(), Fail> {
     let mut container = sink(alloc, ROOM, &[])?;
     build(alloc, description, &mut container)?;
     let run = Run {
-        words: &["load", "--top", top],
-        ..load(dump, container.taken())
+        words,
+        room: SEEDED_ROOM,
+        ..load(case, container.taken())
     };
-    ends(alloc, &run, &booted(dump))
+    ends(alloc, &run, ending)
 }
 
 fn build(alloc: Global, description: &[u8], container: &mut ListSink) -> Result<(), Fail> {
     let mut source = source(alloc, description, ROOM, &[])?;
-    let mut say = sink(alloc, ROOM, &[])?;
-    let status = status_of(
+    let status = status_of_build(alloc, &mut source, container)?;
+    is_same("build", "status", &status, &Status::Ok)
+}
+
+fn status_of_build(
+    alloc: Global,
+    source: &mut ListSource,
+    container: &mut ListSink,
+) -> Result<Status, OutOfMemory> {
+    let mut world = World::idle();
+    status_of(
         alloc,
         &["build"],
-        &mut source,
+        source,
         container,
-        &mut say,
-        &mut World::idle(),
-    )?;
-    is_same("build", "status", &status, &Status::Ok)
+        &mut SureSink::new(),
+        &mut world,
+    )
 }

@@ -1,23 +1,25 @@
 //! Files for which the allocator gives no place, and files that fill their zone.
 
-use crate::containers::{ANCHOR, Command, FILES, FileOf, SCRIPT, TARGET, container_of};
+use crate::containers::{
+    ANCHOR, Command, FILES, FileOf, SCRIPT, TARGET, container_ends, container_of,
+};
 use crate::endings::no_room_at;
-use fixtures::{Ending, booted, ends, ends_with, failing_places, load};
+use fixtures::{Ending, Run, booted, ends_with, failing_places, load};
 use std::alloc::Global;
 use std::test::Fail;
 use vmtables::World;
-use vt_outside::{Bytes, OutOfMemory};
+use zone_alloc::FailingAlloc;
 
 const NO_ROWS: &str = "top 04000000 fill 00\nend\n";
 
-const COMMANDS: [Command; 3] = [
+static COMMANDS: [Command; 3] = [
     Command::Skipped,
     Command::Allocate(ANCHOR, 16, 2),
     Command::Allocate(TARGET, 64, 1),
 ];
 
 // The places that an allocator refuses, and how the load of the two files then ends.
-const REFUSED: [(&str, &[u32], u32, &[u8]); 3] = [
+static REFUSED: [(&str, &[u32], u32, &[u8]); 3] = [
     ("the first place", &[0], 1, b"no room at command 1\n"),
     ("the second place", &[1], 2, b"no room at command 2\n"),
     ("both places", &[0, 1], 1, b"no room at command 1\n"),
@@ -60,18 +62,25 @@ end
 
 fn ends_placed(alloc: Global, case: &str, fails: &[u32], ending: &Ending) -> Result<(), Fail> {
     let container = container_of(alloc, &FILES, &COMMANDS)?;
+    run_ends_placed(alloc, &load(case, container.as_slice()), fails, ending)
+}
+
+fn run_ends_placed(alloc: Global, run: &Run, fails: &[u32], ending: &Ending) -> Result<(), Fail> {
     let mut place = failing_places(alloc, fails)?;
-    ends_with(
-        alloc,
-        &load(case, container.as_slice()),
-        &mut place,
-        &mut World::idle(),
-        ending,
-    )
+    ends_with_places(alloc, run, &mut place, ending)
+}
+
+fn ends_with_places(
+    alloc: Global,
+    run: &Run,
+    place: &mut FailingAlloc,
+    ending: &Ending,
+) -> Result<(), Fail> {
+    ends_with(alloc, run, place, &mut World::idle(), ending)
 }
 
 // Files of zeros and their commands, by the size of the first and the second file. Each zone is too small for the last of them.
-const SIZES: [(&str, usize, usize, u8, u32, &[u8]); 5] = [
+static SIZES: [(&str, usize, usize, u8, u32, &[u8]); 5] = [
     (
         "above the F segment",
         65_537,
@@ -129,7 +138,7 @@ fn files_that_are_too_large(rt: HostRuntime) -> Result<(), Fail> {
 }
 
 // Files of zeros that fill their zone to the last byte.
-const FITTING: [(&str, usize, usize, u8); 3] = [
+static FITTING: [(&str, usize, usize, u8); 3] = [
     ("the F segment", 65_520, 16, 2),
     ("the F segment but for a byte", 65_520, 15, 2),
     ("high memory", 16_777_200, 16, 1),
@@ -151,49 +160,45 @@ fn ends_sized(
     zone: u8,
     ending: &Ending,
 ) -> Result<(), Fail> {
-    let first = vec![in alloc; 0; sizes.0]?;
-    let second = vec![in alloc; 0; sizes.1]?;
+    let zeros = vec![in alloc; 0; sizes.0.max(sizes.1)]?;
+    let files = [
+        ("etc/first", &zeros[..sizes.0]),
+        ("etc/second", &zeros[..sizes.1]),
+    ];
+    two_files_end(alloc, case, &files, zone, ending)
+}
+
+fn two_files_end(
+    alloc: Global,
+    case: &str,
+    files: &[FileOf; 2],
+    zone: u8,
+    ending: &Ending,
+) -> Result<(), Fail> {
     let commands = [
         Command::Allocate("etc/first", 16, zone),
         Command::Allocate("etc/second", 16, zone),
     ];
-    let container = container_of_two(
-        alloc,
-        ("etc/first", &first),
-        ("etc/second", &second),
-        &commands,
-    )?;
-    ends(alloc, &load(case, container.as_slice()), ending)
+    container_ends(alloc, &load(case, &[]), files, &commands, ending)
 }
 
-fn container_of_two<'a>(
-    alloc: Global,
-    first: FileOf<'a>,
-    second: FileOf<'a>,
-    commands: &[Command],
-) -> Result<Bytes, OutOfMemory> {
-    container_of(alloc, &[first, second], commands)
-}
-
-// The script is a file as any other, and may be placed.
-#[test]
-fn a_script_that_places_itself(rt: HostRuntime) -> Result<(), Fail> {
-    places_itself(rt.alloc())
-}
-
-fn places_itself(alloc: Global) -> Result<(), Fail> {
-    let container = container_of(alloc, &[], &[Command::Allocate(SCRIPT, 16, 1)])?;
-    ends(
-        alloc,
-        &load("a script that places itself", container.as_slice()),
-        &booted(
-            "top 04000000 fill 00
+// A script of one command, the Allocate of the script itself.
+const PLACED_SCRIPT_DUMP: &str = "top 04000000 fill 00
 03000000 010000006574632f7461626c652d6c6f
 03000010 61646572000000000000000000000000
 03000030 00000000000000000000000010000000
 03000040 01000000000000000000000000000000
 end
-",
-        ),
+";
+
+// The script is a file as any other, and may be placed.
+#[test]
+fn a_script_that_places_itself(rt: HostRuntime) -> Result<(), Fail> {
+    container_ends(
+        rt.alloc(),
+        &load("a script that places itself", &[]),
+        &[],
+        &[Command::Allocate(SCRIPT, 16, 1)],
+        &booted(PLACED_SCRIPT_DUMP),
     )
 }

@@ -2,7 +2,7 @@
 
 use crate::containers::{FILES, container_with};
 use crate::endings::{no_container, no_script};
-use fixtures::{ends, load, put_file};
+use fixtures::{Ending, ends, load, put_file};
 use std::alloc::Global;
 use std::test::Fail;
 use vmtables::LoadFault;
@@ -40,7 +40,7 @@ const NONE: Parts = Parts {
 };
 
 // They end within a part or before it: fault 1.
-const TRUNCATED: [(&str, Parts); 11] = [
+static TRUNCATED: [(&str, Parts); 11] = [
     ("no bytes", Parts { count: &[], ..NONE }),
     (
         "three bytes",
@@ -101,7 +101,7 @@ const TRUNCATED: [(&str, Parts); 11] = [
 // A container that is none, and what is said of it.
 type Refusal = (&'static str, Parts<'static>, &'static [u8]);
 
-const REFUSED: [Refusal; 18] = [
+static REFUSED: [Refusal; 18] = [
     (
         "1,025 files",
         Parts {
@@ -269,40 +269,47 @@ fn are_refused(alloc: Global, rows: &[Refusal]) -> Result<(), Fail> {
 }
 
 fn is_refused(alloc: Global, case: &str, parts: &Parts, say: &[u8]) -> Result<(), Fail> {
-    let bytes = joined(alloc, parts)?;
-    ends(alloc, &load(case, bytes.as_slice()), &no_container(say))
+    joined_ends(alloc, case, parts, &no_container(say))
 }
 
-// A container of no files, and one of files of which none is a script.
+// The load of these parts ends so.
+fn joined_ends(alloc: Global, case: &str, parts: &Parts, ending: &Ending) -> Result<(), Fail> {
+    let bytes = joined(alloc, parts)?;
+    ends(alloc, &load(case, bytes.as_slice()), ending)
+}
+
+// Containers of no files, and of files of which none is a script.
+static WITHOUT_A_SCRIPT: [(&str, Parts); 3] = [
+    ("no files", NONE),
+    ("one file", ONE),
+    ("two files", TWO),
+];
+
 #[test]
 fn containers_without_a_script(rt: HostRuntime) -> Result<(), Fail> {
-    for (case, parts) in [("no files", &NONE), ("one file", &ONE), ("two files", &TWO)] {
-        has_no_script(rt.alloc(), case, parts)?;
+    let ending = no_script(LoadFault::NoScript, b"script: none\n");
+    for (case, parts) in &WITHOUT_A_SCRIPT {
+        joined_ends(rt.alloc(), case, parts, &ending)?;
     }
     Ok(())
 }
 
-fn has_no_script(alloc: Global, case: &str, parts: &Parts) -> Result<(), Fail> {
-    let bytes = joined(alloc, parts)?;
-    ends(
-        alloc,
-        &load(case, bytes.as_slice()),
-        &no_script(LoadFault::NoScript, b"script: none\n"),
-    )
-}
-
 fn joined(alloc: Global, parts: &Parts) -> Result<Bytes, OutOfMemory> {
     let mut bytes = Bytes::new(alloc);
-    bytes.extend(parts.count)?;
-    for (size, select, name) in parts.entries {
-        put_file(&mut bytes, *size, *select, name)?;
-    }
-    bytes.extend(parts.rest)?;
+    put_parts(&mut bytes, parts)?;
     Ok(bytes)
 }
 
+fn put_parts(bytes: &mut Bytes, parts: &Parts) -> Result<(), OutOfMemory> {
+    bytes.extend(parts.count)?;
+    for (size, select, name) in parts.entries {
+        put_file(bytes, *size, *select, name)?;
+    }
+    bytes.extend(parts.rest)
+}
+
 // Lengths of a script of zeros, which are skipped commands.
-const LENGTHS: [usize; 4] = [1, 127, 129, 1_048_704];
+static LENGTHS: [usize; 4] = [1, 127, 129, 1_048_704];
 
 #[test]
 fn scripts_of_other_lengths(rt: HostRuntime) -> Result<(), Fail> {

@@ -1,6 +1,6 @@
 //! Streams that fail, and what becomes of a world over many runs.
 
-use crate::containers::{ANCHOR, Command, FILES, container_of};
+use crate::containers::{ANCHOR, Command, FILES, container_ends, container_of};
 use crate::endings::{no_container, no_room_at};
 use fixtures::{
     Ending, READ_FAULT, ROOM, Run, booted, ends, ends_in, ends_with, failing_places, load,
@@ -9,13 +9,14 @@ use fixtures::{
 use std::alloc::Global;
 use std::test::Fail;
 use vmtables::{State, World};
+use zone_alloc::FailingAlloc;
 
 const DUMP: &str = "top 04000000 fill 00
 000f0000 41424344000000000400000000000000
 end
 ";
 
-const COMMANDS: [Command; 1] = [Command::Allocate(ANCHOR, 16, 2)];
+static COMMANDS: [Command; 1] = [Command::Allocate(ANCHOR, 16, 2)];
 
 #[test]
 fn streams_that_fail(rt: HostRuntime) -> Result<(), Fail> {
@@ -33,16 +34,15 @@ fn reads_fail(alloc: Global) -> Result<(), Fail> {
 }
 
 fn read_fails(alloc: Global, failing_reads: &[u32]) -> Result<(), Fail> {
-    let container = container_of(alloc, &FILES, &COMMANDS)?;
     let run = Run {
         failing_reads,
-        ..load("a read that fails", container.as_slice())
+        ..load("a read that fails", &[])
     };
-    ends(alloc, &run, &READ_FAULT)
+    container_ends(alloc, &run, &FILES, &COMMANDS, &READ_FAULT)
 }
 
 // Room for so many bytes, and the writes that fail.
-const WRITES: [(usize, &[u32]); 3] = [(ROOM, &[0]), (0, &[]), (30, &[])];
+static WRITES: [(usize, &[u32]); 3] = [(ROOM, &[0]), (0, &[]), (30, &[])];
 
 fn writes_fail(alloc: Global) -> Result<(), Fail> {
     for (room, fails) in &WRITES {
@@ -52,14 +52,13 @@ fn writes_fail(alloc: Global) -> Result<(), Fail> {
 }
 
 fn write_fails(alloc: Global, room: usize, failing_writes: &[u32]) -> Result<(), Fail> {
-    let container = container_of(alloc, &FILES, &COMMANDS)?;
     let run = Run {
         room,
         failing_writes,
-        ..load("a write that fails", container.as_slice())
+        ..load("a write that fails", &[])
     };
     let count = if failing_writes.is_empty() { room } else { 0 };
-    ends(alloc, &run, &write_fault(DUMP, count))
+    container_ends(alloc, &run, &FILES, &COMMANDS, &write_fault(DUMP, count))
 }
 
 // The status is that of the fault, whatever becomes of its line.
@@ -86,12 +85,11 @@ fn containers_in_pieces(rt: HostRuntime) -> Result<(), Fail> {
 }
 
 fn is_read(alloc: Global, piece: usize) -> Result<(), Fail> {
-    let container = container_of(alloc, &FILES, &COMMANDS)?;
     let run = Run {
         piece,
-        ..load("in pieces", container.as_slice())
+        ..load("in pieces", &[])
     };
-    ends(alloc, &run, &booted(DUMP))
+    container_ends(alloc, &run, &FILES, &COMMANDS, &booted(DUMP))
 }
 
 // A world and an allocator go from one load to the next, whatever became of the one before.
@@ -102,15 +100,30 @@ fn loads_in_one_world(rt: HostRuntime) -> Result<(), Fail> {
 
 fn all_load(alloc: Global, world: &mut World) -> Result<(), Fail> {
     let container = container_of(alloc, &FILES, &COMMANDS)?;
-    let whole = load("a container", container.as_slice());
     let mut place = failing_places(alloc, &[1])?;
-    ends_with(alloc, &whole, &mut place, world, &booted(DUMP))?;
+    all_load_placed(
+        alloc,
+        &load("a container", container.as_slice()),
+        &mut place,
+        world,
+    )
+}
+
+// The allocator refuses its second place.
+fn all_load_placed(
+    alloc: Global,
+    whole: &Run,
+    place: &mut FailingAlloc,
+    world: &mut World,
+) -> Result<(), Fail> {
+    let done = booted(DUMP);
+    ends_with(alloc, whole, place, world, &done)?;
     let refused = Ending {
         state: State::Done,
         ..no_container(b"container: fault 1\n")
     };
     ends_in(alloc, &load("no container", b""), world, &refused)?;
     let no_room = no_room_at(0, b"no room at command 0\n");
-    ends_with(alloc, &whole, &mut place, world, &no_room)?;
-    ends_with(alloc, &whole, &mut place, world, &booted(DUMP))
+    ends_with(alloc, whole, place, world, &no_room)?;
+    ends_with(alloc, whole, place, world, &done)
 }

@@ -1,12 +1,14 @@
-//! Words that are no command.
+//! Words that are no command, and words that are one.
 
-use fixtures::{MINIMAL, ROOM, Run, USAGE, boot, ends_from, is_same, source};
+use fixtures::{
+    BOOTED, MINIMAL, ROOM, Run, SEEDED_ROOM, USAGE, boot, ends, ends_from, is_same, source,
+};
 use std::alloc::Global;
 use std::test::Fail;
 use vt_outside::{ListSource, Source};
 
 // A few of each kind; `vt_words` says which words are a command, and has tests of its own.
-const NO_COMMANDS: [&[&str]; 19] = [
+static NO_COMMANDS: [&[&str]; 25] = [
     &[],
     // other commands, now or later
     &["decode"],
@@ -28,7 +30,13 @@ const NO_COMMANDS: [&[&str]; 19] = [
     &["boot", "--fill", "A5"],
     &["load", "--top", "63"],
     &["load", "--fill", "a5", "--fill", "a5"],
+    &["boot", "--seed", "01"],
+    &["load", "--seed", "18446744073709551616"],
+    &["load", "--policy", "high"],
+    &["boot", "--policy", "low", "--policy", "low"],
     &["build", "--fill", "a5"],
+    &["build", "--policy", "low"],
+    &["build", "--seed", "0"],
     &["boot", "--top", "64"],
 ];
 
@@ -57,6 +65,16 @@ fn case_of<'a>(words: &[&'a str]) -> &'a str {
         [] => "no word",
         [word, ..] => word,
     }
+}
+
+#[test]
+fn words_that_are_a_command(rt: HostRuntime) -> Result<(), Fail> {
+    let run = Run {
+        words: &["boot", "--seed", "7", "--policy", "scatter"],
+        room: SEEDED_ROOM,
+        ..boot("a seed and a policy", MINIMAL.as_bytes())
+    };
+    ends(rt.alloc(), &run, &BOOTED)
 }
 
 // The source still has the whole description.

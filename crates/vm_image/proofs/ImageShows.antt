@@ -1,7 +1,7 @@
--- A memory in which a machine's files are left shows the machine, wherever they stand and whatever it was filled with. No other valid
+-- A memory that holds a machine's files shows the machine, wherever they stand and whatever its fill byte is. No other valid
 -- anchor or RSDP stands before the machine's own, for every fill byte and every place: a mark of two bytes lies in one of the files of
 -- the F segment, and these have none but at their own beginnings.
-use Rattle.std.proofs.Common.{◌≡◌, ◌+◌, ◌≤◌, [], length, refl, sym, subst, arith}
+use Rattle.std.proofs.Common.{◌≡◌, ◌+◌, ◌≤◌, [], length, refl, sym, subst, arith, ◌∙◌}
 use Rattle.std.specs.List.{AllByRecursion}
 use Rattle.vt_bytes.proofs.Each.{each_append, each_front, each_back}
 use Rattle.machine_desc.specs.declared.machine.Machine.{Machine}
@@ -10,32 +10,33 @@ use Rattle.table_model.specs.Smbios.{AreStructures, structures_of}
 use Rattle.loader_script.specs.Run.{place_of as place_in}
 use Rattle.image_files.specs.Places.{ArePlaces}
 use Rattle.vm_image.specs.Image.{acpi_part, smbios_placed, structures_file, image_files, anchor_name}
-use Rattle.vm_image.specs.Promised.{IsShownAnywhere, AreAcpiKnown}
+use Rattle.vm_image.specs.Promised.{IsShownAnywhere, IsShownAlike, AreAcpiKnown}
 use Rattle.vm_image.proofs.Accepted.{Lawful, lawful}
 use Rattle.vm_image.proofs.StructuresSize.{structures_size}
 use Rattle.vm_image.proofs.DistinctNames.{image_distinct}
 use Rattle.vm_image.proofs.Named.{named}
 use Rattle.vm_image.proofs.Standing.{Stands, all_stand}
+use Rattle.vm_image.proofs.HeldFiles.{held_alike}
 use Rattle.vm_image.proofs.Marks.{Mark, IsClearFile, no_mark}
 use Rattle.vm_image.proofs.Clear.{rsdp_mark, anchor_mark, rsdp_marked, anchor_marked}
 use Rattle.vm_image.proofs.SmbiosStands.{smbios_clear_of_rsdps, smbios_clear_of_anchors, smbios_shown}
 use Rattle.vm_image.proofs.AcpiStands.{acpi_clear_of_anchors, acpi_shown}
 
--- the memory in which a machine's files are left shows the machine
+-- a memory that holds a machine's files shows the machine
 pub image_shows : (m : Machine) → IsAccepted m → AreStructures (structures_file m) (structures_of m.system) → AreAcpiKnown m m.acpi → IsShownAnywhere m
-image_shows m accepted read known places placed memory lawful_places linked top left =
+image_shows m accepted read known places placed memory lawful_places linked top held =
     let bounds : Lawful m = lawful m accepted in
     let few : length (structures_file m) ≤ 1000 = (structures_size m accepted).1 in
     let high : 0x4000000 ≤ memory.top = omega (arith, top) in
     let names = named (place_in placed) (image_files m) places placed (image_distinct m) linked in
     let stand = all_stand memory (place_in placed) [] (image_files m) places placed
-    (subst (λ t. ArePlaces t [] (image_files m) places) (sym top) lawful_places) linked left.files names in
+    (subst (λ t. ArePlaces t [] (image_files m) places) (sym top) lawful_places) linked held.files names in
     let acpi_stand = each_front (Stands memory (place_in placed)) (acpi_part m m.acpi) (smbios_placed (structures_file m)) stand in
     let smbios_stand = each_back (Stands memory (place_in placed)) (acpi_part m m.acpi) (smbios_placed (structures_file m)) stand in
     let none = λ (mark : Mark) (differ : mark.first ≡ mark.second → ⊥) (within : mark.limit ≤ 0x100000)
     (acpi_clear : AllByRecursion (IsClearFile memory mark (place_in placed)) (acpi_part m m.acpi))
     (smbios_clear : AllByRecursion (IsClearFile memory mark (place_in placed)) (smbios_placed (structures_file m))).
-    no_mark memory mark (place_in placed) (image_files m) places placed linked names left differ within
+    no_mark memory mark (place_in placed) (image_files m) places placed linked names held differ within
     (each_append (IsClearFile memory mark (place_in placed)) (acpi_part m m.acpi) (smbios_placed (structures_file m)) acpi_clear smbios_clear) in
     let anchor_within : place_in placed anchor_name + 24 ≤ 0x100000 = smbios_stand.1.0.within in
     record {
@@ -51,3 +52,9 @@ image_shows m accepted read known places placed memory lawful_places linked top 
           (smbios_clear_of_rsdps memory (place_in placed) high (structures_file m) limit (omega arith) within smbios_stand) other has.2.from
           (rsdp_marked memory limit other below has));
     }
+
+-- so does one that agrees with it on the files
+pub files_show_alike : (m : Machine) → IsAccepted m → AreStructures (structures_file m) (structures_of m.system) → AreAcpiKnown m m.acpi
+    → IsShownAlike m
+files_show_alike m accepted read known places placed memory other lawful_places linked top held agree =
+    image_shows m accepted read known places placed other lawful_places linked (agree.top ∙ top) (held_alike memory other placed held agree)

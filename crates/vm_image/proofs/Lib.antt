@@ -8,6 +8,7 @@ pub mod AnchorShown
 pub mod RsdpShown
 pub mod Named
 pub mod Standing
+pub mod HeldFiles
 pub mod Marks
 pub mod Clear
 pub mod DistinctNames

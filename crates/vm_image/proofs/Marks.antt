@@ -6,10 +6,10 @@ use Rattle.std.proofs.lemmas.Bool.{cases_lt}
 use Rattle.vt_bytes.specs.Memory.{Memory, at}
 use Rattle.vt_bytes.proofs.Each.{each_weaker}
 use Rattle.loader_script.specs.Run.{Placed}
-use Rattle.loader_script.specs.Left.{IsLeft}
 use Rattle.image_files.specs.declared.file.Placing.{Placing}
 use Rattle.image_files.specs.Files.{ImageFile}
 use Rattle.image_files.specs.Linked.{AreLinked}
+use Rattle.vm_image.specs.Promised.{HoldsFiles}
 use Rattle.vm_image.proofs.Named.{places_by}
 use Rattle.vm_image.proofs.Standing.{IsBeside, outside}
 
@@ -63,21 +63,21 @@ beside_file m mark place_of file address clear has =
       | Some p ↦ λ clear. beside_range m mark (place_of file.name) (length file.blob.bytes) address clear has
     ] clear
 
--- No mark of two different bytes stands where each file is clear: beside the files both bytes are those that the memory was filled
--- with, and thus equal, whatever byte that is.
+-- No mark of two different bytes stands where each file is clear: beside the files both bytes are the fill byte, as is all else of
+-- the BIOS area, and thus equal, whatever byte that is.
 pub no_mark : (m : Memory) (mark : Mark) (place_of : List ℕ → ℕ) (files : List ImageFile) (places : List ℕ) (placed : List Placed)
-    → AreLinked place_of files places placed → places ≡ places_by place_of files → IsLeft m placed (λ _. m.fill)
+    → AreLinked place_of files places placed → places ≡ places_by place_of files → HoldsFiles m placed
     → (mark.first ≡ mark.second → ⊥) → mark.limit ≤ 0x100000 → AllByRecursion (IsClearFile m mark place_of) files
     → (address : ℕ) → 0xE0000 ≤ address → HasMark m mark address → ⊥
-no_mark m mark place_of files places placed linked named left differ within clear address from has =
+no_mark m mark place_of files places placed linked named held differ within clear address from has =
     let below : address < mark.limit = has.below in
     let aligned : address % 16 ≡ 0 = has.aligned in
     let beside = each_weaker (IsClearFile m mark place_of) (IsBeside place_of address)
     (λ file is. (beside_file m mark place_of file address is has).0) files clear in
     let also_beside = each_weaker (IsClearFile m mark place_of) (IsBeside place_of (address + 1))
     (λ file is. (beside_file m mark place_of file address is has).1) files clear in
-    let first : at m address ≡ m.fill = left.others address (inr (inl (from, omega arith)))
+    let first : at m address ≡ m.fill = held.bios address from (omega arith)
     (outside place_of files places placed address linked named beside) in
-    let second : at m (address + 1) ≡ m.fill = left.others (address + 1) (inr (inl (omega arith, omega arith)))
+    let second : at m (address + 1) ≡ m.fill = held.bios (address + 1) (omega arith) (omega arith)
     (outside place_of files places placed (address + 1) linked named also_beside) in
     differ (sym has.first ∙ first ∙ sym second ∙ has.second)

@@ -1,8 +1,8 @@
 -- What the image of a machine promises of the memory that it is loaded into.
-use Rattle.std.specs.Prelude.{◌≡◌, ℕ, ◌*◌, List, [], Option, IfSome}
-use Rattle.vt_bytes.specs.Memory.{Memory, seen}
+use Rattle.std.specs.Prelude.{◌≡◌, ℕ, ◌+◌, ◌*◌, ◌<◌, ◌≤◌, ◌⊎◌, List, [], ◌∷◌, length, Option, IfSome}
+use Rattle.vt_bytes.specs.Memory.{Memory, IsRam, at, seen}
 use Rattle.loader_script.specs.Run.{Placed, Done, place_of, run}
-use Rattle.loader_script.specs.Left.{IsLeft}
+use Rattle.loader_script.specs.Left.{IsOutside, Holds}
 use Rattle.machine_desc.specs.declared.machine.Machine.{Machine}
 use Rattle.machine_desc.specs.declared.machine.Acpi.{Acpi}
 use Rattle.table_model.specs.Acpi.{tables_of}
@@ -24,12 +24,41 @@ IsLoadedAnywhere m =
     → (placed : List Placed) × AreLinked (place_of placed) (image_files m) places placed
     × (run (files_of (image_items m)) (image_script m) places ≡ (Done, record { files = files_of (image_items m); placed = placed; places = [] }))
 
--- Whatever byte the memory was filled with, it then shows exactly the machine's inventory.
+-- an address of the BIOS area: a valid RSDP or anchor stands nowhere else
+abbrev pub IsBios : ℕ → Type 0
+IsBios address = (0xE0000 ≤ address) × (address < 0x100000)
+
+-- the address is in one of the files
+abbrev pub IsInside : List Placed → ℕ → Type 0
+IsInside [] address = ⊥
+IsInside (p ∷ placed) address = ((p.place ≤ address) × (address < p.place + length p.bytes)) ⊎ IsInside placed address
+
+-- The files stand in memory, and what else there is of the BIOS area holds the fill byte. Nothing is asked of any other address: a
+-- valid RSDP or anchor stands in the BIOS area alone, and all that they lead to stands in a file. So a guest's other processors may
+-- have written anything elsewhere outside of the files.
+pub record HoldsFiles (memory : Memory) (placed : List Placed) : Type 0 where
+  pub files : Holds memory placed
+  pub bios : (address : ℕ) → 0xE0000 ≤ address → address < 0x100000 → IsOutside placed address → at memory address ≡ memory.fill
+
+-- Wherever its files come to stand, a memory that holds them shows exactly the machine's inventory, whatever its fill byte is.
 abbrev pub IsShownAnywhere : Machine → Type 0
 IsShownAnywhere m =
     (places : List ℕ) (placed : List Placed) (memory : Memory) → ArePlaces (top_of m) [] (image_files m) places
-    → AreLinked (place_of placed) (image_files m) places placed → memory.top ≡ top_of m → IsLeft memory placed (λ _. memory.fill)
+    → AreLinked (place_of placed) (image_files m) places placed → memory.top ≡ top_of m → HoldsFiles memory placed
     → Shows memory.top (seen memory) (inventory_of m)
+
+-- Two memories have one top and one fill byte, and agree at each address of RAM that is in the BIOS area or in one of the files.
+pub record AgreeOnFiles (memory other : Memory) (placed : List Placed) : Type 0 where
+  pub top : other.top ≡ memory.top
+  pub fill : other.fill ≡ memory.fill
+  pub bytes : (address : ℕ) → IsRam memory.top address → IsBios address ⊎ IsInside placed address → at other address ≡ at memory address
+
+-- A memory that agrees on the files with one that holds them shows exactly the machine's inventory too.
+abbrev pub IsShownAlike : Machine → Type 0
+IsShownAlike m =
+    (places : List ℕ) (placed : List Placed) (memory other : Memory) → ArePlaces (top_of m) [] (image_files m) places
+    → AreLinked (place_of placed) (image_files m) places placed → memory.top ≡ top_of m → HoldsFiles memory placed
+    → AgreeOnFiles memory other placed → Shows other.top (seen other) (inventory_of m)
 
 -- all is known of the files of the ACPI tables, where there are some
 abbrev pub AreAcpiKnown : Machine → Option Acpi → Type 0

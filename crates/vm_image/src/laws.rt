@@ -9,7 +9,7 @@ ghost use Rattle.table_model.specs.Smbios.{AreStructures, structures_of};
 ghost use Rattle.image_files.specs.Linkable.{AreLinkable};
 ghost use Rattle.vm_image.specs.Image.{structures_file, image_files};
 ghost use Rattle.vm_image.specs.Built.{IsBuilt};
-ghost use Rattle.vm_image.specs.Promised.{AreAcpiKnown, IsShownAnywhere};
+ghost use Rattle.vm_image.specs.Promised.{AreAcpiKnown, IsShownAnywhere, IsShownAlike};
 
 /// Says that the files of an accepted machine can be placed and linked.
 pub fn machine_is_linkable()
@@ -22,7 +22,12 @@ pub fn one_image_is_built()
         → (items ≡ others) × (script ≡ other) }
 {}
 
-/// Says that the memory shows the machine wherever its files come to stand.
+/// Says that a memory shows the machine wherever its files come to stand, whatever lies outside of them and of the BIOS area.
 pub fn machine_is_shown_anywhere()
     ensures { (m : Machine) → IsAccepted m → AreStructures (structures_file m) (structures_of m.system) → AreAcpiKnown m m.acpi → IsShownAnywhere m }
+{}
+
+/// Says that a memory shows the machine too where it agrees on the files and the BIOS area with one that holds the files.
+pub fn equal_files_show_the_same()
+    ensures { (m : Machine) → IsAccepted m → AreStructures (structures_file m) (structures_of m.system) → AreAcpiKnown m m.acpi → IsShownAlike m }
 {}

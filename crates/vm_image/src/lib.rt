@@ -2,7 +2,8 @@
 //! firmware places and links them.
 //!
 //! The contract says which items and which commands they are, and that memory shows exactly the machine once the script has run,
-//! whatever lawful places the files were given, and whatever byte filled memory.
+//! whatever lawful places the files were given, whatever byte filled memory, and whatever bytes lie outside of the files and of the
+//! BIOS area.
 #![tactic(auto)]
 
 mod acpi;

@@ -1,21 +1,20 @@
 -- A machine's image that was loaded is a machine that is booted.
-use Rattle.std.proofs.Common.{◌≡◌, ℕ, ◌≤◌, List, [], ◌++◌, map, Some, Result, Ok, Err, IfOk, IfErr, OnOk, inr}
+use Rattle.std.proofs.Common.{◌≡◌, ℕ, ◌≤◌, List, [], ◌++◌, map, Some, Result, Ok, Err, IfOk, IfErr, OnOk, inl, inr}
 use Rattle.std.proofs.Common.{refl, ap, sym, subst, ◌∙◌, append-nil}
 use Rattle.std.specs.List.{flat_map}
 use Rattle.vt_outside.specs.Placement.{Range, IsFree}
-use Rattle.vt_bytes.specs.Memory.{Memory, IsRam, at}
+use Rattle.vt_bytes.specs.Memory.{Memory}
 use Rattle.machine_desc.specs.declared.machine.Machine.{Machine}
 use Rattle.desc_toml.specs.Reading.{Reads}
 use Rattle.loader_script.specs.declared.entry.Entry.{Entry}
 use Rattle.loader_script.specs.Run.{Placed, Progress, End, Done, Command, NoRoom, place_of, run}
-use Rattle.loader_script.specs.Left.{IsLeft}
 use Rattle.cfg_directory.specs.declared.item.Item.{Item}
 use Rattle.image_files.specs.Items.{files_of}
 use Rattle.image_files.specs.Script.{allocation, linking}
 use Rattle.image_files.specs.Places.{ArePlaces}
 use Rattle.image_files.specs.Linked.{AreLinked}
 use Rattle.vm_image.specs.Image.{image_files, image_script, image_items}
-use Rattle.vm_image.specs.Promised.{top_of}
+use Rattle.vm_image.specs.Promised.{top_of, HoldsFiles}
 use Rattle.vm_image.specs.Built.{IsBuilt}
 use Rattle.zone_alloc.specs.declared.alloc.Request.{Request}
 use Rattle.zone_alloc.specs.declared.policy.Policy.{Policy}
@@ -26,17 +25,20 @@ use Rattle.image_files.specs.Items.{image_limit}
 use Rattle.script_load.specs.Allocators.{AreZonesOf}
 use Rattle.script_load.specs.declared.fault.LoadFault.{LoadFault}
 use Rattle.script_load.specs.declared.fault.LoadFault.TheVariants as load
-use Rattle.script_load.specs.Loads.{IsLoaded}
 use Rattle.script_load.specs.Runs.{Answers, EndsWith, IsRun, at_files, result_of}
 use Rattle.script_load.specs.Script.{script_in}
-use Rattle.script_load.specs.World.{Begun, IsBegun}
 use Rattle.script_load.proofs.PlainRuns.{starts}
+use Rattle.load_machine.specs.declared.event.Event.{Event}
+use Rattle.load_machine.specs.Loads.{HasRun, IsLoadedOver}
+use Rattle.load_machine.specs.Machine.{memory_of, files_now}
+use Rattle.load_machine.specs.Machine.{Machine as Loading}
 use Rattle.vmtables.specs.Boot.{IsBooted, BootMakes}
 use Rattle.vmtables.specs.Calls.{Answering, Seen}
 use Rattle.vmtables.specs.Loading.{IsImageLoaded, IsRefusedFree, FailsToLoad}
 use Rattle.vmtables.specs.declared.fault.Fault.{Fault}
 use Rattle.vmtables.specs.declared.fault.Fault.TheVariants as fault
 use Rattle.vmtables.proofs.ImageRuns.{Extends, GivesFree, all_link, extends}
+use Rattle.vmtables.proofs.LeftByOthers.{guarded_stays, bios_guarded, bios_no_work, holds_now, beside_each}
 use Rattle.vmtables.proofs.PlacesMore.{room_from}
 use Rattle.vmtables.proofs.ScriptRead.{script_read}
 
@@ -89,15 +91,6 @@ lawful_so m items script built May handed end placed free ran room =
           (subst (λ fs. AreLinked (place_of fs) (image_files m) (extended.given ++ extended.extra) fs) (sym files) loaded.1);
     }
 
--- what is left in a memory that was filled
-left_filled : (begun world : Begun) (items : List Item) (top fill : ℕ) (placed : List Placed) → IsBegun begun items top fill
-    → world.memory.top ≡ begun.memory.top → IsLeft world.memory placed (at begun.memory) → IsLeft world.memory placed (λ _. fill)
-left_filled begun world items top fill placed was same left = record {
-  files = left.files;
-  others = λ address ram outside. left.others address ram outside
-      ∙ was.filled address (subst (λ t. IsRam t address) same ram) ∙ was.fill;
-}
-
 -- places that are given are free
 abbrev pub AllFree : Answering → Type 0
 AllFree Gives = (zones : Zones) (policy : Policy) (handed : List Range) (request : Request) (place : ℕ) → Gives zones policy handed request (Some place)
@@ -107,13 +100,35 @@ gives_free : (Gives : Answering) (zones : Zones) (policy : Policy) (top : ℕ) �
 gives_free Gives zones policy top free are handed request place may =
     subst (λ (zone : Range). IsFree zone handed request.size request.align place) (are request.zone) (free zones policy handed request place may)
 
+-- what a load of items leaves
+leaves_of : (Gives : Answering) (items : List Item) (top fill : ℕ) (policy : Policy) (seed : ℕ) (answer : Result (Unit {0}) LoadFault)
+    (before after : Seen) (loaded : IsImageLoaded Gives items top fill policy seed answer before after)
+    → IsLoadedOver (Gives after.place.zones after.place.policy) items top fill loaded.load.taken after.place.handed answer loaded.world
+leaves_of Gives items top fill policy seed answer before after loaded =
+    let May : Answers = Gives after.place.zones after.place.policy in
+    let m : Memory = memory_of loaded.begun in
+    subst (λ those. IsLoadedOver May those top fill loaded.load.taken after.place.handed answer loaded.world) loaded.was_begun.items
+    (subst (λ t. IsLoadedOver May loaded.begun.attached.device.items t fill loaded.load.taken after.place.handed answer loaded.world) loaded.was_begun.top
+    (subst (λ f. IsLoadedOver May loaded.begun.attached.device.items m.top f loaded.load.taken after.place.handed answer loaded.world)
+    loaded.was_begun.fill loaded.load.leaves))
+
 -- the run of a load whose script is read
-run_of : (m : Machine) (May : Answers) (handed : List Range) (before after : Memory) (answer : Result (Unit {0}) LoadFault)
+run_of : (m : Machine) (May : Answers) (handed : List Range) (answer : Result (Unit {0}) LoadFault) (world : Loading)
     → script_in (image_items m) ≡ Ok (image_script m)
-    → IfOk (script_in (image_items m)) (λ script. IsLoaded May (files_of (image_items m)) script handed before after answer)
-    → IsLoaded May (files_of (image_items m)) (image_script m) handed before after answer
-run_of m May handed before after answer script loaded =
-    subst (λ read. IfOk read (λ those. IsLoaded May (files_of (image_items m)) those handed before after answer)) script loaded
+    → IfOk (script_in (image_items m)) (λ script. HasRun May (image_items m) script handed answer world)
+    → HasRun May (image_items m) (image_script m) handed answer world
+run_of m May handed answer world script ran =
+    subst (λ read. IfOk read (λ those. HasRun May (image_items m) those handed answer world)) script ran
+
+-- memory holds the files that were placed, and nothing else was written in the BIOS area
+holds_files : (May : Answers) (items : List Item) (top fill : ℕ) (events : List Event) (handed : List Range) (answer : Result (Unit {0}) LoadFault)
+    (world : Loading) → IsLoadedOver May items top fill events handed answer world → HoldsFiles (memory_of world) (files_now world)
+holds_files May items top fill events handed answer world leaves = record {
+  files = holds_now (memory_of world) world.placed;
+  bios = λ address from below outside.
+      leaves.others address (inr (inl (from, below))) (bios_no_work address from) (beside_each (memory_of world) world.placed address outside)
+      ∙ guarded_stays top fill events address (bios_guarded top address from below) ∙ sym leaves.fill;
+}
 
 -- how a run ends whose load answered so
 ended_done : (end : End) → Ok tt ≡ result_of end → end ≡ Done
@@ -125,34 +140,36 @@ has_room : (end : End) → end ≡ Done → (at : ℕ) → end ≡ NoRoom at →
 has_room end is at without = absurd (cc)
 
 -- the image's load is done: its machine is booted
-pub booted : (Gives : Answering) (fill : ℕ) (bytes : List ℕ) (m : Machine) (items : List Item) (script : List Entry) (before after : Seen)
-    → AllFree Gives → Reads bytes m → IsBuilt m items script → script_in (image_items m) ≡ Ok (image_script m)
-    → IsImageLoaded Gives (image_items m) (top_of m) fill (Ok tt) before after → IsBooted Gives fill bytes before after
-booted Gives fill bytes m items script before after free read built script_read loaded =
+pub booted : (Gives : Answering) (fill : ℕ) (policy : Policy) (seed : ℕ) (bytes : List ℕ) (m : Machine) (items : List Item) (script : List Entry)
+    (before after : Seen) → AllFree Gives → Reads bytes m → IsBuilt m items script → script_in (image_items m) ≡ Ok (image_script m)
+    → IsImageLoaded Gives (image_items m) (top_of m) fill policy seed (Ok tt) before after → IsBooted Gives fill policy seed bytes before after
+booted Gives fill policy seed bytes m items script before after free read built script_read loaded =
     let May : Answers = Gives after.place.zones after.place.policy in
-    let at_load = rw loaded.was_begun.items at loaded.load.loaded in
-    let run : IsLoaded May (files_of (image_items m)) (image_script m) after.place.handed loaded.begun.memory loaded.world.memory (Ok tt) =
-    run_of m May after.place.handed loaded.begun.memory loaded.world.memory (Ok tt) script_read at_load in
-    let done : run.end ≡ Done = ended_done run.end run.answered in
-    let is : IsLawfulRun m (map (λ (r : Range). r.start) after.place.handed) run.end run.placed =
-    lawful_so m items script built May after.place.handed run.end run.placed
-    (gives_free Gives after.place.zones after.place.policy (top_of m) free loaded.zones) run.ran (has_room run.end done) in
-    let left : IsLeft loaded.world.memory run.placed (λ _. fill) =
-    left_filled loaded.begun loaded.world (image_items m) (top_of m) fill run.placed loaded.was_begun loaded.load.top run.left in
-    let filled : loaded.world.memory.fill ≡ fill = loaded.load.fill ∙ loaded.was_begun.fill in
-    let topped : loaded.world.memory.top ≡ top_of m = loaded.load.top ∙ loaded.was_begun.top in
+    let world : Loading = loaded.world in
+    let leaves : IsLoadedOver May (image_items m) (top_of m) fill loaded.load.taken after.place.handed (Ok tt) world =
+    leaves_of Gives (image_items m) (top_of m) fill policy seed (Ok tt) before after loaded in
+    let run : HasRun May (image_items m) (image_script m) after.place.handed (Ok tt) world =
+    run_of m May after.place.handed (Ok tt) world script_read leaves.ran in
+    let done : run.0 ≡ Done = ended_done run.0 run.2 in
+    let is : IsLawfulRun m (map (λ (r : Range). r.start) after.place.handed) run.0 (files_now world) =
+    lawful_so m items script built May after.place.handed run.0 (files_now world)
+    (gives_free Gives after.place.zones after.place.policy (top_of m) free loaded.zones) run.1 (has_room run.0 done) in
+    let holds : HoldsFiles (memory_of world) (files_now world) =
+    holds_files May (image_items m) (top_of m) fill loaded.load.taken after.place.handed (Ok tt) world leaves in
     record {
       machine = m;
       read = read;
       small = subst (λ those. total_size those ≤ image_limit) built.items_are built.small;
       loaded = loaded;
       script = script_read;
-      placed = run.placed;
-      ran = subst (λ end. IsRun May (files_of (image_items m)) (image_script m) after.place.handed end run.placed) done run.ran;
+      placed = files_now world;
+      ran = subst (λ end. IsRun May (files_of (image_items m)) (image_script m) after.place.handed end (files_now world)) done run.1;
       lawful = is.lawful;
-      left = left;
-      shown = built.shown (map (λ (r : Range). r.start) after.place.handed) run.placed loaded.world.memory is.lawful is.linked topped
-          (subst (λ byte. IsLeft loaded.world.memory run.placed (λ _. byte)) (sym filled) left);
+      holds = holds;
+      others = λ address ram no_work outside.
+          leaves.others address ram no_work (beside_each (memory_of world) world.placed address outside);
+      cleared = leaves.cleared refl;
+      shown = built.shown (map (λ (r : Range). r.start) after.place.handed) (files_now world) (memory_of world) is.lawful is.linked leaves.top holds;
     }
 
 -- a load that ended with a fault: no command is refused, and there is a script, so that it is for want of room
@@ -174,55 +191,57 @@ room_of May top (Command index cause) why is lawful refused =
     absurd (cc)
 room_of May top (NoRoom index) why is lawful refused = room index (same_fault why (load.NoRoom index) is) (refused index refl)
 
-pub fails_for_room : (Gives : Answering) (fill : ℕ) (m : Machine) (items : List Item) (script : List Entry) (why : LoadFault) (before after : Seen)
+pub fails_for_room : (Gives : Answering) (fill : ℕ) (policy : Policy) (seed : ℕ) (m : Machine) (items : List Item) (script : List Entry) (why : LoadFault) (before after : Seen)
     → AllFree Gives → IsBuilt m items script → script_in (image_items m) ≡ Ok (image_script m)
-    → IsImageLoaded Gives (image_items m) (top_of m) fill (Err why) before after
+    → IsImageLoaded Gives (image_items m) (top_of m) fill policy seed (Err why) before after
     → EndsSo (Gives after.place.zones after.place.policy) (top_of m) why
-fails_for_room Gives fill m items script why before after free built script_read loaded =
+fails_for_room Gives fill policy seed m items script why before after free built script_read loaded =
     let May : Answers = Gives after.place.zones after.place.policy in
-    let at_load = rw loaded.was_begun.items at loaded.load.loaded in
-    let run : IsLoaded May (files_of (image_items m)) (image_script m) after.place.handed loaded.begun.memory loaded.world.memory (Err why) =
-    run_of m May after.place.handed loaded.begun.memory loaded.world.memory (Err why) script_read at_load in
+    let world : Loading = loaded.world in
+    let leaves : IsLoadedOver May (image_items m) (top_of m) fill loaded.load.taken after.place.handed (Err why) world =
+    leaves_of Gives (image_items m) (top_of m) fill policy seed (Err why) before after loaded in
+    let run : HasRun May (image_items m) (image_script m) after.place.handed (Err why) world =
+    run_of m May after.place.handed (Err why) world script_read leaves.ran in
     let frees : GivesFree May (top_of m) = gives_free Gives after.place.zones after.place.policy (top_of m) free loaded.zones in
-    room_of May (top_of m) run.end why run.answered
-    (λ room. (lawful_so m items script built May after.place.handed run.end run.placed frees run.ran room).done)
-    (extended_of m items script built May run.end run.placed frees run.ran.answered).no_room
+    room_of May (top_of m) run.0 why run.2
+    (λ room. (lawful_so m items script built May after.place.handed run.0 (files_now world) frees run.1 room).done)
+    (extended_of m items script built May run.0 (files_now world) frees run.1.answered).no_room
 
 -- what `boot` makes of a machine whose image failed to load
-pub boot_failed : (Gives : Answering) (fill : ℕ) (bytes : List ℕ) (m : Machine) (items : List Item) (script : List Entry) (f : Fault) (before after : Seen)
+pub boot_failed : (Gives : Answering) (fill : ℕ) (policy : Policy) (seed : ℕ) (bytes : List ℕ) (m : Machine) (items : List Item) (script : List Entry) (f : Fault) (before after : Seen)
     → AllFree Gives → Reads bytes m → IsBuilt m items script → script_in (image_items m) ≡ Ok (image_script m)
-    → FailsToLoad Gives (image_items m) (top_of m) fill before after f → BootMakes Gives fill bytes before after (Err f)
-boot_failed Gives fill bytes m items script (fault.Load why) before after free read built decoded failed =
-    elim (fails_for_room Gives fill m items script why before after free built decoded failed) as
-    (λ _. BootMakes Gives fill bytes before after (Err (fault.Load why))) [
+    → FailsToLoad Gives (image_items m) (top_of m) fill policy seed before after f → BootMakes Gives fill policy seed bytes before after (Err f)
+boot_failed Gives fill policy seed bytes m items script (fault.Load why) before after free read built decoded failed =
+    elim (fails_for_room Gives fill policy seed m items script why before after free built decoded failed) as
+    (λ _. BootMakes Gives fill policy seed bytes before after (Err (fault.Load why))) [
       | room index is refusal ↦
-          subst (λ w. BootMakes Gives fill bytes before after (Err (fault.Load w))) (sym is)
-          (m, read, subst (λ w. IsImageLoaded Gives (image_items m) (top_of m) fill (Err w) before after) is failed, refusal)
+          subst (λ w. BootMakes Gives fill policy seed bytes before after (Err (fault.Load w))) (sym is)
+          (m, read, subst (λ w. IsImageLoaded Gives (image_items m) (top_of m) fill policy seed (Err w) before after) is failed, refusal)
     ]
-boot_failed Gives fill bytes m items script fault.OutOfMemory before after free read built decoded failed = inr (m, read, failed)
-boot_failed Gives fill bytes m items script (fault.Description refused) before after free read built decoded failed = absurd failed
-boot_failed Gives fill bytes m items script (fault.Container refused) before after free read built decoded failed = absurd failed
-boot_failed Gives fill bytes m items script fault.ImageTooLarge before after free read built decoded failed = absurd failed
-boot_failed Gives fill bytes m items script fault.ReadFault before after free read built decoded failed = absurd failed
-boot_failed Gives fill bytes m items script fault.Usage before after free read built decoded failed = absurd failed
-boot_failed Gives fill bytes m items script fault.WriteFault before after free read built decoded failed = absurd failed
-boot_failed Gives fill bytes m items script fault.InputTooLong before after free read built decoded failed = absurd failed
+boot_failed Gives fill policy seed bytes m items script fault.OutOfMemory before after free read built decoded failed = inr (m, read, failed)
+boot_failed Gives fill policy seed bytes m items script (fault.Description refused) before after free read built decoded failed = absurd failed
+boot_failed Gives fill policy seed bytes m items script (fault.Container refused) before after free read built decoded failed = absurd failed
+boot_failed Gives fill policy seed bytes m items script fault.ImageTooLarge before after free read built decoded failed = absurd failed
+boot_failed Gives fill policy seed bytes m items script fault.ReadFault before after free read built decoded failed = absurd failed
+boot_failed Gives fill policy seed bytes m items script fault.Usage before after free read built decoded failed = absurd failed
+boot_failed Gives fill policy seed bytes m items script fault.WriteFault before after free read built decoded failed = absurd failed
+boot_failed Gives fill policy seed bytes m items script fault.InputTooLong before after free read built decoded failed = absurd failed
 
 -- both of the answer of a load
-pub booted_so : (Gives : Answering) (fill : ℕ) (m : Machine) (items : List Item) (script : List Entry) (before after : Seen)
+pub booted_so : (Gives : Answering) (fill : ℕ) (policy : Policy) (seed : ℕ) (m : Machine) (items : List Item) (script : List Entry) (before after : Seen)
     (r : Result (Unit {0}) Fault) → AllFree Gives → IsBuilt m items script
-    → OnOk r (IsImageLoaded Gives items (top_of m) fill (Ok tt) before after)
-    → OnOk r ((bytes : List ℕ) → Reads bytes m → IsBooted Gives fill bytes before after)
-booted_so Gives fill m items script before after (Ok done) free built loaded = λ bytes read.
-    booted Gives fill bytes m items script before after free read built (script_read m items script built)
-    (subst (λ those. IsImageLoaded Gives those (top_of m) fill (Ok tt) before after) built.items_are loaded)
-booted_so Gives fill m items script before after (Err f) free built loaded = tt
+    → OnOk r (IsImageLoaded Gives items (top_of m) fill policy seed (Ok tt) before after)
+    → OnOk r ((bytes : List ℕ) → Reads bytes m → IsBooted Gives fill policy seed bytes before after)
+booted_so Gives fill policy seed m items script before after (Ok done) free built loaded = λ bytes read.
+    booted Gives fill policy seed bytes m items script before after free read built (script_read m items script built)
+    (subst (λ those. IsImageLoaded Gives those (top_of m) fill policy seed (Ok tt) before after) built.items_are loaded)
+booted_so Gives fill policy seed m items script before after (Err f) free built loaded = tt
 
-pub failed_to_boot : (Gives : Answering) (fill : ℕ) (m : Machine) (items : List Item) (script : List Entry) (before after : Seen)
+pub failed_to_boot : (Gives : Answering) (fill : ℕ) (policy : Policy) (seed : ℕ) (m : Machine) (items : List Item) (script : List Entry) (before after : Seen)
     (r : Result (Unit {0}) Fault) → AllFree Gives → IsBuilt m items script
-    → IfErr r (FailsToLoad Gives items (top_of m) fill before after)
-    → IfErr r (λ f. (bytes : List ℕ) → Reads bytes m → BootMakes Gives fill bytes before after (Err f))
-failed_to_boot Gives fill m items script before after (Ok done) free built failed = tt
-failed_to_boot Gives fill m items script before after (Err f) free built failed = λ bytes read.
-    boot_failed Gives fill bytes m items script f before after free read built (script_read m items script built)
-    (subst (λ those. FailsToLoad Gives those (top_of m) fill before after f) built.items_are failed)
+    → IfErr r (FailsToLoad Gives items (top_of m) fill policy seed before after)
+    → IfErr r (λ f. (bytes : List ℕ) → Reads bytes m → BootMakes Gives fill policy seed bytes before after (Err f))
+failed_to_boot Gives fill policy seed m items script before after (Ok done) free built failed = tt
+failed_to_boot Gives fill policy seed m items script before after (Err f) free built failed = λ bytes read.
+    boot_failed Gives fill policy seed bytes m items script f before after free read built (script_read m items script built)
+    (subst (λ those. FailsToLoad Gives those (top_of m) fill policy seed before after f) built.items_are failed)

@@ -8,7 +8,7 @@ use Rattle.vmtables.specs.Does.{Does}
 use Rattle.vmtables.specs.Dump.{dump}
 use Rattle.vmtables.specs.Outcome.{input_limit, given_count, status_of}
 use Rattle.vmtables.specs.Output.{Took, TookFront, AllFlushed}
-use Rattle.script_load.specs.World.{Begun}
+use Rattle.load_machine.specs.Machine.{Machine, memory_of}
 use Rattle.vt_words.specs.declared.command.Command.{Command}
 use Rattle.vmtables.specs.declared.fault.Fault.{Fault}
 use Rattle.vmtables.specs.declared.fault.Fault.TheVariants as fault
@@ -74,17 +74,17 @@ wrote Makes (Err f) bytes text before after left left_after taken taken_after gi
     record { input = Whole bytes; made = Ok text; did = makes; read = (given, end); wrote = (failed, front) }
 
 -- A command that loaded files, and wrote the dump of that world or a part of it.
-pub dump_wrote : (Makes : List ℕ → Seen → Seen → Made → Type 0) (r : Result (Unit {0}) Fault) (bytes : List ℕ) (world : Begun)
+pub dump_wrote : (Makes : List ℕ → Seen → Seen → Made → Type 0) (r : Result (Unit {0}) Fault) (bytes : List ℕ) (world : Machine)
     (before after : Seen) (left left_after taken taken_after : Option (List ℕ))
-    → left ≡ in_front bytes left_after → IfSome left_after (λ rest. rest ≡ []) → after.world ≡ Some world → Makes bytes before after (Ok (dump world.memory))
-    → OnOk r (IsSomeAnd after.world (λ w. Took taken taken_after (dump w.memory)))
+    → left ≡ in_front bytes left_after → IfSome left_after (λ rest. rest ≡ []) → after.world ≡ Some world → Makes bytes before after (Ok (dump (memory_of world)))
+    → OnOk r (IsSomeAnd after.world (λ w. Took taken taken_after (dump (memory_of w))))
     → IfErr r (λ f. f ≡ fault.WriteFault)
-    → OnErr r (IsSomeAnd after.world (λ w. TookFront taken taken_after (dump w.memory)))
+    → OnErr r (IsSomeAnd after.world (λ w. TookFront taken taken_after (dump (memory_of w))))
     → Ran (ReadsAll Makes before after) r left left_after taken taken_after
 dump_wrote Makes r bytes world before after left left_after taken taken_after given end is makes dumped failed front =
-    wrote Makes r bytes (dump world.memory) before after left left_after taken taken_after given end makes
-    (subst (λ those. OnOk r (IsSomeAnd those (λ w. Took taken taken_after (dump w.memory)))) is dumped) failed
-    (subst (λ those. OnErr r (IsSomeAnd those (λ w. TookFront taken taken_after (dump w.memory)))) is front)
+    wrote Makes r bytes (dump (memory_of world)) before after left left_after taken taken_after given end makes
+    (subst (λ those. OnOk r (IsSomeAnd those (λ w. Took taken taken_after (dump (memory_of w))))) is dumped) failed
+    (subst (λ those. OnErr r (IsSomeAnd those (λ w. TookFront taken taken_after (dump (memory_of w))))) is front)
 
 -- The streams of a command that read its whole input, made a text of it, and wrote that or a part of it.
 pub wrote_streams : (r : Result (Unit {0}) Fault) (bytes : List ℕ) (source source_after : SourceSeen) (out out_after : SinkSeen)

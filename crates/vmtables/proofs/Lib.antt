@@ -8,5 +8,7 @@ pub mod ItemsLoaded
 pub mod PlacesMore
 pub mod ImageRuns
 pub mod ScriptRead
+pub mod LeftByOthers
 pub mod Booting
 pub mod ShelfRoom
+pub mod NoneRefused

@@ -27,7 +27,7 @@ CannotBeBuilt bytes fault.OutOfMemory = Unit {0}
 CannotBeBuilt bytes _ = ⊥
 
 -- What `build` makes of the bytes of its input. It refuses bytes that describe no machine, and a machine whose files have too many bytes.
--- The world and the allocator stay as they were.
+-- The world, the allocator and the plan stay as they were.
 abbrev pub BuildMakes : List ℕ → Seen → Seen → Made → Type 0
 BuildMakes bytes before after (Ok text) = IsImage bytes text × (after ≡ before)
 BuildMakes bytes before after (Err (fault.Description refused)) = (read_of bytes ≡ Err refused) × (after ≡ before)

@@ -8,7 +8,8 @@ use Rattle.zone_alloc.specs.declared.alloc.Request.{Request}
 use Rattle.zone_alloc.specs.declared.policy.Policy.{Policy}
 use Rattle.zone_alloc.specs.declared.zones.Zones.{Zones}
 use Rattle.script_load.specs.Runs.{Answers}
-use Rattle.script_load.specs.World.{Begun}
+use Rattle.load_machine.specs.declared.event.Event.{Event}
+use Rattle.load_machine.specs.Machine.{Machine}
 use Rattle.vmtables.specs.declared.fault.Fault.{Fault}
 use Rattle.vmtables.specs.declared.fault.Fault.TheVariants as fault
 use Rattle.vmtables.specs.declared.status.Status.{Status}
@@ -35,14 +36,21 @@ pub record PlaceSeen : Type 0 where
   pub refused : Option Request
   pub begun : Bool
 
--- the world of a call, and its allocator
-pub record Seen : Type 0 where
-  pub world : Option Begun
-  pub place : PlaceSeen
+-- what is seen of a plan: the events that it has for each seed, and those that are left
+pub record PlanSeen : Type 0 where
+  pub events : ℕ → List Event
+  pub left : List Event
 
--- the same by what an allocator shows
-abbrev pub seen_by : {A : Type 0} → (A → List Range) → (A → Zones) → (A → Policy) → (A → ℕ) → (A → Option Request) → (A → Bool) → Option Begun → A → Seen
-seen_by handed zones policy refusals refused begun world a = record {
+-- the world of a call, its allocator, and its plan
+pub record Seen : Type 0 where
+  pub world : Option Machine
+  pub place : PlaceSeen
+  pub plan : PlanSeen
+
+-- the same by what an allocator and a plan show
+abbrev pub seen_by : {A C : Type 0} → (A → List Range) → (A → Zones) → (A → Policy) → (A → ℕ) → (A → Option Request) → (A → Bool)
+    → (C → ℕ → List Event) → (C → List Event) → Option Machine → A → C → Seen
+seen_by handed zones policy refusals refused begun events left world a c = record {
   world = world;
   place = record {
     handed = handed a;
@@ -52,6 +60,7 @@ seen_by handed zones policy refusals refused begun world a = record {
     refused = refused a;
     begun = begun a;
   };
+  plan = record { events = events c; left = left c };
 }
 
 -- how an allocator of these zones and this policy may answer
@@ -79,7 +88,7 @@ abbrev pub Doing : Type 1
 Doing = Seen → Seen → Input → Made → Type 0
 
 -- What a command does that reads its whole input, by what it makes of the input's bytes. Where the input is cut off, the
--- world and the allocator stay as they were.
+-- world, the allocator and the plan stay as they were.
 abbrev pub ReadsAll : (List ℕ → Seen → Seen → Made → Type 0) → Doing
 ReadsAll Makes before after (Whole bytes) made = Makes bytes before after made
 ReadsAll Makes before after Cut (Err fault.ReadFault) = after ≡ before

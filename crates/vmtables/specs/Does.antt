@@ -6,9 +6,10 @@ use Rattle.vmtables.specs.Boot.{BootMakes}
 use Rattle.vmtables.specs.Build.{BuildMakes}
 use Rattle.vmtables.specs.Calls.{Answering, Unread, Doing, ReadsAll}
 use Rattle.vmtables.specs.Load.{LoadMakes}
+use Rattle.vmtables.specs.Policies.{policy_of}
 use Rattle.vmtables.specs.declared.fault.Fault.TheVariants.{Usage}
 
--- Words that are no command: nothing is read, and the world and the allocator stay as they were.
+-- Words that are no command: nothing is read, and the world, the allocator and the plan stay as they were.
 abbrev pub IsUsage : Doing
 IsUsage before after Unread (Err Usage) = after ≡ before
 IsUsage before after _ _ = ⊥
@@ -16,6 +17,6 @@ IsUsage before after _ _ = ⊥
 -- what the command does that the words are
 abbrev pub Does : Answering → Option Command → Doing
 Does Gives None = IsUsage
-Does Gives (Some (Boot fill)) = ReadsAll (BootMakes Gives fill)
-Does Gives (Some (Load fill top_mib)) = ReadsAll (LoadMakes Gives fill top_mib)
+Does Gives (Some (Boot fill policy seed)) = ReadsAll (BootMakes Gives fill (policy_of policy seed) seed)
+Does Gives (Some (Load fill top_mib policy seed)) = ReadsAll (LoadMakes Gives fill top_mib (policy_of policy seed) seed)
 Does Gives (Some Build) = ReadsAll BuildMakes

@@ -3,6 +3,7 @@ pub mod Outcome
 pub mod Output
 pub mod Dump
 pub mod Calls
+pub mod Policies
 pub mod Described
 pub mod Loading
 pub mod Load
@@ -25,7 +26,10 @@ pub use Rattle.script_load.specs.Runs
 pub use Rattle.script_load.specs.Script
 pub use Rattle.script_load.specs.Allocators
 pub use Rattle.script_load.specs.Loads
-pub use Rattle.script_load.specs.World
+pub use Rattle.load_machine.specs.Loads as MachineLoads
+pub use Rattle.load_machine.specs.Machine
+pub use Rattle.firmware_load.specs.Schedules
+pub use Rattle.firmware_load.specs.World
 pub use Rattle.vt_words.specs.Command
 pub use Rattle.image_files.specs.Items
 pub use Rattle.vm_image.specs.Image

@@ -1,32 +1,36 @@
--- Items that are loaded into a world's memory, by the places that an allocator gives.
+-- Items that are loaded into a world's memory, by the places that an allocator gives, over the events of a plan.
 use Rattle.std.specs.Prelude.{◌≡◌, ◌≢◌, ◌⊎◌, ℕ, List, Some, None, Result, Err, IsSomeAnd}
 use Rattle.vt_outside.specs.Placement.{Range, IsFree}
 use Rattle.vt_outside.specs.Stream.{Rose}
 use Rattle.cfg_directory.specs.declared.item.Item.{Item}
 use Rattle.zone_alloc.specs.declared.alloc.Request.{Request}
+use Rattle.zone_alloc.specs.declared.policy.Policy.{Policy}
 use Rattle.zone_alloc.specs.Zones.{zone_range}
 use Rattle.script_load.specs.Runs.{Answers}
-use Rattle.zone_alloc.specs.declared.policy.Policy.TheVariants.{Low}
 use Rattle.script_load.specs.declared.fault.LoadFault.{LoadFault}
 use Rattle.script_load.specs.declared.fault.LoadFault.TheVariants.{NoRoom}
 use Rattle.script_load.specs.Allocators.{AreZonesOf}
-use Rattle.script_load.specs.Loads.{IsLoad, IsAsked}
-use Rattle.script_load.specs.World.{Begun, IsBegun}
+use Rattle.script_load.specs.Loads.{IsAsked}
+use Rattle.load_machine.specs.Loads.{IsBegun}
+use Rattle.load_machine.specs.Machine.{Machine}
+use Rattle.firmware_load.specs.World.{IsLoadOver}
 use Rattle.vmtables.specs.Calls.{Answering, Seen}
 use Rattle.vmtables.specs.declared.fault.Fault.{Fault}
 use Rattle.vmtables.specs.declared.fault.Fault.TheVariants as fault
 
 -- The load of items answered so: a world was begun with them and a memory of this top and fill byte, an allocator with the zones of that
--- memory and the policy, and the world is what the load leaves. The allocator refused a request exactly where the load finds no room,
--- and then the last one that it refused is that of the command.
-pub record IsImageLoaded (Gives : Answering) (items : List Item) (top fill : ℕ) (answer : Result (Unit {0}) LoadFault) (before after : Seen) : Type 0 where
-  pub begun : Begun
-  pub was_begun : IsBegun begun items top fill
-  pub world : Begun
+-- memory and this policy, and a plan with this seed, and the world is what the load leaves over the events of the plan. The allocator refused
+-- a request exactly where the load finds no room, and then the last one that it refused is that of the command.
+pub record IsImageLoaded (Gives : Answering) (items : List Item) (top fill : ℕ) (policy : Policy) (seed : ℕ)
+    (answer : Result (Unit {0}) LoadFault) (before after : Seen) : Type 0 where
+  pub begun : Machine
+  pub was_begun : IsBegun items top fill begun
+  pub world : Machine
   pub world_is : after.world ≡ Some world
-  pub load : IsLoad (Gives after.place.zones after.place.policy) begun world after.place.handed answer
+  pub load : IsLoadOver (Gives after.place.zones after.place.policy) begun (before.plan.events seed) after.plan.left after.place.handed answer world
+  pub events : after.plan.events ≡ before.plan.events
   pub zones : AreZonesOf top after.place.zones
-  pub policy : after.place.policy ≡ Low
+  pub policy_is : after.place.policy ≡ policy
   pub no_room : (index : ℕ) → answer ≡ Err (NoRoom index)
       → Rose before.place.refusals after.place.refusals × IsAsked items index after.place.refused
   pub sound : ((index : ℕ) → answer ≢ Err (NoRoom index)) → after.place.refusals ≡ before.place.refusals
@@ -39,13 +43,15 @@ pub record IsRefusedFree (May : Answers) (top : ℕ) : Type 0 where
   pub place : ℕ
   pub free : IsFree (zone_range top request.zone) handed request.size request.align place
 
--- Memory ran out before the load: the world is idle and the allocator as it was, or the world is as it was begun.
+-- Memory ran out before the load: the plan is as it was, and either the world is idle and the allocator as it was, or the world is as it
+-- was begun.
 abbrev pub IsUnloaded : List Item → ℕ → ℕ → Seen → Seen → Type 0
 IsUnloaded items top fill before after =
-    ((after.world ≡ None) × (after.place ≡ before.place)) ⊎ IsSomeAnd after.world (λ w. IsBegun w items top fill)
+    (after.plan ≡ before.plan)
+    × (((after.world ≡ None) × (after.place ≡ before.place)) ⊎ IsSomeAnd after.world (IsBegun items top fill))
 
 -- the loading of items failed with this fault
-abbrev pub FailsToLoad : Answering → List Item → ℕ → ℕ → Seen → Seen → Fault → Type 0
-FailsToLoad Gives items top fill before after (fault.Load why) = IsImageLoaded Gives items top fill (Err why) before after
-FailsToLoad Gives items top fill before after fault.OutOfMemory = IsUnloaded items top fill before after
-FailsToLoad Gives items top fill before after _ = ⊥
+abbrev pub FailsToLoad : Answering → List Item → ℕ → ℕ → Policy → ℕ → Seen → Seen → Fault → Type 0
+FailsToLoad Gives items top fill policy seed before after (fault.Load why) = IsImageLoaded Gives items top fill policy seed (Err why) before after
+FailsToLoad Gives items top fill policy seed before after fault.OutOfMemory = IsUnloaded items top fill before after
+FailsToLoad Gives items top fill policy seed before after _ = ⊥

@@ -11,26 +11,29 @@ use crate::input::read_to_end;
 use crate::loading::{MIB, load_items};
 use crate::writing::write_dump;
 use desc_toml::read_machine;
+use firmware_load::{Schedule, World};
 use machine_desc::Machine as Described;
-use script_load::World;
 use std::alloc::Global;
 use vm_image::{Image, image_of};
 use vt_outside::{Sink, Source};
-use zone_alloc::ZoneAlloc;
+use zone_alloc::{Policy, ZoneAlloc};
 
-/// Reads a description, loads its machine's files by the places that `place` gives into memory in which each byte is `fill` before, and
-/// writes the dump.
-pub(crate) fn boot<S: Source, K: Sink, A: ZoneAlloc>(
+/// Reads a description, loads its machine's files by the places that `place` gives under `policy`, over the events that `plan` has for
+/// `seed`, into memory in which each byte is `fill` before, and writes the dump.
+pub(crate) fn boot<S: Source, K: Sink, A: ZoneAlloc, C: Schedule>(
     alloc: Global,
     fill: u8,
+    policy: Policy,
+    seed: u64,
     source: &mut S,
     out: &mut K,
     place: &mut A,
+    plan: &mut C,
     world: &mut World,
 ) -> Result<(), Fault>
-    ensures ran { Ran (ReadsAll (BootMakes (MayAnswer A.handed A.zones A.policy A.gives) fill)
-        (seen_by A.handed A.zones A.policy A.refusals A.refused A.begun world.old place.old)
-        (seen_by A.handed A.zones A.policy A.refusals A.refused A.begun world.new place.new)) result
+    ensures ran { Ran (ReadsAll (BootMakes (MayAnswer A.handed A.zones A.policy A.gives) fill policy seed)
+        (seen_by A.handed A.zones A.policy A.refusals A.refused A.begun C.events C.left world.old place.old plan.old)
+        (seen_by A.handed A.zones A.policy A.refusals A.refused A.begun C.events C.left world.new place.new plan.new)) result
         (S.left source.old) (S.left source.new) (K.taken out.old) (K.taken out.new) }
     ensures known { result ≢ Err Fault.Usage }
     ensures streams { Streams (status_of result)
@@ -40,45 +43,70 @@ pub(crate) fn boot<S: Source, K: Sink, A: ZoneAlloc>(
         (record { taken = K.taken out.new; flushed = K.flushed out.new; faults = K.faults out.new }) }
 {
     let bytes = read_to_end(alloc, source)?;
-    load_machine(alloc, fill, bytes.as_slice(), place, world)?;
+    load_machine(
+        alloc,
+        fill,
+        policy,
+        seed,
+        bytes.as_slice(),
+        place,
+        plan,
+        world,
+    )?;
     write_dump(world, out)
 }
 
 // Reads a machine's description, and loads its files into the world's memory.
-fn load_machine<A: ZoneAlloc>(
+fn load_machine<A: ZoneAlloc, C: Schedule>(
     alloc: Global,
     fill: u8,
+    policy: Policy,
+    seed: u64,
     description: &[u8],
     place: &mut A,
+    plan: &mut C,
     world: &mut World,
 ) -> Result<(), Fault>
-    ensures ok { OnOk result (IsBooted (MayAnswer A.handed A.zones A.policy A.gives) fill description.now
-        (seen_by A.handed A.zones A.policy A.refusals A.refused A.begun world.old place.old)
-        (seen_by A.handed A.zones A.policy A.refusals A.refused A.begun world.new place.new)) }
-    ensures err { IfErr result (λ fault. BootMakes (MayAnswer A.handed A.zones A.policy A.gives) fill description.now
-        (seen_by A.handed A.zones A.policy A.refusals A.refused A.begun world.old place.old)
-        (seen_by A.handed A.zones A.policy A.refusals A.refused A.begun world.new place.new) (Err fault)) }
+    ensures ok { OnOk result (IsBooted (MayAnswer A.handed A.zones A.policy A.gives) fill policy seed description.now
+        (seen_by A.handed A.zones A.policy A.refusals A.refused A.begun C.events C.left world.old place.old plan.old)
+        (seen_by A.handed A.zones A.policy A.refusals A.refused A.begun C.events C.left world.new place.new plan.new)) }
+    ensures err { IfErr result (λ fault. BootMakes (MayAnswer A.handed A.zones A.policy A.gives) fill policy seed description.now
+        (seen_by A.handed A.zones A.policy A.refusals A.refused A.begun C.events C.left world.old place.old plan.old)
+        (seen_by A.handed A.zones A.policy A.refusals A.refused A.begun C.events C.left world.new place.new plan.new) (Err fault)) }
 {
     let machine = read_machine(alloc, description)?;
-    load_image(alloc, fill, &machine, place, world)
+    load_image(alloc, fill, policy, seed, &machine, place, plan, world)
 }
 
 // Loads the files of a machine into the world's memory, in which each byte is `fill` before.
-fn load_image<A: ZoneAlloc>(
+fn load_image<A: ZoneAlloc, C: Schedule>(
     alloc: Global,
     fill: u8,
+    policy: Policy,
+    seed: u64,
     machine: &Described,
     place: &mut A,
+    plan: &mut C,
     world: &mut World,
 ) -> Result<(), Fault>
     requires { IsAccepted machine.now }
-    ensures ok { OnOk result ((bytes : List ℕ) → Reads bytes machine.now → IsBooted (MayAnswer A.handed A.zones A.policy A.gives) fill bytes
-        (seen_by A.handed A.zones A.policy A.refusals A.refused A.begun world.old place.old)
-        (seen_by A.handed A.zones A.policy A.refusals A.refused A.begun world.new place.new)) }
-    ensures err { IfErr result (λ fault. (bytes : List ℕ) → Reads bytes machine.now → BootMakes (MayAnswer A.handed A.zones A.policy A.gives) fill bytes
-        (seen_by A.handed A.zones A.policy A.refusals A.refused A.begun world.old place.old)
-        (seen_by A.handed A.zones A.policy A.refusals A.refused A.begun world.new place.new) (Err fault)) }
+    ensures ok { OnOk result ((bytes : List ℕ) → Reads bytes machine.now → IsBooted (MayAnswer A.handed A.zones A.policy A.gives) fill policy seed bytes
+        (seen_by A.handed A.zones A.policy A.refusals A.refused A.begun C.events C.left world.old place.old plan.old)
+        (seen_by A.handed A.zones A.policy A.refusals A.refused A.begun C.events C.left world.new place.new plan.new)) }
+    ensures err { IfErr result (λ fault. (bytes : List ℕ) → Reads bytes machine.now → BootMakes (MayAnswer A.handed A.zones A.policy A.gives) fill policy seed bytes
+        (seen_by A.handed A.zones A.policy A.refusals A.refused A.begun C.events C.left world.old place.old plan.old)
+        (seen_by A.handed A.zones A.policy A.refusals A.refused A.begun C.events C.left world.new place.new plan.new) (Err fault)) }
 {
     let Image { items, .. } = image_of(alloc, machine, 0)?;
-    load_items(alloc, items, machine.top_mib * MIB, fill, place, world)
+    load_items(
+        alloc,
+        items,
+        machine.top_mib * MIB,
+        fill,
+        policy,
+        seed,
+        place,
+        plan,
+        world,
+    )
 }

@@ -16,10 +16,12 @@ mod lines;
 mod load_command;
 mod loading;
 mod output;
+mod policy;
 mod status;
 mod top_call;
 mod writing;
 
-pub use script_load::{LoadFault, State, World};
+pub use firmware_load::World;
+pub use script_load::{LoadFault, State};
 pub use status::Status;
 pub use top_call::top;

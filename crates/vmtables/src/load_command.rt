@@ -13,26 +13,29 @@ use crate::input::read_to_end;
 use crate::loading::{MIB, load_items};
 use crate::writing::write_dump;
 use cfg_directory::{Items, read_image};
-use script_load::World;
+use firmware_load::{Schedule, World};
 use std::alloc::Global;
 use vt_outside::{Bytes, Sink, Source};
-use zone_alloc::ZoneAlloc;
+use zone_alloc::{Policy, ZoneAlloc};
 
-/// Reads a container, loads its files by the places that `place` gives into memory of `top_mib` MiB in which each byte is `fill` before,
-/// and writes the dump. `top_mib` is from 64 to 3072.
-pub(crate) fn load<S: Source, K: Sink, A: ZoneAlloc>(
+/// Reads a container, loads its files by the places that `place` gives under `policy`, over the events that `plan` has for `seed`, into
+/// memory of `top_mib` MiB in which each byte is `fill` before, and writes the dump. `top_mib` is from 64 to 3072.
+pub(crate) fn load<S: Source, K: Sink, A: ZoneAlloc, C: Schedule>(
     alloc: Global,
     fill: u8,
     top_mib: u32,
+    policy: Policy,
+    seed: u64,
     source: &mut S,
     out: &mut K,
     place: &mut A,
+    plan: &mut C,
     world: &mut World,
 ) -> Result<(), Fault>
     requires lawful { (64 ≤ top_mib) × (top_mib ≤ 3072) }
-    ensures ran { Ran (ReadsAll (LoadMakes (MayAnswer A.handed A.zones A.policy A.gives) fill top_mib)
-        (seen_by A.handed A.zones A.policy A.refusals A.refused A.begun world.old place.old)
-        (seen_by A.handed A.zones A.policy A.refusals A.refused A.begun world.new place.new)) result
+    ensures ran { Ran (ReadsAll (LoadMakes (MayAnswer A.handed A.zones A.policy A.gives) fill top_mib policy seed)
+        (seen_by A.handed A.zones A.policy A.refusals A.refused A.begun C.events C.left world.old place.old plan.old)
+        (seen_by A.handed A.zones A.policy A.refusals A.refused A.begun C.events C.left world.new place.new plan.new)) result
         (S.left source.old) (S.left source.new) (K.taken out.old) (K.taken out.new) }
     ensures known { result ≢ Err Fault.Usage }
     ensures streams { Streams (status_of result)
@@ -42,29 +45,44 @@ pub(crate) fn load<S: Source, K: Sink, A: ZoneAlloc>(
         (record { taken = K.taken out.new; flushed = K.flushed out.new; faults = K.faults out.new }) }
 {
     let bytes = read_to_end(alloc, source)?;
-    load_container(alloc, fill, top_mib, bytes, place, world)?;
+    load_container(
+        alloc, fill, top_mib, policy, seed, bytes, place, plan, world,
+    )?;
     write_dump(world, out)
 }
 
 // Loads the files of a container into the world's memory, and lets go of the container once they stand.
-fn load_container<A: ZoneAlloc>(
+fn load_container<A: ZoneAlloc, C: Schedule>(
     alloc: Global,
     fill: u8,
     top_mib: u32,
+    policy: Policy,
+    seed: u64,
     container: Bytes,
     place: &mut A,
+    plan: &mut C,
     world: &mut World,
 ) -> Result<(), Fault>
     requires lawful { (64 ≤ top_mib) × (top_mib ≤ 3072) }
-    ensures ok { OnOk result ((items : List Item) × IsContainer container items × IsImageLoaded (MayAnswer A.handed A.zones A.policy A.gives) items (mib top_mib) fill (Ok tt)
-        (seen_by A.handed A.zones A.policy A.refusals A.refused A.begun world.old place.old)
-        (seen_by A.handed A.zones A.policy A.refusals A.refused A.begun world.new place.new)) }
-    ensures err { IfErr result (λ fault. LoadMakes (MayAnswer A.handed A.zones A.policy A.gives) fill top_mib container
-        (seen_by A.handed A.zones A.policy A.refusals A.refused A.begun world.old place.old)
-        (seen_by A.handed A.zones A.policy A.refusals A.refused A.begun world.new place.new) (Err fault)) }
+    ensures ok { OnOk result ((items : List Item) × IsContainer container items × IsImageLoaded (MayAnswer A.handed A.zones A.policy A.gives) items (mib top_mib) fill policy seed (Ok tt)
+        (seen_by A.handed A.zones A.policy A.refusals A.refused A.begun C.events C.left world.old place.old plan.old)
+        (seen_by A.handed A.zones A.policy A.refusals A.refused A.begun C.events C.left world.new place.new plan.new)) }
+    ensures err { IfErr result (λ fault. LoadMakes (MayAnswer A.handed A.zones A.policy A.gives) fill top_mib policy seed container
+        (seen_by A.handed A.zones A.policy A.refusals A.refused A.begun C.events C.left world.old place.old plan.old)
+        (seen_by A.handed A.zones A.policy A.refusals A.refused A.begun C.events C.left world.new place.new plan.new) (Err fault)) }
 {
     let items = items_of(alloc, container)?;
-    load_items(alloc, items, top_mib * MIB, fill, place, world)
+    load_items(
+        alloc,
+        items,
+        top_mib * MIB,
+        fill,
+        policy,
+        seed,
+        place,
+        plan,
+        world,
+    )
 }
 
 // The files of a container.

@@ -1,6 +1,7 @@
 //! The program `vmtables`: the top call over the words, the streams and the status of a process.
 #![tactic(auto)]
 
+use firmware_load::SeededSchedule;
 use std::env;
 use std::io::{self, BufWriter, ErrorKind};
 use std::process::ExitCode;
@@ -9,16 +10,18 @@ use vt_outside::{ReadSource, WriteSink};
 use zone_alloc::ShelfAlloc;
 
 const HELP: &str = "\
-usage: vmtables boot [--fill XX] < DESCRIPTION > DUMP
+usage: vmtables boot [--fill XX] [--policy P] [--seed N] < DESCRIPTION > DUMP
        vmtables build < DESCRIPTION > CONTAINER
-       vmtables load [--fill XX] [--top M] < CONTAINER > DUMP
+       vmtables load [--fill XX] [--top M] [--policy P] [--seed N] < CONTAINER > DUMP
 
 boot       reads a machine's description (TOML) from standard input, builds its tables and the script that
            loads them, loads them into a guest's memory, and writes a dump of that memory to standard output;
-           each byte of memory is XX before, two lower-case hexadecimal digits, or zero
+           each byte of memory is XX before, two lower-case hexadecimal digits, or zero; P is low, top or
+           scatter, how the files are placed, or low; N is a number below 2^64, the seed of the events that
+           the firmware and the guest's other processors act in, or 0, which has none
 build      reads a machine's description, and writes the files that a firmware loads, in one container
 load       reads a container, loads its files by the script among them into the memory of a guest that has
-           M MiB, from 64 to 3072, or 64, and writes a dump of that memory; XX is as for boot
+           M MiB, from 64 to 3072, or 64, and writes a dump of that memory; the rest is as for boot
 --help     prints this text
 --version  prints the version
 
@@ -72,6 +75,7 @@ fn run(rt: &HostRuntime, words: &[String]) -> ExitCode {
         &mut WriteSink::new(writer),
         &mut WriteSink::new(rt.stderr()),
         &mut ShelfAlloc::new(),
+        &mut SeededSchedule::new(),
         &mut World::idle(),
     );
     ExitCode::from(status.number())

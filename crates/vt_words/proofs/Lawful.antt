@@ -1,5 +1,5 @@
 -- The values of a command are in range.
-use Rattle.std.proofs.Common.{◌≡◌, ℕ, ◌<◌, ◌≤◌, Bool, true, false, cond, leb, List, [], ◌∷◌, Option, Some, None, IfSome, arith, refl}
+use Rattle.std.proofs.Common.{◌≡◌, ℕ, ◌<◌, ◌≤◌, ◌^◌, ◌-◌, Bool, true, false, cond, leb, List, [], ◌∷◌, Option, Some, None, IfSome, arith, refl}
 use Rattle.std.proofs.lemmas.Bool.{and_parts, leb-true}
 use Rattle.std.proofs.lemmas.Bool.Decides.{nat_tests}
 use Rattle.std.specs.Option.{option_and_then}
@@ -7,7 +7,9 @@ use Rattle.std.specs.Prelude.{codes}
 use Rattle.std.specs.Str.{bytes_eq}
 use Rattle.std.specs.Str.Parse.{digits_value}
 use Rattle.vt_words.specs.declared.command.Command.TheVariants.{Boot, Load, Build}
-use Rattle.vt_words.specs.Command.{IsLawful, boot_of, build_of, command_of, command_with, fill_of, load_of, top_of}
+use Rattle.vt_words.specs.declared.command.Command.{Command}
+use Rattle.vt_words.specs.declared.policy.PolicyName.{PolicyName}
+use Rattle.vt_words.specs.Command.{IsLawful, boot_of, build_of, command_of, command_with, fill_of, load_of, policy_of, seed_of, top_of, with_policy_and_seed}
 use Rattle.vt_words.specs.Numbers.{byte_from, byte_of, digit_of, is_decimal, number_within}
 use Rattle.vt_words.specs.Options.{Given, are_among, options_of, value_of}
 
@@ -45,6 +47,11 @@ small_byte (high ∷ []) = tt
 small_byte (high ∷ low ∷ []) = small_from (digit_of high) (digit_of low) (small_digit high) (small_digit low)
 small_byte (high ∷ low ∷ another ∷ more) = tt
 
+-- a number up to the greatest of 64 bits has 64
+below_the_bound : (found : Option ℕ) → IfSome found (λ number. (0 ≤ number) × (number ≤ 2 ^ 64 - 1)) → IfSome found (λ number. number < 2 ^ 64)
+below_the_bound None bounds = tt
+below_the_bound (Some number) bounds = omega arith
+
 -- a number that is found is in its bounds
 in_bounds : (least most : ℕ) (word : List ℕ) → IfSome (number_within least most word) (λ number. (least ≤ number) × (number ≤ most))
 in_bounds least most word =
@@ -54,28 +61,54 @@ in_bounds least most word =
     let inner = and_parts (is_decimal word) (leb least (digits_value 10 word)) outer.0 in
     (leb-true _ _ inner.1, leb-true _ _ outer.1))
 
+-- a seed has 64 bits
+seed_in_bounds : (word : List ℕ) → IfSome (number_within 0 (2 ^ 64 - 1) word) (λ seed. seed < 2 ^ 64)
+seed_in_bounds word = below_the_bound (number_within 0 (2 ^ 64 - 1) word) (in_bounds 0 (2 ^ 64 - 1) word)
+
+-- the fill byte of options is a byte
 small_fill : (options : List Given) → IfSome (fill_of options) (λ fill. fill < 256)
 small_fill options = chained (λ _. Unit {0}) (λ byte. byte < 256) byte_of (λ word _. small_byte word)
     (value_of (codes "--fill") (codes "00") options) (always (value_of (codes "--fill") (codes "00") options))
 
+-- the top of options is one that a guest may have
 top_in_bounds : (options : List Given) → IfSome (top_of options) (λ top_mib. (64 ≤ top_mib) × (top_mib ≤ 3072))
 top_in_bounds options =
     chained (λ _. Unit {0}) (λ number. (64 ≤ number) × (number ≤ 3072)) (number_within 64 3072) (λ word _. in_bounds 64 3072 word)
     (value_of (codes "--top") (codes "64") options) (always (value_of (codes "--top") (codes "64") options))
 
+-- the seed of options has 64 bits
+small_seed : (options : List Given) → IfSome (seed_of options) (λ seed. seed < 2 ^ 64)
+small_seed options =
+    chained (λ _. Unit {0}) (λ seed. seed < 2 ^ 64) (number_within 0 (2 ^ 64 - 1)) (λ word _. seed_in_bounds word)
+    (value_of (codes "--seed") (codes "0") options) (always (value_of (codes "--seed") (codes "0") options))
+
+-- a command is lawful that is made with a seed, where it is with each seed of 64 bits
+lawful_with_seed : (made : PolicyName → ℕ → Command) (options : List Given)
+    → ((policy : PolicyName) (seed : ℕ) → seed < 2 ^ 64 → IsLawful (made policy seed)) → IfSome (with_policy_and_seed made options) IsLawful
+lawful_with_seed made options each =
+    chained (λ _. Unit {0}) IsLawful (λ policy. option_and_then (λ seed. Some (made policy seed)) (seed_of options))
+    (λ policy _.
+    chained (λ seed. seed < 2 ^ 64) IsLawful (λ seed. Some (made policy seed)) (λ seed small. each policy seed small)
+    (seed_of options) (small_seed options)) (policy_of options) (always (policy_of options))
+
+-- what boot makes of options is lawful
 lawful_boot : (options : List Given) → IfSome (boot_of options) IsLawful
 lawful_boot options =
     either IsLawful _ _ None
-    (chained (λ fill. fill < 256) IsLawful (λ fill. Some (Boot fill)) (λ fill small. small) (fill_of options) (small_fill options)) tt
+    (chained (λ fill. fill < 256) IsLawful (λ fill. with_policy_and_seed (Boot fill) options)
+    (λ fill small. lawful_with_seed (Boot fill) options (λ policy seed small_too. (small, small_too)))
+    (fill_of options) (small_fill options)) tt
 
+-- what load makes of options is lawful
 lawful_load : (options : List Given) → IfSome (load_of options) IsLawful
 lawful_load options =
     either IsLawful _ _ None
-    (chained (λ fill. fill < 256) IsLawful (λ fill. option_and_then (λ top_mib. Some (Load fill top_mib)) (top_of options))
+    (chained (λ fill. fill < 256) IsLawful (λ fill. option_and_then (λ top_mib. with_policy_and_seed (Load fill top_mib) options) (top_of options))
     (λ fill small.
-    chained (λ top_mib. (64 ≤ top_mib) × (top_mib ≤ 3072)) IsLawful (λ top_mib. Some (Load fill top_mib))
-    (λ top_mib bounds. (small, bounds.0, bounds.1)) (top_of options) (top_in_bounds options)) (fill_of options) (small_fill options))
-    tt
+    chained (λ top_mib. (64 ≤ top_mib) × (top_mib ≤ 3072)) IsLawful (λ top_mib. with_policy_and_seed (Load fill top_mib) options)
+    (λ top_mib bounds. lawful_with_seed (Load fill top_mib) options
+    (λ policy seed small_too. (small, bounds.0, bounds.1, small_too))) (top_of options) (top_in_bounds options))
+    (fill_of options) (small_fill options)) tt
 
 lawful_build : (options : List Given) → IfSome (build_of options) IsLawful
 lawful_build options = either IsLawful (are_among [] options) (Some Build) None tt tt

@@ -1,5 +1,5 @@
 -- The options of a command have different names.
-use Rattle.std.proofs.Common.{Bool, ◌≡◌, ℕ, ◌≤◌, List, [], ◌∷◌, true, false, cond, length, map, filter, Option, Some, None, IsSome, subst, refl, sym, ◌∙◌, arith}
+use Rattle.std.proofs.Common.{Bool, ◌≡◌, ℕ, ◌≤◌, ◌^◌, ◌-◌, List, [], ◌∷◌, true, false, cond, length, map, filter, Option, Some, None, IsSome, subst, refl, sym, ◌∙◌, arith}
 use Rattle.std.proofs.lemmas.Bool.{and_parts}
 use Rattle.std.proofs.lemmas.Slice.Eq.{bytes_eq-Decides}
 use Rattle.std.specs.List.{AllByRecursion, IsDistinct, list_any}
@@ -7,9 +7,12 @@ use Rattle.std.specs.Option.{option_and_then}
 use Rattle.std.specs.Prelude.{codes, ◌||◌}
 use Rattle.std.specs.Str.{bytes_eq}
 use Rattle.vt_words.specs.declared.command.Command.TheVariants.{Boot, Load, Build}
-use Rattle.vt_words.specs.Command.{boot_of, build_of, command_of, command_with, fill_of, load_of, top_of}
+use Rattle.vt_words.specs.declared.command.Command.{Command}
+use Rattle.vt_words.specs.declared.policy.PolicyName.{PolicyName}
+use Rattle.vt_words.specs.Command.{boot_of, build_of, command_of, command_with, fill_of, load_of, policy_of, seed_of, top_of, with_policy_and_seed}
 use Rattle.vt_words.specs.Numbers.{byte_of, number_within}
 use Rattle.vt_words.specs.Options.{Given, are_among, have_values, only, options_of, values_of}
+use Rattle.vt_words.specs.Policies.{policy_named}
 
 same_from : (a b : List ℕ) → bytes_eq a b ≡ true → a ≡ b
 same_from a b e = (bytes_eq-Decides a b).0 e
@@ -79,7 +82,8 @@ distinct names (option ∷ rest) is once =
     )
 
 -- an option whose value is read is given once at most
-once : (read : List ℕ → Option ℕ) (default : List ℕ) (values : List (List ℕ)) → IsSome (option_and_then read (only default values)) → length values ≤ 1
+once : {A : Type 0} (read : List ℕ → Option A) (default : List ℕ) (values : List (List ℕ))
+    → IsSome (option_and_then read (only default values)) → length values ≤ 1
 once read default [] is = omega arith
 once read default (value ∷ []) is = omega arith
 once read default (value ∷ another ∷ values) is = absurd (cc)
@@ -99,24 +103,43 @@ behind : {A B : Type 0} (f : A → Option B) (found : Option A) → IsSome (opti
 behind f (Some a) is = (a, refl, is)
 behind f None is = absurd (cc)
 
+-- the policy and the seed of what is made with both are given once at most
+policy_and_seed_once : (made : PolicyName → ℕ → Command) (options : List Given) → IsSome (with_policy_and_seed made options)
+    → AllByRecursion (λ name. length (values_of name options) ≤ 1) (codes "--policy" ∷ codes "--seed" ∷ [])
+policy_and_seed_once made options is =
+    let policy = behind (λ policy. option_and_then (λ seed. Some (made policy seed)) (seed_of options)) (policy_of options) is in
+    let seed = behind (λ seed. Some (made policy.0 seed)) (seed_of options) policy.2 in (
+      once policy_named (codes "low") (values_of (codes "--policy") options) policy.1,
+      (once (number_within 0 (2 ^ 64 - 1)) (codes "0") (values_of (codes "--seed") options) seed.1, tt),
+    )
+
+-- each option of boot is given once
 boot_once : (options : List Given) → IsSome (boot_of options) → IsDistinct bytes_eq (map (λ option. option.name) options)
 boot_once options is =
     let given =
-    passed (are_among (codes "--fill" ∷ []) options) (option_and_then (λ fill. Some (Boot fill)) (fill_of options)) is in
-    let fill = behind (λ fill. Some (Boot fill)) (fill_of options) given.1 in
-    distinct (codes "--fill" ∷ []) options given.0
-    (once byte_of (codes "00") (values_of (codes "--fill") options) fill.1, tt)
+    passed (are_among (codes "--fill" ∷ codes "--policy" ∷ codes "--seed" ∷ []) options)
+    (option_and_then (λ fill. with_policy_and_seed (Boot fill) options) (fill_of options)) is in
+    let fill = behind (λ fill. with_policy_and_seed (Boot fill) options) (fill_of options) given.1 in
+    distinct (codes "--fill" ∷ codes "--policy" ∷ codes "--seed" ∷ []) options given.0
+    (once byte_of (codes "00") (values_of (codes "--fill") options) fill.1, policy_and_seed_once (Boot fill.0) options fill.2)
 
+-- each option of load is given once
 load_once : (options : List Given) → IsSome (load_of options) → IsDistinct bytes_eq (map (λ option. option.name) options)
 load_once options is =
     let given =
-    passed (are_among (codes "--fill" ∷ codes "--top" ∷ []) options)
-    (option_and_then (λ fill. option_and_then (λ top_mib. Some (Load fill top_mib)) (top_of options)) (fill_of options)) is in
-    let fill = behind (λ fill. option_and_then (λ top_mib. Some (Load fill top_mib)) (top_of options)) (fill_of options) given.1 in
-    let top = behind (λ top_mib. Some (Load fill.0 top_mib)) (top_of options) fill.2 in
-    distinct (codes "--fill" ∷ codes "--top" ∷ []) options given.0 (
+    passed (are_among (codes "--fill" ∷ codes "--top" ∷ codes "--policy" ∷ codes "--seed" ∷ []) options)
+    (option_and_then (λ fill. option_and_then (λ top_mib. with_policy_and_seed (Load fill top_mib) options) (top_of options))
+    (fill_of options)) is in
+    let fill =
+    behind (λ fill. option_and_then (λ top_mib. with_policy_and_seed (Load fill top_mib) options) (top_of options))
+    (fill_of options) given.1 in
+    let top = behind (λ top_mib. with_policy_and_seed (Load fill.0 top_mib) options) (top_of options) fill.2 in
+    distinct (codes "--fill" ∷ codes "--top" ∷ codes "--policy" ∷ codes "--seed" ∷ []) options given.0 (
       once byte_of (codes "00") (values_of (codes "--fill") options) fill.1,
-      (once (number_within 64 3072) (codes "64") (values_of (codes "--top") options) top.1, tt),
+      (
+        once (number_within 64 3072) (codes "64") (values_of (codes "--top") options) top.1,
+        policy_and_seed_once (Load fill.0 top.0) options top.2,
+      ),
     )
 
 build_once : (options : List Given) → IsSome (build_of options) → IsDistinct bytes_eq (map (λ option. option.name) options)

@@ -1,5 +1,5 @@
 -- Numbers and commands as they are written.
-use Rattle.std.proofs.Common.{◌≡◌, ℕ, suc, zero, ◌+◌, ◌*◌, ◌<◌, ◌≤◌, ◌^◌, ◌/◌, ◌%◌, ◌↔◌, Bool, true, false, cond, leb, length, get_or, List, [], ◌∷◌, Option, Some, None, arith, refl, ap, sym, ◌∙◌}
+use Rattle.std.proofs.Common.{◌≡◌, ℕ, suc, zero, ◌+◌, ◌*◌, ◌<◌, ◌≤◌, ◌^◌, ◌-◌, ◌/◌, ◌%◌, ◌↔◌, Bool, true, false, cond, leb, length, get_or, List, [], ◌∷◌, Option, Some, None, arith, refl, ap, sym, ◌∙◌}
 use Rattle.std.proofs.lemmas.Bool.{and_parts, leb-true}
 use Rattle.std.proofs.lemmas.Bool.Decides.{nat_tests}
 use Rattle.std.proofs.lemmas.Fmt.{decimal-digits_value, decimal_digit, decimal_nonempty, digits_decimal, digits_value-decimal, first_decimal}
@@ -9,6 +9,9 @@ use Rattle.std.specs.Str.Parse.{digits_value}
 use Rattle.vt_words.specs.declared.command.Command.{Command}
 use Rattle.vt_words.specs.declared.command.Command.TheVariants.{Boot, Load, Build}
 use Rattle.vt_words.specs.Command.{IsLawful, command_of}
+use Rattle.vt_words.specs.declared.policy.PolicyName.{PolicyName}
+use Rattle.vt_words.specs.declared.policy.PolicyName.TheVariants.{Low, Top, Scatter}
+use Rattle.vt_words.specs.Policies.{policy_named, word_of}
 use Rattle.vt_words.specs.Numbers.{byte_from, byte_of, digit_of, is_decimal, number_within}
 use Rattle.vt_words.specs.Written.{hex_digits, words_of}
 use Rattle.vt_words.proofs.Decimals.{own, digits_of_decimal, decimal_not_empty, is_decimal-nonzero}
@@ -101,11 +104,27 @@ read_byte byte small =
 pub two_digits : (word : List ℕ) (byte : ℕ) → (byte_of word ≡ Some byte) ↔ ((byte < 256) × (word ≡ hex_digits byte))
 two_digits word byte = (written_byte word byte, λ h. ap byte_of h.1 ∙ read_byte byte h.0)
 
+-- a policy is what its name names
+read_policy : (policy : PolicyName) → policy_named (word_of policy) ≡ Some policy
+read_policy Low = refl
+read_policy Top = refl
+read_policy Scatter = refl
+
+-- a seed is what it's written as
+read_seed : (seed : ℕ) → seed < 2 ^ 64 → number_within 0 (2 ^ 64 - 1) (decimal seed) ≡ Some seed
+read_seed seed small = read_number 0 (2 ^ 64 - 1) seed (omega arith) (omega arith) (omega arith)
+
 -- a lawful command is what its words are
 pub read_command : (command : Command) → IsLawful command → command_of (words_of command) ≡ Some command
-read_command (Boot fill) lawful = let byte = read_byte fill lawful in rw byte
-read_command (Load fill top_mib) lawful =
+read_command (Boot fill policy seed) lawful =
     let byte = read_byte fill lawful.0 in
-    let number = read_number 64 3072 top_mib (omega arith) lawful.1 lawful.2 in
-    rw (byte, number)
+    let named = read_policy policy in
+    let number = read_seed seed lawful.1 in
+    rw (byte, named, number)
+read_command (Load fill top_mib policy seed) lawful =
+    let byte = read_byte fill lawful.0 in
+    let top = read_number 64 3072 top_mib (omega arith) lawful.1 lawful.2 in
+    let named = read_policy policy in
+    let number = read_seed seed lawful.3 in
+    rw (byte, top, named, number)
 read_command Build lawful = refl

@@ -1,4 +1,5 @@
 pub mod Numbers
 pub mod Options
+pub mod Policies
 pub mod Command
 pub mod Written

@@ -9,6 +9,8 @@ ghost use Rattle.vt_words.specs.declared.command.Command.{Command};
 ghost use Rattle.vt_words.specs.Command.{IsLawful, command_of};
 ghost use Rattle.vt_words.specs.Numbers.{byte_of, number_within};
 ghost use Rattle.vt_words.specs.Options.{have_values, options_of};
+ghost use Rattle.vt_words.specs.declared.policy.PolicyName.{PolicyName};
+ghost use Rattle.vt_words.specs.Policies.{policy_named, word_of};
 ghost use Rattle.vt_words.specs.Written.{hex_digits, words_of};
 
 /// States that words are the same command in whatever order its options stand.
@@ -43,4 +45,9 @@ pub fn bytes_are_two_digits()
 pub fn numbers_are_decimal()
     ensures { (least most number : ℕ) (word : List ℕ) → most < 2 ^ 64 → (number_within least most word ≡ Some number)
         ↔ ((word ≡ decimal number) × (least ≤ number) × (number ≤ most)) }
+{}
+
+/// States that a word is a policy exactly where it's that policy's name.
+pub fn policies_are_named()
+    ensures { (word : List ℕ) (policy : PolicyName) → (policy_named word ≡ Some policy) ↔ (word ≡ word_of policy) }
 {}

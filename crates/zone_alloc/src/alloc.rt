@@ -2,7 +2,7 @@ ghost use Rattle.std.specs.Prelude.{◌≡◌, ℕ, Bool, true, ◌+◌, ◌<◌
 ghost use Rattle.std.specs.Int.{is_power_of_two};
 ghost use Rattle.std.specs.Result.{result_ok};
 ghost use Rattle.vt_outside.specs.Placement.{Range, IsFree};
-ghost use Rattle.vt_outside.specs.Stream.{Rose};
+ghost use Rattle.vt_outside.specs.Stream.{next_count};
 ghost use Rattle.zone_alloc.specs.Places.{range_in, HaveAddresses};
 
 use crate::policy::Policy;
@@ -87,7 +87,7 @@ pub trait ZoneAlloc {
         ensures clear { OnOk result (refused self.new ≡ None) }
 
         ensures kept { OnErr result (handed self.new ≡ handed self.old) }
-        ensures counted { OnErr result (Rose (refusals self.old) (refusals self.new)) }
+        ensures counted { OnErr result (refusals self.new ≡ next_count (refusals self.old)) }
         ensures asked { OnErr result (refused self.new ≡ Some (record { zone = zone; size = size; align = align })) }
 
         ensures gives { gives self.old zone size align (result_ok result) }

@@ -6,7 +6,7 @@ use Rattle.vmtables.proofs.boot_command.boot.Goals as goal
 
 pub returns-in_err-bytes-clause-ran : goal.returns-in_err-bytes-clause-ran
 returns-in_err-bytes-clause-ran g c =
-    cut_off (BootMakes (MayAnswer g.A.ZoneAlloc.handed g.A.ZoneAlloc.zones g.A.ZoneAlloc.policy g.A.ZoneAlloc.gives) c.args.fill)
+    cut_off (BootMakes (MayAnswer g.A.ZoneAlloc.handed g.A.ZoneAlloc.zones g.A.ZoneAlloc.policy g.A.ZoneAlloc.gives) c.args.fill c.args.policy c.args.seed)
     c.in_err-bytes.field-0.0 c.from_residual.result _ _ _ _ c.from_residual.ensures.1
 
 pub returns-in_err-load_machine-clause-ran : goal.returns-in_err-load_machine-clause-ran
@@ -14,7 +14,7 @@ returns-in_err-load_machine-clause-ran g c =
     let read = c.in_ok-bytes.ensures in
     let failed = c.in_err-load_machine in
     let answer = c.from_residual-in_err-load_machine in
-    refused (BootMakes (MayAnswer g.A.ZoneAlloc.handed g.A.ZoneAlloc.zones g.A.ZoneAlloc.policy g.A.ZoneAlloc.gives) c.args.fill)
+    refused (BootMakes (MayAnswer g.A.ZoneAlloc.handed g.A.ZoneAlloc.zones g.A.ZoneAlloc.policy g.A.ZoneAlloc.gives) c.args.fill c.args.policy c.args.seed)
     c.in_ok-bytes.bytes c.as_slice.result.now failed.field-0.0 answer.result _ _ _ _ _ read.given read.end c.as_slice.ensures
     failed.ensures.err answer.ensures.1
 
@@ -23,7 +23,7 @@ returns-clause-ran g c =
     let read = c.in_ok-bytes.ensures in
     let written = c.write_dump.ensures in
     let booted = rw c.as_slice.ensures at c.in_ok-load_machine.ensures.ok in
-    dump_wrote (BootMakes (MayAnswer g.A.ZoneAlloc.handed g.A.ZoneAlloc.zones g.A.ZoneAlloc.policy g.A.ZoneAlloc.gives) c.args.fill)
+    dump_wrote (BootMakes (MayAnswer g.A.ZoneAlloc.handed g.A.ZoneAlloc.zones g.A.ZoneAlloc.policy g.A.ZoneAlloc.gives) c.args.fill c.args.policy c.args.seed)
     c.write_dump.result c.in_ok-bytes.bytes booted.loaded.world _ _ _ _ _ _ read.given read.end booted.loaded.world_is (booted, refl)
     written.dumped written.fault written.front
 

@@ -8,5 +8,5 @@ load_image-requires g c = read_accepted c.args.description.now c.in_ok-machine.m
 
 pub returns-in_err-machine-clause-err : goal.returns-in_err-machine-clause-err
 returns-in_err-machine-clause-err g c =
-    description_failed (MayAnswer g.A.ZoneAlloc.handed g.A.ZoneAlloc.zones g.A.ZoneAlloc.policy g.A.ZoneAlloc.gives) c.args.fill
+    description_failed (MayAnswer g.A.ZoneAlloc.handed g.A.ZoneAlloc.zones g.A.ZoneAlloc.policy g.A.ZoneAlloc.gives) c.args.fill c.args.policy c.args.seed
     c.args.description.now _ c.in_err-machine.field-0.0 c.from_residual.result c.in_err-machine.ensures c.from_residual.ensures.1

@@ -1,7 +1,7 @@
 use Rattle.std.proofs.Common.{Some, None, refl}
 use Rattle.image_files.specs.Items.{files_of}
 use Rattle.script_load.specs.Allocators.{MayAnswer}
-use Rattle.firmware_load.proofs.Allocating.{IsAllocating, allocating, is_listed, distinct_placements, few_handed, may_answer}
+use Rattle.firmware_load.proofs.Allocating.{IsAllocating, allocating, is_listed, distinct_placements, few_handed, handed_more, may_answer}
 use Rattle.firmware_load.proofs.Allocating.{asks, was_asked, same_index, goes_placed, goes_without}
 use Rattle.firmware_load.proofs.guest.Guest.allocate.Given as given
 use Rattle.firmware_load.proofs.guest.Guest.allocate.Goals as goal
@@ -10,7 +10,7 @@ pub listed_of-file-requires : goal.listed_of-file-requires
 listed_of-file-requires g c =
     is_listed c.args.self.now c.args.listed.now c.args.name.now c.args.align c.args.zone c.requires.ready c.requires.early
 
--- what is known of the file before a place is asked for, where one was given, behind that, and where none was
+-- what is known of the file before a place is asked for, where one was given, and behind that
 asked_for : (g : given.Over) (c : goal.After-numbered g)
     → IsAllocating c.args.self.now c.args.name.now c.args.align c.args.zone c.listed_of-file.result.now
 asked_for g c = allocating _ _ _ _ _ _ c.requires.ready c.requires.early c.listed_of-file.ensures
@@ -22,10 +22,6 @@ given_place g c = allocating _ _ _ _ _ _ c.requires.ready c.requires.early c.lis
 brought : (g : given.Over) (c : goal.After-bring g)
     → IsAllocating c.args.self.now c.args.name.now c.args.align c.args.zone c.listed_of-file.result.now
 brought g c = allocating _ _ _ _ _ _ c.requires.ready c.requires.early c.listed_of-file.ensures
-
-without : (g : given.Over) (c : goal.In-Err g)
-    → IsAllocating c.args.self.now c.args.name.now c.args.align c.args.zone c.listed_of-file.result.now
-without g c = allocating _ _ _ _ _ _ c.requires.ready c.requires.early c.listed_of-file.ensures
 
 pub place-requires-clause-room : goal.place-requires-clause-room
 place-requires-clause-room g c =
@@ -60,31 +56,39 @@ returns-in-Ok-clause-goes g c = λ script.
     (rw c.numbered.ensures at c.in-Ok.ensures.lawful))
     c.bring.ensures.after c.bring.ensures.placed
 
+pub returns-in-Ok-clause-handed : goal.returns-in-Ok-clause-handed
+returns-in-Ok-clause-handed g c =
+    handed_more _ _ _ _ (record { name = c.listed_of-file.result.now.name; place = c.in-Ok.at; size = c.listed_of-file.result.now.size })
+    c.requires.handed c.in-Ok.ensures.handed c.bring.ensures.placed
+
 pub returns-in-Ok-clause-asked : goal.returns-in-Ok-clause-asked
 returns-in-Ok-clause-asked g c =
     asks c.args.self.now c.args.listed.now c.args.name.now c.args.align c.args.zone c.args.index c.listed_of-file.result.now (brought g c)
 
 pub returns-in-Err-clause-goes : goal.returns-in-Err-clause-goes
 returns-in-Err-clause-goes g c = λ script.
+    let without = allocating _ _ _ _ _ _ c.requires.ready c.requires.early c.listed_of-file.ensures in
     goes_without (MayAnswer g.A.ZoneAlloc.handed g.A.ZoneAlloc.zones g.A.ZoneAlloc.policy g.A.ZoneAlloc.gives (g.A.ZoneAlloc.zones c.args.place.now)
     (g.A.ZoneAlloc.policy c.args.place.now))
     c.args.self.now c.args.listed.now script c.args.name.now c.args.align c.args.zone c.args.index c.listed_of-file.result.now
-    (without g c)
+    without
     (may_answer g.A.ZoneAlloc.handed g.A.ZoneAlloc.zones g.A.ZoneAlloc.policy g.A.ZoneAlloc.gives c.args.place.now
     (files_of c.args.self.now.device.items) c.args.self.now.placements.placed.items c.args.name.now c.args.align c.args.zone
-    c.listed_of-file.result.now.size None (without g c).size c.requires.handed (rw c.numbered.ensures at c.in-Err.ensures.gives) tt)
+    c.listed_of-file.result.now.size None without.size c.requires.handed (rw c.numbered.ensures at c.in-Err.ensures.gives) tt)
 
 pub returns-in-Err-clause-asked : goal.returns-in-Err-clause-asked
 returns-in-Err-clause-asked g c =
-    asks c.args.self.now c.args.listed.now c.args.name.now c.args.align c.args.zone c.args.index c.listed_of-file.result.now (without g c)
+    let without = allocating _ _ _ _ _ _ c.requires.ready c.requires.early c.listed_of-file.ensures in
+    asks c.args.self.now c.args.listed.now c.args.name.now c.args.align c.args.zone c.args.index c.listed_of-file.result.now without
 
 pub returns-in-Err-clause-no_room : goal.returns-in-Err-clause-no_room
-returns-in-Err-clause-no_room g c = λ at is. (
-  same_index c.args.index at is,
-  c.in-Err.ensures.counted,
-  was_asked c.args.self.now c.args.listed.now c.args.name.now c.args.align c.args.zone c.args.index c.listed_of-file.result.now c.numbered.result _
-      (without g c) c.numbered.ensures c.in-Err.ensures.asked,
-)
+returns-in-Err-clause-no_room g c = λ at is.
+    let without = allocating _ _ _ _ _ _ c.requires.ready c.requires.early c.listed_of-file.ensures in (
+      same_index c.args.index at is,
+      c.in-Err.ensures.counted,
+      was_asked c.args.self.now c.args.listed.now c.args.name.now c.args.align c.args.zone c.args.index c.listed_of-file.result.now c.numbered.result _
+          without c.numbered.ensures c.in-Err.ensures.asked,
+    )
 
 pub returns-in-Err-clause-sound : goal.returns-in-Err-clause-sound
 returns-in-Err-clause-sound g c = λ other. absurd (other c.args.index refl)

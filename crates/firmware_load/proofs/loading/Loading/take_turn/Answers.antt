@@ -1,9 +1,10 @@
-use Rattle.std.proofs.Common.{sym, subst}
+use Rattle.std.proofs.Common.{inr, sym, subst}
 use Rattle.script_load.specs.Allocators.{AreLawful, MayAnswer}
 use Rattle.script_load.specs.Runs.{Answers}
 use Rattle.script_load.proofs.Goes.{answers_are_lawful}
 use Rattle.load_machine.specs.declared.event.Event.TheVariants.{Firmware}
 use Rattle.load_machine.specs.Runs.{whole_piece}
+use Rattle.firmware_load.specs.Inside.{machine_of}
 use Rattle.firmware_load.proofs.OnRun.{asks_through, step_asks}
 use Rattle.firmware_load.proofs.loading.Loading.take_turn.Goals as goal
 
@@ -27,6 +28,13 @@ step-requires-then-not-has_ended-clause-zones g c =
     (g.A.ZoneAlloc.zones c.args.place.now) (g.A.ZoneAlloc.policy c.args.place.now) c.args.self.now.guest.memory.top c.requires.zones)
     c.requires.inside c.requires.running c.step.ensures.steps c.step.ensures.no_room c.step.ensures.sound in
     rw (c.step.ensures.zones, first.top) c.requires.zones
+
+pub returns-then-not-has_ended-clause-turn : goal.returns-then-not-has_ended-clause-turn
+returns-then-not-has_ended-clause-turn g c = record {
+  middle = machine_of c.step.new.self;
+  first = c.step.ensures.steps;
+  second = inr (sym c.if-not-has_ended.ensures, c.step-then-not-has_ended.ensures.steps);
+}
 
 pub returns-then-not-has_ended-clause-asks : goal.returns-then-not-has_ended-clause-asks
 returns-then-not-has_ended-clause-asks g c =
