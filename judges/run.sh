@@ -63,14 +63,15 @@ fault() {
     sed 's/^/    /' <<<"$3"
 }
 
-# reads_as EXPECTED TEXT WORDS: whether a text has each line of a file, white space and iasl's offsets aside, and no other line
-# with one of the words; prints where it isn't so.
+# reads_as EXPECTED TEXT WORDS: whether a text has the lines of a file in their order, white space and iasl's offsets aside, and
+# no other line with one of the words; prints where it isn't so.
 reads_as() {
     local lines missing complaints
     lines=$(sed 's/^[[:space:]]*\(\[[^]]*\]\)\{0,1\}[[:space:]]*//' <<<"$2")
-    missing=$(grep -Fxv -f <(echo "$lines") "$1")
+    missing=$(awk 'FILENAME == ARGV[1] { wanted[++count] = $0; next } at < count && $0 == wanted[at + 1] { at++ }
+        END { if (at < count) print wanted[at + 1] }' "$1" <(echo "$lines"))
     complaints=$(grep -Fxv -f "$1" <<<"$lines" | grep -iE "$3")
-    [ -z "$missing" ] || sed 's/^/expected, and not printed: /' <<<"$missing"
+    [ -z "$missing" ] || echo "expected, and not printed there: $missing"
     [ -z "$complaints" ] || sed 's/^/a complaint: /' <<<"$complaints"
     [ -z "$missing$complaints" ]
 }

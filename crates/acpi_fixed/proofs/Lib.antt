@@ -1,3 +1,4 @@
 pub mod Tables
 pub mod OfParts
 pub mod Puts
+pub mod AcpiThere

@@ -1,3 +1,4 @@
+pub mod Each
 pub mod Steps
 pub mod Rules
 pub mod OneMachine

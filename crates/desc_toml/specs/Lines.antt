@@ -8,7 +8,9 @@ use Rattle.desc_toml.specs.Keys.{schema}
 -- the name of a table; a number that is no table's has none
 abbrev pub table_name : ℕ → List ℕ
 table_name table =
-    if table == 0 then codes "root" else if table == 1 then codes "system" else if table == 8 then codes "acpi"
+    if table == 0 then codes "root" else if table == 1 then codes "system" else if table == 2 then codes "firmware"
+    else if table == 3 then codes "chassis" else if table == 4 then codes "socket" else if table == 5 then codes "dimm"
+    else if table == 6 then codes "range" else if table == 7 then codes "slot" else if table == 8 then codes "acpi"
     else if table == 10 then codes "hpet" else []
 
 -- the name of the key of a number

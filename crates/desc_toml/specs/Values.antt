@@ -1,15 +1,36 @@
 -- A machine from the values of its description, by their positions. A value of another kind stands for nothing: no walk gives one.
-use Rattle.std.specs.Prelude.{ℕ, List, Option, Some, None, ◌==◌, if◌then◌else◌}
+use Rattle.std.specs.Prelude.{ℕ, zero, suc, List, [], ◌∷◌, Option, Some, None, ◌==◌, if◌then◌else◌}
 use Rattle.desc_schema.specs.declared.item.Item.{Item}
-use Rattle.desc_schema.specs.Taken.{first, rest, skip, item_at, text_of, number_to, uuid_if, count_of}
+use Rattle.desc_schema.specs.Taken.{first, rest, skip, item_at, text_of, number_to, flag_of, uuid_if, count_of}
 use Rattle.machine_desc.specs.declared.machine.Machine.{Machine}
 use Rattle.machine_desc.specs.declared.machine.System.{System}
 use Rattle.machine_desc.specs.declared.machine.Acpi.{Acpi}
 use Rattle.machine_desc.specs.declared.machine.Hpet.{Hpet}
+use Rattle.machine_desc.specs.declared.smbios_parts.Firmware.{Firmware}
+use Rattle.machine_desc.specs.declared.smbios_parts.Chassis.{Chassis}
+use Rattle.machine_desc.specs.declared.smbios_parts.Socket.{Socket}
+use Rattle.machine_desc.specs.declared.smbios_parts.Dimm.{Dimm}
+use Rattle.machine_desc.specs.declared.smbios_parts.MemRange.{MemRange}
+use Rattle.machine_desc.specs.declared.smbios_parts.Slot.{Slot}
 
 -- a table that may be left out, of so many values, and what follows it
-abbrev pub part_of : {V : Type 0} → (List Item → V) → ℕ → List Item → Option V × List Item
+unfoldable pub part_of : {V : Type 0} → (List Item → V) → ℕ → List Item → Option V × List Item
 part_of make size values = if count_of (first values) == 0 then (None, rest values) else (Some (make (rest values)), skip size (rest values))
+
+-- so many parts of so many values each, and what follows them
+abbrev pub each_of : {V : Type 0} → (List Item → V) → ℕ → ℕ → List Item → List V × List Item
+each_of make size zero values = ([], values)
+each_of make size (suc n) values =
+    let others = each_of make size n (skip size values) in
+    (make values ∷ others.0, others.1)
+
+-- an array: how many parts it has, then each of them, of so many values; and what follows it
+unfoldable pub list_of : {V : Type 0} → (List Item → V) → ℕ → List Item → List V × List Item
+list_of make size values = each_of make size (count_of (first values)) (rest values)
+
+-- a text alone
+abbrev pub one_text : List Item → List ℕ
+one_text values = text_of (first values)
 
 abbrev pub system_of : List Item → System
 system_of values = record {
@@ -20,6 +41,69 @@ system_of values = record {
   sku = text_of (item_at 4 values);
   family = text_of (item_at 5 values);
   uuid = uuid_if (item_at 6 values);
+}
+
+abbrev pub firmware_of : List Item → Firmware
+firmware_of values = record {
+  vendor = text_of (item_at 0 values);
+  version = text_of (item_at 1 values);
+  date = text_of (item_at 2 values);
+  major = number_to 0xFF (item_at 3 values);
+  minor = number_to 0xFF (item_at 4 values);
+}
+
+abbrev pub chassis_of : List Item → Chassis
+chassis_of values = record {
+  manufacturer = text_of (item_at 0 values);
+  version = text_of (item_at 1 values);
+  serial = text_of (item_at 2 values);
+  asset = text_of (item_at 3 values);
+  sku = text_of (item_at 4 values);
+  kind = number_to 0xFF (item_at 5 values);
+}
+
+abbrev pub socket_of : List Item → Socket
+socket_of values = record {
+  designation = text_of (item_at 0 values);
+  manufacturer = text_of (item_at 1 values);
+  version = text_of (item_at 2 values);
+  serial = text_of (item_at 3 values);
+  asset = text_of (item_at 4 values);
+  part = text_of (item_at 5 values);
+  cores = number_to 0xFFFF (item_at 6 values);
+  threads = number_to 0xFFFF (item_at 7 values);
+  mhz = number_to 0xFFFF (item_at 8 values);
+}
+
+abbrev pub dimm_of : List Item → Dimm
+dimm_of values = record {
+  locator = text_of (item_at 0 values);
+  bank = text_of (item_at 1 values);
+  manufacturer = text_of (item_at 2 values);
+  serial = text_of (item_at 3 values);
+  asset = text_of (item_at 4 values);
+  part = text_of (item_at 5 values);
+  size_mib = number_to 0xFFFFFFFF (item_at 6 values);
+  speed = number_to 0xFFFF (item_at 7 values);
+}
+
+abbrev pub range_of : List Item → MemRange
+range_of values = record {
+  base_mib = number_to 0xFFFFFFFF (item_at 0 values);
+  size_mib = number_to 0xFFFFFFFF (item_at 1 values);
+  node = number_to 0xFF (item_at 2 values);
+}
+
+abbrev pub slot_of : List Item → Slot
+slot_of values = record {
+  designation = text_of (item_at 0 values);
+  kind = number_to 0xFF (item_at 1 values);
+  width = number_to 0xFF (item_at 2 values);
+  used = flag_of (item_at 3 values);
+  id = number_to 0xFFFF (item_at 4 values);
+  bus = number_to 0xFF (item_at 5 values);
+  device = number_to 0xFF (item_at 6 values);
+  function = number_to 0xFF (item_at 7 values);
 }
 
 abbrev pub acpi_of : List Item → Acpi
@@ -33,8 +117,28 @@ hpet_of values = record {
   min_tick = number_to 0xFFFF (item_at 3 values);
 }
 
--- the version, the top, one table with seven values, and the two tables that may be left out
-abbrev pub machine_of : List Item → Machine
+-- The version, the top, the texts of the maker, and one table with the seven values of the system; the tables that may be left out, and
+-- the arrays, each behind what stands before it.
+unfoldable pub machine_of : List Item → Machine
 machine_of values =
-    let acpi = part_of acpi_of 2 (skip 10 values) in
-    record { top_mib = number_to 0xFFFFFFFF (item_at 1 values); system = system_of (skip 3 values); acpi = acpi.0; hpet = (part_of hpet_of 4 acpi.1).0 }
+    let oem_strings = list_of one_text 1 (skip 2 values) in
+    let firmware = part_of firmware_of 5 (skip 8 oem_strings.1) in
+    let chassis = part_of chassis_of 6 firmware.1 in
+    let sockets = list_of socket_of 9 chassis.1 in
+    let dimms = list_of dimm_of 8 sockets.1 in
+    let ranges = list_of range_of 3 dimms.1 in
+    let slots = list_of slot_of 8 ranges.1 in
+    let acpi = part_of acpi_of 2 slots.1 in
+    record {
+      top_mib = number_to 0xFFFFFFFF (item_at 1 values);
+      oem_strings = oem_strings.0;
+      system = system_of (skip 1 oem_strings.1);
+      firmware = firmware.0;
+      chassis = chassis.0;
+      sockets = sockets.0;
+      dimms = dimms.0;
+      ranges = ranges.0;
+      slots = slots.0;
+      acpi = acpi.0;
+      hpet = (part_of hpet_of 4 acpi.1).0;
+    }

@@ -1,12 +1,14 @@
 ghost use Rattle.std.specs.Prelude.{◌≡◌};
 ghost use Rattle.desc_toml.specs.Reading.{told};
+ghost use Rattle.desc_toml.specs.declared.fault.DescFault.TheVariants.{OutOfMemory as NoMemory};
 
 use desc_schema::{KeyPlace, Place, WalkFault};
-use vt_outside::Text;
+use vt_outside::{OutOfMemory, Text};
 
 /// Says why bytes weren't read as a machine. Each fault is the first one of the bytes. A table is named by its number (0 for the
-/// root, 1 for `system`, 8 for `acpi`, 10 for `hpet`), and a key of it by its place among the table's keys, counted from 0; `index`
-/// is 0 for a table that is no element of an array. A fault of a table as a whole is one at the key of the table that it stands in.
+/// root, 1 for `system`, 2 for `firmware`, 3 for `chassis`, 4 for `socket`, 5 for `dimm`, 6 for `range`, 7 for `slot`, 8 for `acpi`, 10 for
+/// `hpet`), and a key of it by its place among the table's keys, counted from 0; `index` is the table's place in its array, counted from
+/// 0, and 0 for a table that is no element of an array. A fault of a table as a whole is one at the key of the table that it stands in.
 #[derive(Debug, Drop)]
 pub enum DescFault {
     /// The bytes aren't UTF-8, or no TOML document.
@@ -15,7 +17,7 @@ pub enum DescFault {
     UnknownKey { table: u8, index: u32, key: Text },
     /// A key that must be there is left out.
     MissingKey { table: u8, index: u32, key: u8 },
-    /// The value at a key is of another kind than the key's.
+    /// The value at a key, or an element of its array, is of another kind than the key's.
     WrongKind { table: u8, index: u32, key: u8 },
     /// An integer isn't within the key's limits, or a text is no UUID.
     OutOfRange { table: u8, index: u32, key: u8 },
@@ -24,6 +26,14 @@ pub enum DescFault {
     Broken { rule: u8, index: u32 },
     /// Memory ran out, which may be at any bytes.
     OutOfMemory,
+}
+
+impl From<OutOfMemory> for DescFault {
+    ghost from_gives = { λ _ fault. fault ≡ NoMemory };
+
+    fn from(_fault: OutOfMemory) -> DescFault {
+        DescFault::OutOfMemory
+    }
 }
 
 // The fault of a walk, as the reader tells it.

@@ -13,6 +13,7 @@ mod fault;
 pub mod laws;
 mod line;
 mod machine;
+mod parts;
 mod read;
 mod schema;
 

@@ -89,11 +89,17 @@ fn key_line(cause: &str, table: u8, index: u32, key: &[u8]) -> Line
 
 fn table_name(table: u8) -> &'static str
     ensures name { result.now ≡ table_name table }
-    ensures short { length result.now ≤ 6 }
+    ensures short { length result.now ≤ 8 }
 {
     match table {
         0 => "root",
         1 => "system",
+        2 => "firmware",
+        3 => "chassis",
+        4 => "socket",
+        5 => "dimm",
+        6 => "range",
+        7 => "slot",
         8 => "acpi",
         10 => "hpet",
         _ => "",

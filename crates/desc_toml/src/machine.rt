@@ -1,79 +1,60 @@
 //! A machine from the values of its description, which are taken out one after the other.
 
-ghost use Rattle.std.specs.Prelude.{◌≡◌};
-ghost use Rattle.desc_schema.specs.Taken.{skip};
-ghost use Rattle.desc_toml.specs.Values.{part_of, system_of, acpi_of, hpet_of, machine_of};
+ghost use Rattle.std.specs.Prelude.{◌≡◌, IfOk};
+ghost use Rattle.desc_toml.specs.Values.{part_of, list_of, machine_of};
 
+use crate::parts::Part;
 use desc_schema::Items;
-use machine_desc::{Acpi, Hpet, Machine, System};
+use machine_desc::{Machine, System};
 use std::alloc::Global;
+use vt_outside::{List, OutOfMemory};
 
 // The machine of these values.
-pub(crate) fn machine_of(alloc: Global, items: &mut Items) -> Machine
-    ensures { result ≡ machine_of items.old }
+#[tactic(auto, unfolding(crate::specs::Values::machine_of))]
+pub(crate) fn machine_of(alloc: Global, items: &mut Items) -> Result<Machine, OutOfMemory>
+    ensures { IfOk result (λ machine. machine ≡ machine_of items.old) }
 {
     let _version = items.take_first();
     let top_mib = items.take_number(u32::MAX as u64) as u32;
+    let oem_strings = list_of(alloc, items)?;
     let _one = items.take_first();
-    Machine {
+    let system = System::take(alloc, items);
+    let firmware = part_of(alloc, items);
+    let chassis = part_of(alloc, items);
+    Ok(Machine {
         top_mib,
-        system: system_of(alloc, items),
-        acpi: acpi_at(alloc, items),
-        hpet: hpet_at(items),
-    }
+        oem_strings,
+        system,
+        firmware,
+        chassis,
+        sockets: list_of(alloc, items)?,
+        dimms: list_of(alloc, items)?,
+        ranges: list_of(alloc, items)?,
+        slots: list_of(alloc, items)?,
+        acpi: part_of(alloc, items),
+        hpet: part_of(alloc, items),
+    })
 }
 
-fn system_of(alloc: Global, items: &mut Items) -> System
-    ensures part { result ≡ system_of items.old }
-    ensures left { items.new ≡ skip 7 items.old }
-{
-    System {
-        manufacturer: items.take_text(alloc),
-        product: items.take_text(alloc),
-        version: items.take_text(alloc),
-        serial: items.take_text(alloc),
-        sku: items.take_text(alloc),
-        family: items.take_text(alloc),
-        uuid: items.take_uuid(),
-    }
-}
-
-fn acpi_at(alloc: Global, items: &mut Items) -> Option<Acpi>
-    ensures { (result, items.new) ≡ part_of acpi_of 2 items.old }
+// A table that may be left out.
+#[tactic(auto, unfolding(crate::specs::Values::part_of))]
+fn part_of<T: Part>(alloc: Global, items: &mut Items) -> Option<T>
+    ensures { (result, items.new) ≡ part_of T.value T.size items.old }
 {
     if items.take_count() == 0 {
         return None;
     }
-    Some(acpi_of(alloc, items))
+    Some(T::take(alloc, items))
 }
 
-fn acpi_of(alloc: Global, items: &mut Items) -> Acpi
-    ensures part { result ≡ acpi_of items.old }
-    ensures left { items.new ≡ skip 2 items.old }
+// An array.
+fn list_of<T: Part>(alloc: Global, items: &mut Items) -> Result<List<T>, OutOfMemory>
+    ensures { IfOk result (λ list. (list, items.new) ≡ list_of T.value T.size items.old) }
 {
-    Acpi {
-        oem_id: items.take_text(alloc),
-        oem_table_id: items.take_text(alloc),
+    let count = items.take_count();
+    let mut list = List::new(alloc);
+    for _ in 0..count {
+        list.push(T::take(alloc, items))?;
     }
-}
-
-fn hpet_at(items: &mut Items) -> Option<Hpet>
-    ensures { (result, items.new) ≡ part_of hpet_of 4 items.old }
-{
-    if items.take_count() == 0 {
-        return None;
-    }
-    Some(hpet_of(items))
-}
-
-fn hpet_of(items: &mut Items) -> Hpet
-    ensures part { result ≡ hpet_of items.old }
-    ensures left { items.new ≡ skip 4 items.old }
-{
-    Hpet {
-        address: items.take_number(u32::MAX as u64) as u32,
-        block_id: items.take_number(u32::MAX as u64) as u32,
-        number: items.take_number(u8::MAX as u64) as u8,
-        min_tick: items.take_number(u16::MAX as u64) as u16,
-    }
+    Ok(list)
 }

@@ -43,7 +43,7 @@ fn machine_in(alloc: Global, text: &str) -> Result<Machine, DescFault>
 {
     let root = root_in(alloc, text)?;
     let mut items = values_in(alloc, &root)?;
-    Ok(machine_of(alloc, &mut items))
+    Ok(machine_of(alloc, &mut items)?)
 }
 
 // The root table of a document.

@@ -1,10 +1,19 @@
 //! Laws over the definitions, each the contract of a function that does nothing.
 
-ghost use Rattle.std.specs.Prelude.{◌≡◌, ℕ, None};
+ghost use Rattle.std.specs.Prelude.{◌≡◌, ◌↔◌, ◌<◌, ℕ, List, None, true};
 ghost use Rattle.machine_desc.specs.declared.machine.Machine.{Machine};
-ghost use Rattle.machine_desc.specs.Rules.{IsAccepted, breach_of};
+ghost use Rattle.machine_desc.specs.declared.smbios_parts.MemRange.{MemRange};
+ghost use Rattle.machine_desc.specs.Rules.{IsAccepted, breach_of, is_memory};
+ghost use Rattle.machine_desc.specs.Memory.{AreInOrder, IsLowMemory};
 
 /// States that an accepted machine keeps the rule of each number.
 pub fn accepted_machine_keeps_each_rule()
     ensures { (machine : Machine) (number : ℕ) → IsAccepted machine → breach_of number machine ≡ None }
+{}
+
+/// States that of ranges in their order those that begin below 4 GiB are all memory below a top exactly where an address, in MiB,
+/// lies in one of them if and only if it lies below the top.
+pub fn memory_is_what_lies_below_the_top()
+    ensures { (top : ℕ) (ranges : List MemRange) → AreInOrder ranges
+        → (is_memory top ranges ≡ true) ↔ ((address : ℕ) → IsLowMemory ranges address ↔ (address < top)) }
 {}

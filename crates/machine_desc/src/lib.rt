@@ -1,12 +1,17 @@
 //! The description of a machine, and the rules that an accepted one keeps.
 //!
 //! The contract is exact: `Machine::check` gives the first broken rule with the least index at which it is
-//! broken, and a machine is accepted exactly where there is none. The law is that an accepted machine keeps the rule of
-//! each number.
+//! broken, and a machine is accepted exactly where there is none. The laws say that an accepted machine keeps the rule of each
+//! number, and what the rule on its memory means for each address.
 #![tactic(auto)]
 
 pub mod laws;
 mod machine;
+mod parts;
+mod ranges;
 mod rules;
+mod smbios_parts;
+mod texts;
 
 pub use machine::{Acpi, Broken, Hpet, Machine, System};
+pub use smbios_parts::{Chassis, Dimm, Firmware, MemRange, Slot, Socket};

@@ -1,12 +1,27 @@
-use vt_outside::Text;
+use crate::smbios_parts::{Chassis, Dimm, Firmware, MemRange, Slot, Socket};
+use vt_outside::{List, Text};
 
 /// A machine as its maker describes it.
 #[derive(Debug, Drop)]
 pub struct Machine {
     /// The address past the last byte of memory, in MiB: 64 to 3072 in an accepted machine.
     pub top_mib: u32,
+    /// Texts of its maker (OEM Strings, DSP0134 7.12), at most 32 in an accepted machine.
+    pub oem_strings: List<Text>,
     /// The machine as a product.
     pub system: System,
+    /// Its firmware, where it is described.
+    pub firmware: Option<Firmware>,
+    /// What it is housed in, where that is described.
+    pub chassis: Option<Chassis>,
+    /// Its sockets with their processors, at most 256 in an accepted machine.
+    pub sockets: List<Socket>,
+    /// Its memory modules, at most 256 in an accepted machine.
+    pub dimms: List<Dimm>,
+    /// The ranges of guest addresses in which memory stands, in ascending order and at most 64 in an accepted machine.
+    pub ranges: List<MemRange>,
+    /// Its slots for cards, at most 64 in an accepted machine.
+    pub slots: List<Slot>,
     /// Its ACPI tables; none where they aren't wanted.
     pub acpi: Option<Acpi>,
     /// Its HPET.
@@ -57,7 +72,7 @@ pub struct Hpet {
 /// The first rule that a machine breaks, as `Machine::check` finds it.
 #[derive(Clone, Copy, Debug, PartialEq, Eq)]
 pub struct Broken {
-    /// The rule's number: 1, 3, 4, 13, 16 or 18.
+    /// The rule's number: 1 to 13, 16, 18 or 24.
     pub rule: u16,
     /// The least index at which it is broken. `Machine::check` says what the index means for each rule.
     pub index: u32,

@@ -1,119 +1,88 @@
-ghost use Rattle.std.specs.Prelude.{◌≡◌, None, Some, MatchResult, true};
-ghost use Rattle.std.specs.List.{list_all};
-ghost use Rattle.std.specs.Option.{option_map_or};
-ghost use Rattle.machine_desc.specs.Rules.{broken_rule, is_text, texts_of, system_texts, acpi_texts, is_own_uuid, breach_of_acpi, is_padded_text, is_hpet_address};
-ghost use Rattle.vt_outside.specs.Name.{is_printable};
+ghost use Rattle.std.specs.Prelude.{◌≡◌, ◌<◌, ◌^◌, None, Some, MatchResult, if◌then◌else◌};
+ghost use Rattle.machine_desc.specs.declared.machine.Broken.{Broken as ABroken};
+ghost use Rattle.machine_desc.specs.Rules.{broken_rule, breaches, first_broken, only_at};
 
-use crate::machine::{Acpi, Broken, Hpet, Machine, System};
-use vt_outside::Text;
+use crate::machine::{Broken, Machine};
+use crate::parts::{
+    breach_of_acpi, has_hpet_address, has_lawful_chassis, unlawful_dimm, unlawful_slot,
+    unlawful_socket,
+};
+use crate::ranges::{range_of_another_node, unlawful_range};
+use crate::texts::empty_text;
 
 impl Machine {
     /// Checks the rules in the order of their numbers, and returns `Ok` where the machine keeps each one. It takes no memory.
     /// Else the error gives the first rule that is broken and the least index at which it is broken:
     /// - Rule 1, index 0: `top_mib` is 64 to 3072.
+    /// - Rule 2: `oem_strings` (index 0) has at most 32 texts, `sockets` (index 1) and `dimms` (index 2) at most 256 elements,
+    ///   `ranges` (index 3) and `slots` (index 4) at most 64.
     /// - Rule 3, index 0: each text has at most 64 bytes, each 0x20 to 0x7E.
     /// - Rule 4, index 0: the UUID, where given, is neither all zeros nor all ones (RFC 9562).
+    /// - Rule 5, index of the text: no text of `oem_strings` is empty.
+    /// - Rule 6, index 0: the `kind` of the chassis is 1 to 127.
+    /// - Rule 7, index of the socket: `cores` is at least 1 and at most `threads`, which is at most 65,534.
+    /// - Rule 8, index of the module: `size_mib` is 1 to 16,777,216, and `speed` at most 65,534.
+    /// - Rule 9, index 0: ranges are given exactly where modules are.
+    /// - Rule 10, index of the range: `size_mib` is at least 1, the range ends within 2^32 MiB, and it begins at or behind the end of
+    ///   the one before.
+    /// - Rule 11, index 0: where ranges are given, those that begin below 4096 MiB are all memory below `top_mib`.
+    /// - Rule 12, index of the slot: `kind` and `width` are at least 1, `device` is at most 31, and `function` at most 7.
     /// - Rule 13, index 1: a machine with an HPET has ACPI tables.
     /// - Rule 16: `oem_id` (index 0) has at most 6 bytes, `oem_table_id` (index 1) at most 8, and neither ends in a space.
     /// - Rule 18, index 0: the address of the HPET is a multiple of 1024.
+    /// - Rule 24, index of the range: its `node` is 0.
     pub fn check(&self) -> Result<(), Broken>
         ensures { MatchResult result (λ _. broken_rule self.now ≡ None) (λ broken. broken_rule self.now ≡ Some broken) }
     {
-        if !(64..=3072).contains(&self.top_mib) {
-            return Err(Broken { rule: 1, index: 0 });
+        match first_broken(&self.breaches()) {
+            None => Ok(()),
+            Some(broken) => Err(broken),
         }
-        if !self.has_lawful_texts() {
-            return Err(Broken { rule: 3, index: 0 });
-        }
-        if !self.system.has_own_uuid() {
-            return Err(Broken { rule: 4, index: 0 });
-        }
-        if self.hpet.is_some() && self.acpi.is_none() {
-            return Err(Broken { rule: 13, index: 1 });
-        }
-        if let Some(index) = breach_of_acpi(&self.acpi) {
-            return Err(Broken { rule: 16, index });
-        }
-        if !has_hpet_address(self.hpet) {
-            return Err(Broken { rule: 18, index: 0 });
-        }
-        Ok(())
     }
 
-    fn has_lawful_texts(&self) -> bool
-        ensures { result ≡ list_all is_text (texts_of self.now) }
+    // Each rule's number, and the least index at which the machine breaks it, if it does.
+    fn breaches(&self) -> [(u16, Option<usize>); 16]
+        ensures { result ≡ breaches self.now }
     {
-        self.system.has_lawful_texts() && has_lawful_ids(&self.acpi)
+        [
+            (1, only_at(0, (64..=3072).contains(&self.top_mib))),
+            (2, self.long_list()),
+            (3, only_at(0, self.has_lawful_texts())),
+            (4, only_at(0, self.system.has_own_uuid())),
+            (5, empty_text(self.oem_strings.as_slice())),
+            (6, only_at(0, has_lawful_chassis(&self.chassis))),
+            (7, unlawful_socket(self.sockets.as_slice())),
+            (8, unlawful_dimm(self.dimms.as_slice())),
+            (9, only_at(0, self.has_ranges_of_its_dimms())),
+            (10, unlawful_range(self.ranges.as_slice())),
+            (11, only_at(0, self.has_memory_below_its_top())),
+            (12, unlawful_slot(self.slots.as_slice())),
+            (13, only_at(1, self.hpet.is_none() || self.acpi.is_some())),
+            (16, breach_of_acpi(&self.acpi)),
+            (18, only_at(0, has_hpet_address(self.hpet))),
+            (24, range_of_another_node(self.ranges.as_slice())),
+        ]
     }
 }
 
-fn has_lawful_ids(acpi: &Option<Acpi>) -> bool
-    ensures { result ≡ list_all is_text (acpi_texts acpi.now) }
+fn first_broken(breaches: &[(u16, Option<usize>)]) -> Option<Broken>
+    requires { (broken : ABroken) → first_broken breaches.now ≡ Some broken → broken.index < 2 ^ 32 }
+    ensures { result ≡ first_broken breaches.now }
 {
-    match acpi {
-        None => true,
-        Some(acpi) => is_lawful(&acpi.oem_id) && is_lawful(&acpi.oem_table_id),
-    }
-}
-
-// The first of the identifiers that doesn't fit its field.
-fn breach_of_acpi(acpi: &Option<Acpi>) -> Option<u32>
-    ensures { result ≡ breach_of_acpi acpi.now }
-{
-    match acpi {
-        Some(acpi) if !is_padded(6, &acpi.oem_id) => Some(0),
-        Some(acpi) if !is_padded(8, &acpi.oem_table_id) => Some(1),
-        _ => None,
-    }
-}
-
-// Whether a text fits a field of so many bytes that is padded with spaces.
-fn is_padded(size: usize, text: &Text) -> bool
-    ensures { result ≡ is_padded_text size text.now }
-{
-    let len = text.len();
-    len <= size && (len == 0 || *text.get(len - 1) != b' ')
-}
-
-fn has_hpet_address(hpet: Option<Hpet>) -> bool
-    ensures { result ≡ option_map_or is_hpet_address hpet true }
-{
-    match hpet {
-        None => true,
-        Some(hpet) => hpet.address % 1024 == 0,
-    }
-}
-
-impl System {
-    fn has_lawful_texts(&self) -> bool
-        ensures { result ≡ list_all is_text (system_texts self.now) }
-    {
-        is_lawful(&self.manufacturer)
-            && is_lawful(&self.product)
-            && is_lawful(&self.version)
-            && is_lawful(&self.serial)
-            && is_lawful(&self.sku)
-            && is_lawful(&self.family)
-    }
-
-    fn has_own_uuid(&self) -> bool
-        ensures { result ≡ option_map_or is_own_uuid self.now.uuid true }
-    {
-        match self.uuid {
-            None => true,
-            Some(uuid) => uuid != 0 && uuid != u128::MAX,
+    for breach in breaches {
+        if let Some(index) = breach.1 {
+            return Some(Broken {
+                rule: breach.0,
+                index: index as u32,
+            });
         }
     }
+    None
 }
 
-fn is_lawful(text: &Text) -> bool
-    ensures { result ≡ is_text text.now }
+// The breach of a rule that has no index but this one.
+fn only_at(index: usize, holds: bool) -> Option<usize>
+    ensures { result ≡ only_at index holds }
 {
-    text.len() <= 64 && are_printable(text.as_slice())
-}
-
-fn are_printable(bytes: &[u8]) -> bool
-    ensures { result ≡ list_all is_printable bytes.now }
-{
-    bytes.iter().all(|byte| (0x20..=0x7E).contains(byte))
+    if holds { None } else { Some(index) }
 }

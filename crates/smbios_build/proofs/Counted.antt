@@ -1,26 +1,32 @@
 -- How many bytes structures have.
-use Rattle.std.proofs.Common.{◌≡◌, ℕ, ◌+◌, ◌<◌, Bool, true, false, not, cond, min, max, List, [], ◌∷◌, ◌++◌, length, take, get_or, ◌==◌}
+use Rattle.std.proofs.Common.{◌≡◌, ℕ, ◌+◌, ◌<◌, ◌≤◌, Bool, true, false, not, cond, min, max, List, [], ◌∷◌, ◌++◌, length, take, get_or, ◌==◌}
 use Rattle.std.proofs.Common.{if◌then◌else◌, arith, refl, ap, sym, ◌∙◌, subst, length-append}
 use Rattle.std.specs.List.{AllByRecursion}
 use Rattle.std.proofs.lemmas.List.{take_more, append-nil}
 use Rattle.std.proofs.lemmas.List.Elements.{filter-append}
 use Rattle.std.proofs.lemmas.Grind.{flat_map-append}
 use Rattle.vt_bytes.specs.Numbers.{le_bytes}
+use Rattle.vt_layout.specs.declared.row.Row.{Row}
+use Rattle.vt_layout.specs.declared.row.Row.TheVariants.{Bytes}
+use Rattle.vt_layout.specs.Rows.{IsRow, size, spelled}
+use Rattle.table_model.specs.declared.smbios.Body.{Body}
+use Rattle.table_model.specs.declared.smbios.Body.TheVariants.{Raw}
 use Rattle.table_model.specs.declared.smbios.Structure.{Structure}
-use Rattle.table_model.specs.declared.smbios.Body.TheVariants.{System, Raw}
-use Rattle.table_model.specs.declared.system_information.SystemInfo.{SystemInfo}
-use Rattle.table_model.specs.Strings.{HasNoNul, IsString, with_nuls, string_set, strings_of}
-use Rattle.table_model.specs.SystemInformation.{info_texts}
-use Rattle.smbios_build.specs.Spelling.{kind_of, area_of, strings_in, structure_bytes, structures_bytes}
+use Rattle.table_model.specs.Strings.{HasNoNul, IsString, with_nuls, string_set, numbers_from, strings_of}
+use Rattle.table_model.specs.Numbered.{numbered}
+use Rattle.table_model.specs.Structures.{layout_of}
+use Rattle.table_model.proofs.WrittenBodies.{length-numbered}
+use Rattle.smbios_build.specs.Spelling.{formatted, layout_bytes, structure_bytes, structures_bytes}
 use Rattle.smbios_build.specs.Buildable.{IsRaw, IsBuildable}
-use Rattle.smbios_build.proofs.Texts.{each_string, strings_of-strings}
+use Rattle.table_model.proofs.WrittenAreas.{each_string}
+use Rattle.smbios_build.proofs.Texts.{strings_of-strings}
 
 -- a structure has its header, its area, and its strings
-pub length-structure_bytes : (s : Structure) → length (structure_bytes s) ≡ 4 + length (area_of s.body) + length (string_set (strings_in s.body))
-length-structure_bytes s =
-    let header : List ℕ = kind_of s.body ∷ (4 + length (area_of s.body)) ∷ le_bytes 2 s.handle in
-    length-append (header ++ area_of s.body) (string_set (strings_in s.body))
-    ∙ ap (λ n. n + length (string_set (strings_in s.body))) (length-append header (area_of s.body))
+pub length-structure : (number handle : ℕ) (area : List ℕ) (strings : List (List ℕ))
+    → length (formatted number handle area ++ string_set strings) ≡ 4 + length area + length (string_set strings)
+length-structure number handle area strings =
+    let header : List ℕ = number ∷ (4 + length area) ∷ le_bytes 2 handle in
+    length-append (header ++ area) (string_set strings) ∙ ap (λ n. n + length (string_set strings)) (length-append header area)
 
 -- strings that aren't empty, with their NULs and one more, or two NULs
 pub length-string_set : (strings : List (List ℕ)) → AllByRecursion IsString strings
@@ -58,30 +64,37 @@ one_counted texts count total after most within was is =
     omega (arith, sizes)
 
 -- a structure is counted by its area and its strings
-structure_counted : (s : Structure) (area strings total most : ℕ) → AllByRecursion IsString (strings_in s.body)
-    → area ≡ length (area_of s.body) → strings ≡ min (length (with_nuls (strings_in s.body))) most → total ≡ min (4 + area + max 2 (strings + 1)) most
+counted : (number handle : ℕ) (bytes : List ℕ) (texts : List (List ℕ)) (area strings total most : ℕ) → AllByRecursion IsString texts
+    → area ≡ length bytes → strings ≡ min (length (with_nuls texts)) most → total ≡ min (4 + area + max 2 (strings + 1)) most
+    → total ≡ min (length (formatted number handle bytes ++ string_set texts)) most
+counted number handle bytes texts area strings total most each area_is strings_are is =
+    omega (arith, length-structure number handle bytes texts, length-string_set texts each)
+
+pub typed_counted : (number handle : ℕ) (rows : List Row) (texts : List (List ℕ)) (area strings total most : ℕ) → AllByRecursion IsRow rows
+    → length texts ≤ 255 → AllByRecursion HasNoNul texts → area ≡ size rows → strings ≡ min (length (with_nuls (strings_of texts))) most
+    → total ≡ min (4 + area + max 2 (strings + 1)) most → total ≡ min (length (layout_bytes number handle rows texts)) most
+typed_counted number handle rows texts area strings total most are few none area_is =
+    counted number handle (spelled (numbered (numbers_from 1 texts) rows)) (strings_of texts) area strings total most (each_string texts none)
+    (area_is ∙ sym (length-numbered texts rows few are))
+
+-- the count of a structure whose body was found out
+pub counted_as : (s : Structure) (body : Body) (rows : List Row) (texts : List (List ℕ)) (total most : ℕ) → s.body ≡ body
+    → rows ≡ (layout_of body).rows → texts ≡ (layout_of body).texts → total ≡ min (length (layout_bytes 0 0 rows texts)) most
     → total ≡ min (length (structure_bytes s)) most
-structure_counted s area strings total most each area_is strings_are is =
-    omega (arith, length-structure_bytes s, length-string_set (strings_in s.body) each)
+counted_as s body rows texts total most is rows_are texts_are total_is =
+    total_is ∙ ap (λ r. min (length (layout_bytes 0 0 r texts)) most) (rows_are ∙ ap (λ b. (layout_of b).rows) (sym is))
+    ∙ ap (λ t. min (length (layout_bytes 0 0 (layout_of s.body).rows t)) most) (texts_are ∙ ap (λ b. (layout_of b).texts) (sym is))
 
-pub system_counted : (s : Structure) (info : SystemInfo) (area strings total most : ℕ) → s.body ≡ System info → IsBuildable s.body
-    → area ≡ length (area_of (System info)) → strings ≡ min (length (with_nuls (strings_of (info_texts info)))) most
+pub raw_counted : (s : Structure) (number : ℕ) (bytes : List ℕ) (texts : List (List ℕ)) (area strings total most : ℕ)
+    → s.body ≡ Raw number bytes texts → IsBuildable s.body → area ≡ length bytes → strings ≡ min (length (with_nuls (strings_of texts))) most
     → total ≡ min (4 + area + max 2 (strings + 1)) most → total ≡ min (length (structure_bytes s)) most
-system_counted s info area strings total most is able area_is strings_are =
-    let none : AllByRecursion HasNoNul (info_texts info) = subst IsBuildable is able in
-    structure_counted s area strings total most
-    (subst (λ body. AllByRecursion IsString (strings_in body)) (sym is) (each_string (info_texts info) none))
-    (area_is ∙ ap (λ body. length (area_of body)) (sym is))
-    (strings_are ∙ ap (λ body. min (length (with_nuls (strings_in body))) most) (sym is))
-
-pub raw_counted : (s : Structure) (kind : ℕ) (bytes : List ℕ) (texts : List (List ℕ)) (area strings total most : ℕ)
-    → s.body ≡ Raw kind bytes texts → IsBuildable s.body → area ≡ length bytes → strings ≡ min (length (with_nuls (strings_of texts))) most
-    → total ≡ min (4 + area + max 2 (strings + 1)) most → total ≡ min (length (structure_bytes s)) most
-raw_counted s kind bytes texts area strings total most is able area_is strings_are =
-    let raw : IsRaw kind bytes texts = subst IsBuildable is able in
-    structure_counted s area strings total most (subst (λ body. AllByRecursion IsString (strings_in body)) (sym is) raw.texts)
-    (area_is ∙ ap (λ body. length (area_of body)) (sym is))
-    (strings_are ∙ ap (λ all. min (length (with_nuls all)) most) (strings_of-strings texts raw.texts ∙ ap strings_in (sym is)))
+raw_counted s number bytes texts area strings total most is able area_is strings_are total_is =
+    let raw : IsRaw number bytes texts = subst IsBuildable is able in
+    let same = strings_of-strings texts raw.texts in
+    let row : List Row = Bytes (length bytes) bytes ∷ [] in
+    counted_as s (Raw number bytes texts) row texts total most is refl refl
+    (counted 0 0 (spelled (numbered (numbers_from 1 texts) row)) (strings_of texts) area strings total most
+    (subst (AllByRecursion IsString) (sym same) raw.texts) (area_is ∙ ap length (sym (append-nil bytes))) strings_are total_is)
 
 -- one structure more
 length-structures_bytes-more : (structures : List Structure) (k : ℕ) (other : Structure) → k < length structures

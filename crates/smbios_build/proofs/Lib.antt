@@ -1,6 +1,11 @@
 pub mod Cuts
-pub mod Numbered
+pub mod PutRows
+pub mod PutStructures
 pub mod Texts
 pub mod Read
 pub mod Counted
+pub mod FilledRows
+pub mod AcceptedTexts
+pub mod AcceptedBodies
 pub mod Accepted
+pub mod Handles

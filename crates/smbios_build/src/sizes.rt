@@ -1,14 +1,16 @@
 ghost use Rattle.std.specs.Prelude.{◌≡◌, ◌+◌, ◌≤◌, ◌==◌, min, max, map, length, if◌then◌else◌};
 ghost use Rattle.std.specs.List.{AllByRecursion};
-ghost use Rattle.vt_layout.specs.Rows.{spelled};
-ghost use Rattle.table_model.specs.Strings.{numbers_from, strings_of, with_nuls};
-ghost use Rattle.table_model.specs.SystemInformation.{info_rows, info_texts};
-ghost use Rattle.smbios_build.specs.Spelling.{structure_bytes, structures_bytes};
+ghost use Rattle.vt_layout.specs.Rows.{IsRow, size};
+ghost use Rattle.table_model.specs.Strings.{HasNoNul, IsString, strings_of, with_nuls};
+ghost use Rattle.smbios_build.specs.Spelling.{layout_bytes, structure_bytes, structures_bytes};
 ghost use Rattle.smbios_build.specs.Buildable.{IsBuildable};
 
-use crate::structure::texts_of;
-use table_model::{Body, Structure, SystemInfo, info_rows};
-use vt_layout::size_of;
+use table_model::{
+    Body, Structure, array_rows, bios_rows, bios_texts, boot_rows, chassis_rows, chassis_texts,
+    device_rows, device_texts, mapped_rows, oem_rows, processor_rows, processor_texts, slot_rows,
+    slot_texts, system_rows, system_texts,
+};
+use vt_layout::{Row, size_of};
 use vt_outside::Text;
 
 /// Counts the bytes that `structures` have when they are built. Each of them can be built. Returns the greatest `usize` when
@@ -29,10 +31,41 @@ fn structure_size(structure: &Structure) -> usize
     ensures { result ≡ min (length (structure_bytes structure.now)) usize.MAX }
 {
     match &structure.body {
-        Body::System(info) => whole_size(info_size(info), texts_size(&texts_of(info))),
-        Body::End => whole_size(0, 0),
+        Body::Bios(info) => typed_size(&bios_rows(info), &bios_texts(info)),
+        Body::System(info) => typed_size(&system_rows(info), &system_texts(info)),
+        Body::Chassis(info) => typed_size(&chassis_rows(info), &chassis_texts(info)),
+        Body::Processor(info) => typed_size(&processor_rows(info), &processor_texts(info)),
+        Body::Slot(info) => typed_size(&slot_rows(info), &slot_texts(info)),
+        Body::OemStrings(texts) => listed_size(&oem_rows(texts.as_slice()), texts.as_slice()),
+        Body::Array(info) => typed_size(&array_rows(info), &[]),
+        Body::Device(info) => typed_size(&device_rows(info), &device_texts(info)),
+        Body::Mapped(info) => typed_size(&mapped_rows(info), &[]),
+        Body::Boot(info) => typed_size(&boot_rows(info), &[]),
+        Body::End => typed_size(&[], &[]),
         Body::Raw { area, strings, .. } => whole_size(area.len(), strings_size(strings.as_slice())),
     }
+}
+
+// Counts a structure whose area has these rows, and in which the numbers of these texts stand.
+fn typed_size(rows: &[Row], texts: &[&Text]) -> usize
+    requires fit { AllByRecursion IsRow rows.now }
+    requires short { size rows.now ≤ 251 }
+    requires few { length texts.now ≤ 255 }
+    requires no_nuls { AllByRecursion HasNoNul (map (λ text. text.now) texts.now) }
+    ensures { result ≡ min (length (layout_bytes 0 0 rows.now (map (λ text. text.now) texts.now))) usize.MAX }
+{
+    whole_size(size_of(rows) as usize, texts_size(texts))
+}
+
+// Counts a structure whose area has these rows, and whose strings are these.
+fn listed_size(rows: &[Row], strings: &[Text]) -> usize
+    requires fit { AllByRecursion IsRow rows.now }
+    requires short { size rows.now ≤ 251 }
+    requires few { length strings.now ≤ 255 }
+    requires texts { AllByRecursion IsString strings.now }
+    ensures { result ≡ min (length (layout_bytes 0 0 rows.now strings.now)) usize.MAX }
+{
+    whole_size(size_of(rows) as usize, strings_size(strings))
 }
 
 // Counts a structure whose area has `area` bytes, and whose strings have so many with their NULs.
@@ -41,14 +74,6 @@ fn whole_size(area: usize, strings: usize) -> usize
     ensures { result ≡ min (4 + area + max 2 (strings + 1)) usize.MAX }
 {
     strings.saturating_add(1).max(2).saturating_add(4 + area)
-}
-
-// Counts the area of System Information.
-fn info_size(info: &SystemInfo) -> usize
-    ensures size { result ≡ length (spelled (info_rows (numbers_from 1 (info_texts info.now)) info.now)) }
-    ensures small { result ≤ 251 }
-{
-    size_of(&info_rows(&[0; 6], info)) as usize
 }
 
 // Counts the strings of `texts` with their NULs.

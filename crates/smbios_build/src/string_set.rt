@@ -1,6 +1,6 @@
-ghost use Rattle.std.specs.Prelude.{◌≡◌, ◌<◌, ◌≤◌, ◌+◌, ◌==◌, [], ◌∷◌, ◌++◌, length, map, IfOk, OnOk, OnErr, if◌then◌else◌};
+ghost use Rattle.std.specs.Prelude.{◌≡◌, ◌<◌, ◌≤◌, ◌+◌, ◌==◌, [], ◌∷◌, ◌++◌, length, IfOk, OnOk, OnErr, if◌then◌else◌};
 ghost use Rattle.std.specs.List.{AllByRecursion};
-ghost use Rattle.table_model.specs.Strings.{HasNoNul, IsString, numbers_from, strings_of, string_set};
+ghost use Rattle.table_model.specs.Strings.{HasNoNul, IsString, strings_of, string_set};
 
 use std::alloc::Global;
 use std::marker::Model;
@@ -71,26 +71,6 @@ impl StringSet {
         bytes.extend(self.bytes.as_slice())?;
         bytes.push(0)
     }
-}
-
-/// Adds the `N` texts of `texts` to `strings`, in order, and returns their numbers, 0 for an empty text. No text holds a NUL,
-/// and `strings` has at most 255 - `N` strings before. Returns `OutOfMemory` when memory runs out; some of the texts may then
-/// have been added.
-pub(crate) fn numbers_of<const N: usize>(
-    strings: &mut StringSet,
-    texts: &[&Text],
-) -> Result<[u8; N], OutOfMemory>
-    requires each { length texts.now ≡ N }
-    requires few { length strings.old + N ≤ 255 }
-    requires no_nuls { AllByRecursion (λ text. HasNoNul text.now) texts.now }
-    ensures numbers { IfOk result (λ numbers. numbers ≡ numbers_from (length strings.old + 1) (map (λ text. text.now) texts.now)) }
-    ensures ok { OnOk result (strings.new ≡ strings.old ++ strings_of (map (λ text. text.now) texts.now)) }
-{
-    let mut numbers = [0; N];
-    for (place, text) in texts.iter().enumerate() {
-        numbers[place] = strings.add(text)?;
-    }
-    Ok(numbers)
 }
 
 /// Returns the set of `strings`, in order. There are at most 255 of them, and none is empty or holds a NUL. The set takes its

@@ -1,16 +1,22 @@
 ghost use Rattle.std.specs.Prelude.{◌≡◌, ◌<◌, ◌≤◌, ◌+◌, ◌^◌, [], ◌∷◌, ◌++◌, length, map, OnOk};
 ghost use Rattle.std.specs.List.{AllByRecursion};
 ghost use Rattle.vt_bytes.specs.Numbers.{le_bytes};
-ghost use Rattle.vt_layout.specs.Rows.{IsRow, size, spelled};
+ghost use Rattle.vt_layout.specs.Rows.{IsRow, size, spelled, string_numbers};
 ghost use Rattle.table_model.specs.Strings.{HasNoNul, IsString, string_set};
-ghost use Rattle.table_model.specs.SystemInformation.{info_rows, info_texts};
 ghost use Rattle.table_model.specs.Smbios.{IsStructure};
-ghost use Rattle.smbios_build.specs.Spelling.{kind_of, formatted, structure_bytes};
-ghost use Rattle.smbios_build.specs.Buildable.{IsBuildable};
+ghost use Rattle.table_model.specs.Structures.{number_of};
+ghost use Rattle.smbios_build.specs.Spelling.{formatted, layout_bytes};
+ghost use Rattle.smbios_build.specs.Buildable.{IsBuildable, IsPut};
 
-use crate::string_set::{StringSet, numbers_of, set_of};
+use crate::numbered_rows::put_numbered;
+use crate::string_set::{StringSet, set_of};
 use std::alloc::Global;
-use table_model::{Body, Structure, SystemInfo, info_rows};
+use table_model::{
+    ARRAY_TYPE, BIOS_TYPE, BOOT_TYPE, Body, CHASSIS_TYPE, DEVICE_TYPE, END_TYPE, MAPPED_TYPE,
+    OEM_STRINGS_TYPE, PROCESSOR_TYPE, SLOT_TYPE, SYSTEM_TYPE, Structure, array_rows, bios_rows,
+    bios_texts, boot_rows, chassis_rows, chassis_texts, device_rows, device_texts, mapped_rows,
+    oem_rows, processor_rows, processor_texts, slot_rows, slot_texts, system_rows, system_texts,
+};
 use vt_layout::{Row, put_rows, size_of};
 use vt_outside::{Bytes, OutOfMemory, Text};
 
@@ -22,12 +28,70 @@ pub(crate) fn put_structure(
     structure: &Structure,
 ) -> Result<(), OutOfMemory>
     requires { IsBuildable structure.now.body }
-    ensures spelled { OnOk result (bytes.new ≡ bytes.old ++ structure_bytes structure.now) }
-    ensures read_again { OnOk result (IsStructure (structure_bytes structure.now) (kind_of structure.now.body) structure.now) }
+    ensures { OnOk result (IsPut structure.now bytes.old bytes.new) }
 {
+    let handle = structure.handle;
     match &structure.body {
-        Body::System(info) => put_system(alloc, bytes, structure.handle, info),
-        Body::End => put_raw(alloc, bytes, 127, structure.handle, &[], &[]),
+        Body::Bios(info) => put_typed(
+            alloc,
+            bytes,
+            BIOS_TYPE,
+            handle,
+            &bios_rows(info),
+            &bios_texts(info),
+        ),
+        Body::System(info) => put_typed(
+            alloc,
+            bytes,
+            SYSTEM_TYPE,
+            handle,
+            &system_rows(info),
+            &system_texts(info),
+        ),
+        Body::Chassis(info) => put_typed(
+            alloc,
+            bytes,
+            CHASSIS_TYPE,
+            handle,
+            &chassis_rows(info),
+            &chassis_texts(info),
+        ),
+        Body::Processor(info) => put_typed(
+            alloc,
+            bytes,
+            PROCESSOR_TYPE,
+            handle,
+            &processor_rows(info),
+            &processor_texts(info),
+        ),
+        Body::Slot(info) => put_typed(
+            alloc,
+            bytes,
+            SLOT_TYPE,
+            handle,
+            &slot_rows(info),
+            &slot_texts(info),
+        ),
+        Body::OemStrings(texts) => put_listed(
+            alloc,
+            bytes,
+            OEM_STRINGS_TYPE,
+            handle,
+            &oem_rows(texts.as_slice()),
+            texts.as_slice(),
+        ),
+        Body::Array(info) => put_typed(alloc, bytes, ARRAY_TYPE, handle, &array_rows(info), &[]),
+        Body::Device(info) => put_typed(
+            alloc,
+            bytes,
+            DEVICE_TYPE,
+            handle,
+            &device_rows(info),
+            &device_texts(info),
+        ),
+        Body::Mapped(info) => put_typed(alloc, bytes, MAPPED_TYPE, handle, &mapped_rows(info), &[]),
+        Body::Boot(info) => put_typed(alloc, bytes, BOOT_TYPE, handle, &boot_rows(info), &[]),
+        Body::End => put_typed(alloc, bytes, END_TYPE, handle, &[], &[]),
         Body::Raw {
             kind,
             area,
@@ -36,73 +100,63 @@ pub(crate) fn put_structure(
             alloc,
             bytes,
             *kind,
-            structure.handle,
+            handle,
             area.as_slice(),
             strings.as_slice(),
         ),
     }
 }
 
-/// Returns the texts of `info`, borrowed, in the order of their string numbers (7.2).
-pub(crate) fn texts_of(info: &SystemInfo) -> [&Text; 6]
-    ensures { map (λ text. text.now) result ≡ info_texts info.now }
-{
-    [
-        &info.manufacturer,
-        &info.product,
-        &info.version,
-        &info.serial,
-        &info.sku,
-        &info.family,
-    ]
-}
-
-// Appends System Information (7.2).
-fn put_system(
+// Appends a structure of the type `number` whose area has these rows, and in which the numbers of these texts stand.
+fn put_typed(
     alloc: Global,
     bytes: &mut Bytes,
+    number: u8,
     handle: u16,
-    info: &SystemInfo,
+    rows: &[Row],
+    texts: &[&Text],
 ) -> Result<(), OutOfMemory>
-    requires { AllByRecursion HasNoNul (info_texts info.now) }
-    ensures spelled { OnOk result (bytes.new ≡ bytes.old ++ structure_bytes (record { handle = handle; body = Body.System info.now })) }
-    ensures read_again { OnOk result (IsStructure (structure_bytes (record { handle = handle; body = Body.System info.now })) 1
-        (record { handle = handle; body = Body.System info.now })) }
+    requires fit { AllByRecursion IsRow rows.now }
+    requires short { size rows.now ≤ 251 }
+    requires each { length (string_numbers rows.now) ≡ length texts.now }
+    requires few { length texts.now ≤ 255 }
+    requires no_nuls { AllByRecursion HasNoNul (map (λ text. text.now) texts.now) }
+    ensures { OnOk result (bytes.new ≡ bytes.old ++ layout_bytes number handle rows.now (map (λ text. text.now) texts.now)) }
 {
     let mut strings = StringSet::new(alloc);
-    let numbers = numbers_of(&mut strings, &texts_of(info))?;
-    put_info(bytes, handle, &numbers, info)?;
+    put_header(bytes, number, size_of(rows) as u8, handle)?;
+    put_numbered(bytes, &mut strings, rows, texts)?;
     strings.put_after(bytes)
 }
 
-// Appends it without its strings.
-fn put_info(
+// Appends a structure of the type `number` whose area has these rows, none of them for the number of a string, and whose strings
+// are these.
+fn put_listed(
+    alloc: Global,
     bytes: &mut Bytes,
+    number: u8,
     handle: u16,
-    numbers: &[u8; 6],
-    info: &SystemInfo,
+    rows: &[Row],
+    strings: &[Text],
 ) -> Result<(), OutOfMemory>
-    ensures spelled { OnOk result (bytes.new ≡ bytes.old ++ formatted 1 handle (spelled (info_rows numbers.now info.now))) }
-    ensures fit { AllByRecursion IsRow (info_rows numbers.now info.now) }
-{
-    put_formatted(bytes, 1, handle, &info_rows(numbers, info))
-}
-
-// Appends a structure of the type `kind` whose area has these rows, without its strings.
-fn put_formatted(bytes: &mut Bytes, kind: u8, handle: u16, rows: &[Row]) -> Result<(), OutOfMemory>
     requires fit { AllByRecursion IsRow rows.now }
     requires short { size rows.now ≤ 251 }
-    ensures { OnOk result (bytes.new ≡ bytes.old ++ formatted kind handle (spelled rows.now)) }
+    requires none { string_numbers rows.now ≡ [] }
+    requires few { length strings.now ≤ 255 }
+    requires texts { AllByRecursion IsString strings.now }
+    ensures { OnOk result (bytes.new ≡ bytes.old ++ layout_bytes number handle rows.now strings.now) }
 {
-    put_header(bytes, kind, size_of(rows) as u8, handle)?;
-    put_rows(bytes, rows)
+    let set = set_of(alloc, strings)?;
+    put_header(bytes, number, size_of(rows) as u8, handle)?;
+    put_rows(bytes, rows)?;
+    set.put_after(bytes)
 }
 
-// Appends a structure of the type `kind` with this area and these strings.
+// Appends a structure of the type `number` with this area and these strings.
 fn put_raw(
     alloc: Global,
     bytes: &mut Bytes,
-    kind: u8,
+    number: u8,
     handle: u16,
     area: &[u8],
     strings: &[Text],
@@ -110,20 +164,19 @@ fn put_raw(
     requires short { length area.now ≤ 251 }
     requires few { length strings.now ≤ 255 }
     requires texts { AllByRecursion IsString strings.now }
-    ensures spelled { OnOk result (bytes.new ≡ bytes.old ++ formatted kind handle area.now ++ string_set strings.now) }
-    ensures handle { handle < 2 ^ 16 }
+    ensures { OnOk result (bytes.new ≡ bytes.old ++ formatted number handle area.now ++ string_set strings.now) }
 {
     let set = set_of(alloc, strings)?;
-    put_header(bytes, kind, area.len() as u8, handle)?;
+    put_header(bytes, number, area.len() as u8, handle)?;
     bytes.extend(area)?;
     set.put_after(bytes)
 }
 
 // Appends a structure's header (6.1.2): its type, its length, of which `size` bytes follow the header, and its handle.
-fn put_header(bytes: &mut Bytes, kind: u8, size: u8, handle: u16) -> Result<(), OutOfMemory>
+fn put_header(bytes: &mut Bytes, number: u8, size: u8, handle: u16) -> Result<(), OutOfMemory>
     requires { size ≤ 251 }
-    ensures { OnOk result (bytes.new ≡ bytes.old ++ kind ∷ (4 + size) ∷ le_bytes 2 handle) }
+    ensures { OnOk result (bytes.new ≡ bytes.old ++ number ∷ (4 + size) ∷ le_bytes 2 handle) }
 {
     let [low, high] = handle.to_le_bytes();
-    bytes.extend(&[kind, 4 + size, low, high])
+    bytes.extend(&[number, 4 + size, low, high])
 }

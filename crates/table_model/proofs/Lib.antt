@@ -14,5 +14,12 @@ pub mod OneStructures
 pub mod OneSmbios
 pub mod OneInventory
 pub mod WrittenAreas
+pub mod Numbered
+pub mod KnownStructures
+pub mod WrittenBodies
+pub mod PushedParts
+pub mod AcceptedParts
+pub mod PartsByType
+pub mod SameParts
 pub mod SameMachine
 pub mod Walked

@@ -5,7 +5,8 @@ use Rattle.vt_bytes.specs.Numbers.{le_bytes}
 use Rattle.table_model.specs.declared.smbios.Body.{Body}
 use Rattle.table_model.specs.declared.smbios.Structure.{Structure}
 use Rattle.table_model.specs.Strings.{AreStrings, string_set}
-use Rattle.table_model.specs.Smbios.{IsBody, IsStructure}
+use Rattle.table_model.specs.Structures.{IsBody}
+use Rattle.table_model.specs.Smbios.{IsStructure}
 use Rattle.table_model.proofs.OneStringSet.{one_string_set}
 use Rattle.table_model.proofs.OneBody.{one_body}
 

@@ -14,23 +14,30 @@ use Rattle.machine_desc.specs.declared.machine.Machine.{Machine}
 use Rattle.machine_desc.specs.declared.machine.System.{System as SystemPart}
 use Rattle.machine_desc.specs.declared.machine.Acpi.{Acpi}
 use Rattle.machine_desc.specs.declared.machine.Hpet.{Hpet}
+use Rattle.machine_desc.specs.declared.smbios_parts.Socket.{Socket}
+use Rattle.machine_desc.specs.declared.smbios_parts.Slot.{Slot as SlotPart}
+use Rattle.machine_desc.specs.declared.smbios_parts.Dimm.{Dimm}
+use Rattle.machine_desc.specs.declared.smbios_parts.MemRange.{MemRange}
+use Rattle.machine_desc.specs.declared.smbios_parts.Firmware.{Firmware}
+use Rattle.machine_desc.specs.declared.smbios_parts.Chassis.{Chassis as ChassisPart}
 use Rattle.machine_desc.specs.Rules.{only_at, is_own_uuid, ends_in_space, is_padded_text, breaches, IsAccepted, HasFitting}
 use Rattle.machine_desc.proofs.Kept.{each_is_kept}
-use Rattle.machine_desc.proofs.SameSystem.{same_system as same_parts}
+use Rattle.machine_desc.proofs.SameSystem.{same_system as system_by_parts}
 use Rattle.table_model.specs.declared.hpet.HpetTable.{HpetTable}
 use Rattle.table_model.specs.declared.acpi.AcpiTables.{AcpiTables}
 use Rattle.table_model.specs.declared.system_information.SystemInfo.{SystemInfo}
-use Rattle.table_model.specs.declared.smbios.Body.TheVariants.{System}
-use Rattle.table_model.specs.declared.smbios.Structure.{Structure}
 use Rattle.table_model.specs.declared.smbios.SmbiosTable.{SmbiosTable}
 use Rattle.table_model.specs.declared.inventory.Inventory.{Inventory}
 use Rattle.table_model.specs.Header.{padded}
 use Rattle.table_model.specs.Hpet.{hpet_of}
 use Rattle.table_model.specs.Acpi.{acpi_of}
-use Rattle.table_model.specs.SystemInformation.{uuid_field, info_of}
-use Rattle.table_model.specs.Smbios.{structures_of, smbios_of}
+use Rattle.table_model.specs.SystemInformation.{uuid_field, system_of}
+use Rattle.table_model.specs.MachineStructures.{structures_of}
+use Rattle.table_model.specs.Smbios.{smbios_of}
 use Rattle.table_model.specs.Inventory.{inventory_of}
 use Rattle.table_model.proofs.AcceptedAcpi.{accepted_padded}
+use Rattle.table_model.proofs.AcceptedParts.{lawful_parts}
+use Rattle.table_model.proofs.SameParts.{same_parts}
 
 -- the last byte of a text, where it has one, is no space
 abbrev NoSpace : List ℕ → Type 0
@@ -115,23 +122,16 @@ only_none index false none = absurd (cc)
 own_uuid : (m : Machine) → IsAccepted m → option_map_or is_own_uuid m.system.uuid true ≡ true
 own_uuid m accepted = only_none 0 (option_map_or is_own_uuid m.system.uuid true) (each_is_kept 4 (breaches m) accepted)
 
--- its first structure
-abbrev system_structure : SystemPart → Structure
-system_structure s = record { handle = 0x0100; body = System (info_of s) }
+-- a machine's structures are in its inventory
+structures_in : (a b : Machine) → inventory_of a ≡ inventory_of b → structures_of a ≡ structures_of b
+structures_in a b same =
+    let shown : ◌≡◌ {A = Option SmbiosTable} (Some (smbios_of a)) (Some (smbios_of b)) = ap (λ (i : Inventory). i.smbios) same in
+    let tables : smbios_of a ≡ smbios_of b = cc in
+    ap (λ (t : SmbiosTable). t.structures) tables
 
--- a machine's System Information is in its inventory
-info_in : (a b : Machine) → inventory_of a ≡ inventory_of b → info_of a.system ≡ info_of b.system
-info_in a b same =
-    let shown : ◌≡◌ {A = Option SmbiosTable} (Some (smbios_of a.system)) (Some (smbios_of b.system)) = ap (λ (i : Inventory). i.smbios) same in
-    let tables : smbios_of a.system ≡ smbios_of b.system = cc in
-    let lists : structures_of a.system ≡ structures_of b.system = ap (λ (t : SmbiosTable). t.structures) tables in
-    let firsts : system_structure a.system ≡ system_structure b.system = cc in
-    let bodies : System (info_of a.system) ≡ System (info_of b.system) = ap (λ (s : Structure). s.body) firsts in
-    cc
-
-same_system : (a b : Machine) → HasFitting a → HasFitting b → IsAccepted a → IsAccepted b → inventory_of a ≡ inventory_of b → a.system ≡ b.system
-same_system a b a_fits b_fits a_accepted b_accepted same =
-    let infos = info_in a b same in
+same_system : (a b : Machine) → HasFitting a → HasFitting b → IsAccepted a → IsAccepted b → system_of a.system ≡ system_of b.system
+    → a.system ≡ b.system
+same_system a b a_fits b_fits a_accepted b_accepted infos =
     let manufacturer : a.system.manufacturer ≡ b.system.manufacturer = ap (λ (i : SystemInfo). i.manufacturer) infos in
     let product : a.system.product ≡ b.system.product = ap (λ (i : SystemInfo). i.product) infos in
     let version : a.system.version ≡ b.system.version = ap (λ (i : SystemInfo). i.version) infos in
@@ -140,7 +140,7 @@ same_system a b a_fits b_fits a_accepted b_accepted same =
     let family : a.system.family ≡ b.system.family = ap (λ (i : SystemInfo). i.family) infos in
     let uuid : a.system.uuid ≡ b.system.uuid =
     one_uuid a.system.uuid b.system.uuid a_fits b_fits (own_uuid a a_accepted) (own_uuid b b_accepted) (ap (λ (i : SystemInfo). i.uuid) infos) in
-    same_parts a.system b.system manufacturer product version serial sku family uuid
+    system_by_parts a.system b.system manufacturer product version serial sku family uuid
 
 -- the same tables are of the same parts, where each part is got back from its table
 same_part : {Part T : Type 0} (of others : Part → T) (back : T → Part) → ((part : Part) → back (of part) ≡ part)
@@ -195,15 +195,35 @@ same_tables a b (Some x) (Some y) a_has b_has a_accepted b_accepted same =
     }
 
 -- the machine of these parts
-machine_from : ℕ → SystemPart → Option Acpi → Option Hpet → Machine
-machine_from top_mib system acpi hpet = record { top_mib = top_mib; system = system; acpi = acpi; hpet = hpet }
+machine_from : ℕ → List (List ℕ) → SystemPart → Option Firmware → Option ChassisPart → List Socket → List Dimm → List MemRange → List SlotPart
+    → Option Acpi → Option Hpet → Machine
+machine_from top_mib oem_strings system firmware chassis sockets dimms ranges slots acpi hpet = record {
+  top_mib = top_mib;
+  oem_strings = oem_strings;
+  system = system;
+  firmware = firmware;
+  chassis = chassis;
+  sockets = sockets;
+  dimms = dimms;
+  ranges = ranges;
+  slots = slots;
+  acpi = acpi;
+  hpet = hpet;
+}
+
+machine_from-parts : (m : Machine)
+    → machine_from m.top_mib m.oem_strings m.system m.firmware m.chassis m.sockets m.dimms m.ranges m.slots m.acpi m.hpet ≡ m
+unfolding machine_from
+machine_from-parts m = refl
 
 pub same_machine : (a b : Machine) → HasFitting a → HasFitting b → IsAccepted a → IsAccepted b → inventory_of a ≡ inventory_of b → a ≡ b
-unfolding machine_from
 same_machine a b a_fits b_fits a_accepted b_accepted same =
     let tops : a.top_mib * 0x100000 ≡ b.top_mib * 0x100000 = ap (λ (i : Inventory). i.top) same in
     let top : a.top_mib ≡ b.top_mib = omega arith in
-    let system = same_system a b a_fits b_fits a_accepted b_accepted same in
+    let parts = same_parts a b (lawful_parts a a_accepted) (lawful_parts b b_accepted) (structures_in a b same) in
+    let system : a.system ≡ b.system = same_system a b a_fits b_fits a_accepted b_accepted parts.system in
     let tables = same_tables a b a.acpi b.acpi refl refl a_accepted b_accepted (ap (λ (i : Inventory). i.acpi) same) in
-    ap (λ n. machine_from n a.system a.acpi a.hpet) top ∙ ap (λ s. machine_from b.top_mib s a.acpi a.hpet) system
-    ∙ ap (λ o. machine_from b.top_mib b.system o a.hpet) tables.acpi ∙ ap (machine_from b.top_mib b.system b.acpi) tables.hpet
+    let all : machine_from a.top_mib a.oem_strings a.system a.firmware a.chassis a.sockets a.dimms a.ranges a.slots a.acpi a.hpet
+    ≡ machine_from b.top_mib b.oem_strings b.system b.firmware b.chassis b.sockets b.dimms b.ranges b.slots b.acpi b.hpet =
+    cc (parts.firmware, parts.chassis, parts.sockets, parts.slots, parts.oem_strings, parts.dimms, parts.ranges, tables.acpi, tables.hpet) in
+    sym (machine_from-parts a) ∙ all ∙ machine_from-parts b

@@ -1,17 +1,15 @@
 -- The area and the strings of a structure, as they are written, are read as its texts.
-use Rattle.std.proofs.Common.{◌≡◌, ℕ, suc, ◌+◌, false, not, cond, List, [], ◌∷◌, ◌++◌, length, Some, slice_index, ◌==◌, arith, refl, ap, sym}
+use Rattle.std.proofs.Common.{◌≡◌, ℕ, suc, ◌+◌, false, not, cond, List, [], ◌∷◌, ◌++◌, length, Some, ◌==◌, arith, refl, ap, sym}
 use Rattle.std.proofs.Common.{◌∙◌, subst, append_assoc, length-append}
 use Rattle.std.specs.List.{slice_get, AllByRecursion}
 use Rattle.std.proofs.lemmas.Bool.{cond-false}
 use Rattle.std.proofs.lemmas.Bool.Decides.{nat_tests}
 use Rattle.vt_layout.specs.declared.row.Row.{Row}
-use Rattle.vt_layout.specs.Rows.{IsRow, IsPlain, spelled, string_numbers}
+use Rattle.vt_layout.specs.Rows.{IsRow, IsPlain, spelled}
 use Rattle.vt_layout.proofs.Sizes.{length-spelled}
 use Rattle.vt_layout.proofs.Spelled.{spelled_shown}
-use Rattle.table_model.specs.declared.system_information.SystemInfo.{SystemInfo}
 use Rattle.table_model.specs.Strings.{HasNoNul, IsString, AreStrings, string_of, AreNamed, numbers_from, strings_of}
-use Rattle.table_model.specs.SystemInformation.{info_rows, info_texts}
-use Rattle.table_model.specs.Smbios.{IsArea}
+use Rattle.table_model.specs.Structures.{IsArea}
 
 -- the string after others
 slice_get-next : (before : List (List ℕ)) (text : List ℕ) (after : List (List ℕ)) → slice_get (before ++ text ∷ after) (length before) ≡ Some text
@@ -23,13 +21,13 @@ not_empty : (byte : ℕ) (text : List ℕ) → (length (byte ∷ text) == 0) ≡
 not_empty byte text = grind (arith, nat_tests)
 
 -- it gets the next number
-numbers_from-next : (next byte : ℕ) (text : List ℕ) (texts : List (List ℕ))
+pub numbers_from-next : (next byte : ℕ) (text : List ℕ) (texts : List (List ℕ))
     → numbers_from next ((byte ∷ text) ∷ texts) ≡ next ∷ numbers_from (next + 1) texts
 numbers_from-next next byte text texts =
     cond-false _ (0 ∷ numbers_from next texts) (next ∷ numbers_from (next + 1) texts) (not_empty byte text)
 
 -- it is one of the strings
-strings_of-next : (byte : ℕ) (text : List ℕ) (texts : List (List ℕ)) → strings_of ((byte ∷ text) ∷ texts) ≡ (byte ∷ text) ∷ strings_of texts
+pub strings_of-next : (byte : ℕ) (text : List ℕ) (texts : List (List ℕ)) → strings_of ((byte ∷ text) ∷ texts) ≡ (byte ∷ text) ∷ strings_of texts
 strings_of-next byte text texts = ap (λ empty. cond (not empty) ((byte ∷ text) ∷ strings_of texts) (strings_of texts)) (not_empty byte text)
 
 -- the texts that aren't empty, after other strings, are the strings of their numbers
@@ -54,7 +52,7 @@ pub texts_named : (texts : List (List ℕ)) → AreNamed (strings_of texts) (num
 texts_named texts = named_after [] texts 1 refl
 
 -- texts that aren't empty and hold no NUL are strings
-each_string : (texts : List (List ℕ)) → AllByRecursion HasNoNul texts → AllByRecursion IsString (strings_of texts)
+pub each_string : (texts : List (List ℕ)) → AllByRecursion HasNoNul texts → AllByRecursion IsString (strings_of texts)
 each_string [] none = tt
 each_string ([] ∷ texts) none = each_string texts none.1
 each_string ((byte ∷ text) ∷ texts) none =
@@ -70,38 +68,17 @@ pub texts_strings : (texts : List (List ℕ)) → AllByRecursion HasNoNul texts 
 texts_strings texts none = are_strings (strings_of texts) (each_string texts none)
 
 -- rows with the numbers of texts, as they are written, are the area of these texts
-pub spelled_area : (rows : List Row) (texts : List (List ℕ)) → AllByRecursion IsRow rows → AllByRecursion IsPlain rows
-    → string_numbers rows ≡ numbers_from 1 texts → IsArea (spelled rows) (strings_of texts) rows texts
-spelled_area rows texts are plain numbered = record {
+pub spelled_area : (rows : List Row) (numbers : List ℕ) (texts : List (List ℕ)) → AllByRecursion IsRow rows → AllByRecursion IsPlain rows
+    → numbers ≡ numbers_from 1 texts → IsArea (spelled rows) (strings_of texts) rows numbers texts
+spelled_area rows numbers texts are plain named = record {
   filled = length-spelled rows are;
   shown = spelled_shown rows are plain;
-  named = subst (λ numbers. AreNamed (strings_of texts) numbers texts) (sym numbered) (texts_named texts);
+  named = subst (λ given. AreNamed (strings_of texts) given texts) (sym named) (texts_named texts);
 }
 
--- a list of six by its elements
-six : (numbers : List ℕ) → length numbers ≡ 6
-    → slice_index numbers 0 ∷ slice_index numbers 1 ∷ slice_index numbers 2 ∷ slice_index numbers 3 ∷ slice_index numbers 4 ∷ slice_index numbers 5 ∷ []
-    ≡ numbers
-six [] long = absurd (omega arith)
-six (a ∷ []) long = absurd (omega arith)
-six (a ∷ b ∷ []) long = absurd (omega arith)
-six (a ∷ b ∷ c ∷ []) long = absurd (omega arith)
-six (a ∷ b ∷ c ∷ d ∷ []) long = absurd (omega arith)
-six (a ∷ b ∷ c ∷ d ∷ e ∷ []) long = absurd (omega arith)
-six (a ∷ b ∷ c ∷ d ∷ e ∷ f ∷ []) long = refl
-six (a ∷ b ∷ c ∷ d ∷ e ∷ f ∷ g ∷ more) long = absurd (omega arith)
-
 -- as many numbers as texts
-length-numbers_from : (next : ℕ) (texts : List (List ℕ)) → length (numbers_from next texts) ≡ length texts
+pub length-numbers_from : (next : ℕ) (texts : List (List ℕ)) → length (numbers_from next texts) ≡ length texts
 length-numbers_from next [] = refl
 length-numbers_from next ([] ∷ texts) = ap suc (length-numbers_from next texts)
 length-numbers_from next ((byte ∷ text) ∷ texts) =
     ap length (numbers_from-next next byte text texts) ∙ ap suc (length-numbers_from (next + 1) texts)
-
--- System Information with the numbers of its texts, as it is written
-pub spelled_info : (i : SystemInfo) → AllByRecursion IsRow (info_rows (numbers_from 1 (info_texts i)) i)
-    → IsArea (spelled (info_rows (numbers_from 1 (info_texts i)) i)) (strings_of (info_texts i)) (info_rows (numbers_from 1 (info_texts i)) i)
-    (info_texts i)
-spelled_info i are =
-    spelled_area (info_rows (numbers_from 1 (info_texts i)) i) (info_texts i) are (tt, (tt, (tt, (tt, (tt, (tt, (tt, (tt, tt))))))))
-    (six (numbers_from 1 (info_texts i)) (length-numbers_from 1 (info_texts i)))

@@ -19,6 +19,6 @@ pub record Shows (top : ℕ) (view : View) (inventory : Inventory) : Type 0 wher
 abbrev pub inventory_of : Machine → Inventory
 inventory_of m = record {
   top = m.top_mib * 0x100000;
-  smbios = Some (smbios_of m.system);
+  smbios = Some (smbios_of m);
   acpi = option_map (acpi_of m) m.acpi;
 }

@@ -28,7 +28,7 @@ pub fn inventory_of(alloc: Global, machine: &Machine) -> Result<Inventory, OutOf
     requires { IsAccepted machine.now }
     ensures { IfOk result (λ inventory. inventory ≡ inventory_of machine.now) }
 {
-    let smbios = smbios_of(alloc, &machine.system)?;
+    let smbios = smbios_of(alloc, machine)?;
     let acpi = match &machine.acpi {
         Some(acpi) => Some(acpi_of(alloc, machine, acpi)),
         None => None,

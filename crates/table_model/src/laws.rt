@@ -5,7 +5,7 @@ ghost use Rattle.std.specs.List.{AllByRecursion};
 ghost use Rattle.vt_bytes.specs.View.{View};
 ghost use Rattle.vt_layout.specs.declared.row.Row.{Row};
 ghost use Rattle.vt_layout.specs.declared.row.Row.TheVariants.{Pointer};
-ghost use Rattle.vt_layout.specs.Rows.{IsRow, IsPlain, spelled, string_numbers};
+ghost use Rattle.vt_layout.specs.Rows.{IsRow, IsPlain, spelled};
 ghost use Rattle.vt_layout.specs.Shown.{LayoutHeld};
 ghost use Rattle.machine_desc.specs.declared.machine.Machine.{Machine};
 ghost use Rattle.machine_desc.specs.declared.machine.Acpi.{Acpi};
@@ -13,15 +13,13 @@ ghost use Rattle.machine_desc.specs.Rules.{IsAccepted, HasFitting};
 ghost use Rattle.table_model.specs.declared.header.Head.{Head};
 ghost use Rattle.table_model.specs.declared.acpi.AcpiTables.{AcpiTables};
 ghost use Rattle.table_model.specs.declared.acpi.Table.{Table};
-ghost use Rattle.table_model.specs.declared.system_information.SystemInfo.{SystemInfo};
 ghost use Rattle.table_model.specs.declared.inventory.Inventory.{Inventory};
 ghost use Rattle.table_model.specs.Header.{head_of, padded};
 ghost use Rattle.table_model.specs.Acpi.{IsAt, IsWritable, rows_of, linked_table, Walks, no_tables, tables_of, acpi_of};
 ghost use Rattle.table_model.specs.Walked.{AreAt, AddAll};
 ghost use Rattle.table_model.specs.Xsdt.{IsXsdt, xsdt_rows, given};
 ghost use Rattle.table_model.specs.Strings.{HasNoNul, AreStrings, AreNamed, numbers_from, strings_of};
-ghost use Rattle.table_model.specs.SystemInformation.{info_rows, info_texts};
-ghost use Rattle.table_model.specs.Smbios.{IsArea};
+ghost use Rattle.table_model.specs.Structures.{IsArea};
 ghost use Rattle.table_model.specs.Inventory.{Shows, inventory_of};
 
 /// States that at most one inventory is shown by a view of memory below a top.
@@ -78,13 +76,6 @@ pub fn held_xsdt_is_there()
 pub fn written_area_is_read()
     ensures named { (texts : List (List ℕ)) → AreNamed (strings_of texts) (numbers_from 1 texts) texts }
     ensures strings { (texts : List (List ℕ)) → AllByRecursion HasNoNul texts → AreStrings (strings_of texts) }
-    ensures area { (rows : List Row) (texts : List (List ℕ)) → AllByRecursion IsRow rows → AllByRecursion IsPlain rows
-        → string_numbers rows ≡ numbers_from 1 texts → IsArea (spelled rows) (strings_of texts) rows texts }
-{}
-
-/// States that System Information, as it is written, is read as it was.
-pub fn written_information_is_read()
-    ensures { (info : SystemInfo) → AllByRecursion IsRow (info_rows (numbers_from 1 (info_texts info)) info)
-        → IsArea (spelled (info_rows (numbers_from 1 (info_texts info)) info)) (strings_of (info_texts info))
-        (info_rows (numbers_from 1 (info_texts info)) info) (info_texts info) }
+    ensures area { (rows : List Row) (numbers : List ℕ) (texts : List (List ℕ)) → AllByRecursion IsRow rows → AllByRecursion IsPlain rows
+        → numbers ≡ numbers_from 1 texts → IsArea (spelled rows) (strings_of texts) rows numbers texts }
 {}

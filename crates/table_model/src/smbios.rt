@@ -1,8 +1,18 @@
 ghost use Rattle.std.specs.Prelude.{◌≡◌, IfOk};
-ghost use Rattle.table_model.specs.Smbios.{structures_of, smbios_of};
+ghost use Rattle.machine_desc.specs.Rules.{IsAccepted};
+ghost use Rattle.table_model.specs.Smbios.{smbios_of};
 
-use crate::system_information::{SystemInfo, info_of};
-use machine_desc::System;
+use crate::bios_information::BiosInfo;
+use crate::boot_information::BootInfo;
+use crate::chassis_information::ChassisInfo;
+use crate::machine_structures::structures_of;
+use crate::mapped_address::MappedInfo;
+use crate::memory_array::ArrayInfo;
+use crate::memory_device::DeviceInfo;
+use crate::processor_information::ProcessorInfo;
+use crate::slot_information::SlotInfo;
+use crate::system_information::SystemInfo;
+use machine_desc::Machine;
 use std::alloc::Global;
 use vt_outside::{Bytes, List, OutOfMemory, Text};
 
@@ -28,11 +38,29 @@ pub struct Structure {
     pub body: Body,
 }
 
-/// What a structure says.
+/// What a structure says. Each variant but the last stands for one type with an area of one length, which its rows fill.
 #[derive(Debug, Drop)]
 pub enum Body {
-    /// System Information, type 1, whose area has 23 bytes behind the structure's header.
+    /// BIOS Information, type 0.
+    Bios(BiosInfo),
+    /// System Information, type 1.
     System(SystemInfo),
+    /// System Enclosure or Chassis, type 3.
+    Chassis(ChassisInfo),
+    /// Processor Information, type 4.
+    Processor(ProcessorInfo),
+    /// System Slots, type 9.
+    Slot(SlotInfo),
+    /// OEM Strings, type 11: texts of the machine's maker.
+    OemStrings(List<Text>),
+    /// Physical Memory Array, type 16.
+    Array(ArrayInfo),
+    /// Memory Device, type 17.
+    Device(DeviceInfo),
+    /// Memory Array Mapped Address, type 19.
+    Mapped(MappedInfo),
+    /// System Boot Information, type 32.
+    Boot(BootInfo),
     /// The end of the table, type 127 without an area (7.45).
     End,
     /// A structure of another type, or of one of these with an area of another length.
@@ -46,32 +74,16 @@ pub enum Body {
     },
 }
 
-/// Returns the SMBIOS table of a machine's `system`: version 3.0, System Information and the end. It takes its memory from
+/// Returns the SMBIOS table of `machine`, which is accepted: version 3.0 and the machine's structures. It takes its memory from
 /// `alloc`. Returns `OutOfMemory` when memory runs out.
-pub fn smbios_of(alloc: Global, system: &System) -> Result<SmbiosTable, OutOfMemory>
-    ensures { IfOk result (λ table. table ≡ smbios_of system.now) }
+pub fn smbios_of(alloc: Global, machine: &Machine) -> Result<SmbiosTable, OutOfMemory>
+    requires { IsAccepted machine.now }
+    ensures { IfOk result (λ table. table ≡ smbios_of machine.now) }
 {
     Ok(SmbiosTable {
         major: 3,
         minor: 0,
         docrev: 0,
-        structures: structures_of(alloc, system)?,
+        structures: structures_of(alloc, machine)?,
     })
-}
-
-/// Returns the structures of a machine's `system`, in order: System Information with the handle 0x0100, and the end with the
-/// handle 0x7F00. The list takes its memory from `alloc`. Returns `OutOfMemory` when memory runs out.
-pub fn structures_of(alloc: Global, system: &System) -> Result<List<Structure>, OutOfMemory>
-    ensures { IfOk result (λ structures. structures ≡ structures_of system.now) }
-{
-    let mut structures = List::new(alloc);
-    structures.push(Structure {
-        handle: 0x0100,
-        body: Body::System(info_of(system)?),
-    })?;
-    structures.push(Structure {
-        handle: 0x7F00,
-        body: Body::End,
-    })?;
-    Ok(structures)
 }

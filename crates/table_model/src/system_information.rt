@@ -1,8 +1,10 @@
-ghost use Rattle.std.specs.Prelude.{◌≡◌, ◌<◌, IfOk};
+ghost use Rattle.std.specs.Prelude.{◌≡◌, ◌<◌, map, IfOk};
 ghost use Rattle.std.specs.List.{AllByRecursion};
 ghost use Rattle.vt_layout.specs.Rows.{IsRow};
-ghost use Rattle.table_model.specs.SystemInformation.{info_rows, info_of, uuid_field};
+ghost use Rattle.table_model.specs.SystemInformation.{system_rows, system_texts, system_of, uuid_field};
 
+use crate::fields::{byte, string};
+use crate::texts::copies_of;
 use machine_desc::System;
 use uuid::Uuid;
 use vt_layout::{Row, ShortBytes};
@@ -29,28 +31,41 @@ pub struct SystemInfo {
     pub family: Text,
 }
 
-/// Returns the rows of the formatted area of `info` behind its header (DSP0134 7.2). `numbers` are the string numbers of its
-/// texts, in the order manufacturer, product, version, serial number, stock keeping unit, family.
-pub fn info_rows(numbers: &[u8; 6], info: &SystemInfo) -> [Row; 8]
-    ensures rows { result ≡ info_rows numbers.now info.now }
+/// Returns the rows of the area of `info` behind its header (DSP0134 7.2), with 0 for the number of each string.
+pub fn system_rows(info: &SystemInfo) -> [Row; 8]
+    ensures rows { result ≡ system_rows info.now }
     ensures fit { AllByRecursion IsRow result }
 {
     [
-        Row::StringNumber(numbers[0]),
-        Row::StringNumber(numbers[1]),
-        Row::StringNumber(numbers[2]),
-        Row::StringNumber(numbers[3]),
+        string(),
+        string(),
+        string(),
+        string(),
         Row::Bytes(16, ShortBytes::of(&info.uuid)),
-        Row::Number(1, u64::from(info.wake_up)),
-        Row::StringNumber(numbers[4]),
-        Row::StringNumber(numbers[5]),
+        byte(info.wake_up),
+        string(),
+        string(),
+    ]
+}
+
+/// Returns the texts of `info`, in the order of the rows of their numbers.
+pub fn system_texts(info: &SystemInfo) -> [&Text; 6]
+    ensures { map (λ text. text.now) result ≡ system_texts info.now }
+{
+    [
+        &info.manufacturer,
+        &info.product,
+        &info.version,
+        &info.serial,
+        &info.sku,
+        &info.family,
     ]
 }
 
 /// Returns the System Information of a machine's `system`, with copies of its texts. The wake-up type is 6, the power switch
 /// (DSP0134 7.2.2). Returns `OutOfMemory` when memory runs out.
-pub fn info_of(system: &System) -> Result<SystemInfo, OutOfMemory>
-    ensures { IfOk result (λ info. info ≡ info_of system.now) }
+pub fn system_of(system: &System) -> Result<SystemInfo, OutOfMemory>
+    ensures { IfOk result (λ info. info ≡ system_of system.now) }
 {
     let (manufacturer, product, version) = copies_of(
         &system.manufacturer,
@@ -68,14 +83,6 @@ pub fn info_of(system: &System) -> Result<SystemInfo, OutOfMemory>
         sku,
         family,
     })
-}
-
-fn copies_of(first: &Text, second: &Text, third: &Text) -> Result<(Text, Text, Text), OutOfMemory>
-    ensures first { IfOk result (λ texts. texts.0 ≡ first.now) }
-    ensures second { IfOk result (λ texts. texts.1 ≡ second.now) }
-    ensures third { IfOk result (λ texts. texts.2 ≡ third.now) }
-{
-    Ok((first.copy()?, second.copy()?, third.copy()?))
 }
 
 /// Returns the sixteen bytes of `uuid` with the first three fields little-endian, or sixteen zeros when it is `None` (7.2.1).

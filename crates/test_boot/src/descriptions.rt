@@ -134,8 +134,8 @@ static REFUSED: [(&str, &str); 44] = [
         "description: unknown key root 0 colour",
     ),
     (
-        "version = 1\ntop_mib = 64\nsystem = {}\noem_strings = []\n",
-        "description: unknown key root 0 oem_strings",
+        "version = 1\ntop_mib = 64\nsystem = {}\noem_string = []\n",
+        "description: unknown key root 0 oem_string",
     ),
     (
         "version = 1\ntop_mib = 64\nsystem = {}\n\"\" = 1\n",

@@ -1,6 +1,6 @@
 //! Tests of the command `boot`, through the top call over streams in memory: descriptions that are refused and accepted, the dumps
-//! of the machines that they describe, other fill bytes, policies, seeds and events, streams that fail, inputs of the greatest length,
-//! and worlds over many runs.
+//! of the machines that they describe, with every part that SMBIOS tells among them, other fill bytes, policies, seeds and events,
+//! streams that fail, inputs of the greatest length, and worlds over many runs.
 #![tactic(auto)]
 
 #[cfg(test)]
@@ -15,6 +15,8 @@ mod events;
 mod fills;
 #[cfg(test)]
 mod limits;
+#[cfg(test)]
+mod parts;
 #[cfg(test)]
 mod places;
 #[cfg(test)]

@@ -1,6 +1,6 @@
 //! Each fault at each table, and of the rules: the text of a description, and its first fault.
 
-use crate::told::told;
+use crate::told::{are_told, told};
 use std::test::Fail;
 
 // The root.
@@ -12,7 +12,7 @@ const AT_THE_ROOT: [(&str, &str); 47] = [
     ("versions = 1\nversion = 2", "unknown 0 0 versions"),
     ("Version = 1", "unknown 0 0 Version"),
     ("'\u{e9}' = 1", "unknown 0 0 \u{e9}"),
-    ("firmware = {}\nversion = 1", "unknown 0 0 firmware"),
+    ("cpu = {}\nversion = 1", "unknown 0 0 cpu"),
     ("[colour]\nx = 1\n[bus]", "unknown 0 0 bus"),
     ("[[cpu]]", "unknown 0 0 cpu"),
     ("top_mib = 64", "missing 0 0 0"),
@@ -38,46 +38,46 @@ const AT_THE_ROOT: [(&str, &str); 47] = [
     ("version = 1\ntop_mib = []", "wrong kind 0 0 1"),
     ("version = 1\ntop_mib = -64", "out of range 0 0 1"),
     ("version = 1\ntop_mib = 4294967296", "out of range 0 0 1"),
-    ("version = 1\ntop_mib = 4294967295", "missing 0 0 2"),
-    ("version = 1\ntop_mib = 64\n", "missing 0 0 2"),
-    ("version = 1\ntop_mib = 64\n[acpi]\nx = 1", "missing 0 0 2"),
-    ("version = 1\ntop_mib = 64\nsystem = 1", "wrong kind 0 0 2"),
+    ("version = 1\ntop_mib = 4294967295", "missing 0 0 3"),
+    ("version = 1\ntop_mib = 64\n", "missing 0 0 3"),
+    ("version = 1\ntop_mib = 64\n[acpi]\nx = 1", "missing 0 0 3"),
+    ("version = 1\ntop_mib = 64\nsystem = 1", "wrong kind 0 0 3"),
     (
         "version = 1\ntop_mib = 64\nsystem = 'a'",
-        "wrong kind 0 0 2",
+        "wrong kind 0 0 3",
     ),
     (
         "version = 1\ntop_mib = 64\nsystem = [{}]",
-        "wrong kind 0 0 2",
+        "wrong kind 0 0 3",
     ),
-    ("version = 1\ntop_mib = 64\n[[system]]", "wrong kind 0 0 2"),
+    ("version = 1\ntop_mib = 64\n[[system]]", "wrong kind 0 0 3"),
     (
         "version = 1\ntop_mib = 64\nsystem = {}\nacpi = true",
-        "wrong kind 0 0 3",
+        "wrong kind 0 0 10",
     ),
     (
         "version = 1\ntop_mib = 64\nsystem = {}\nacpi = 0",
-        "wrong kind 0 0 3",
+        "wrong kind 0 0 10",
     ),
     (
         "version = 1\ntop_mib = 64\nsystem = {}\n[[acpi]]",
-        "wrong kind 0 0 3",
+        "wrong kind 0 0 10",
     ),
     (
         "version = 1\ntop_mib = 64\nsystem = {}\nacpi = ''\nhpet = ''",
-        "wrong kind 0 0 3",
+        "wrong kind 0 0 10",
     ),
     (
         "version = 1\ntop_mib = 64\nsystem = {}\nhpet = true",
-        "wrong kind 0 0 4",
+        "wrong kind 0 0 11",
     ),
     (
         "version = 1\ntop_mib = 64\nsystem = {}\nhpet = 1979-05-27T07:32:00Z",
-        "wrong kind 0 0 4",
+        "wrong kind 0 0 11",
     ),
     (
         "version = 1\ntop_mib = 64\nsystem = {}\n[[hpet]]",
-        "wrong kind 0 0 4",
+        "wrong kind 0 0 11",
     ),
 ];
 
@@ -321,7 +321,7 @@ const OF_ACPI: [(&str, &str); 15] = [
     ),
     (
         "version = 1\ntop_mib = 64\nsystem = {}\nhpet = 1\nacpi = {}",
-        "wrong kind 0 0 4",
+        "wrong kind 0 0 11",
     ),
     (
         "version = 1\ntop_mib = 64\nsystem = {}\nacpi.oem_id = 0.5",
@@ -612,47 +612,18 @@ const NO_TOML: [&str; 24] = [
     "version = 1\n[system]\n]",
 ];
 
-#[test]
-fn faults_at_the_root(rt: HostRuntime) -> Result<(), Fail> {
-    for (text, fault) in &AT_THE_ROOT {
-        let told = told(rt.alloc(), text.as_bytes())?;
-        assert_eq!(rt; told.as_str(), *fault, "of {text}");
-    }
-    Ok(())
-}
+const TABLES: [&[(&str, &str)]; 5] = [
+    &AT_THE_ROOT,
+    &OF_THE_SYSTEM,
+    &OF_ACPI,
+    &OF_THE_HPET,
+    &OF_RULES,
+];
 
 #[test]
-fn faults_of_the_system(rt: HostRuntime) -> Result<(), Fail> {
-    for (text, fault) in &OF_THE_SYSTEM {
-        let told = told(rt.alloc(), text.as_bytes())?;
-        assert_eq!(rt; told.as_str(), *fault, "of {text}");
-    }
-    Ok(())
-}
-
-#[test]
-fn faults_of_acpi(rt: HostRuntime) -> Result<(), Fail> {
-    for (text, fault) in &OF_ACPI {
-        let told = told(rt.alloc(), text.as_bytes())?;
-        assert_eq!(rt; told.as_str(), *fault, "of {text}");
-    }
-    Ok(())
-}
-
-#[test]
-fn faults_of_the_hpet(rt: HostRuntime) -> Result<(), Fail> {
-    for (text, fault) in &OF_THE_HPET {
-        let told = told(rt.alloc(), text.as_bytes())?;
-        assert_eq!(rt; told.as_str(), *fault, "of {text}");
-    }
-    Ok(())
-}
-
-#[test]
-fn rules_that_are_broken(rt: HostRuntime) -> Result<(), Fail> {
-    for (text, fault) in &OF_RULES {
-        let told = told(rt.alloc(), text.as_bytes())?;
-        assert_eq!(rt; told.as_str(), *fault, "of {text}");
+fn faults(rt: HostRuntime) -> Result<(), Fail> {
+    for rows in &TABLES {
+        are_told(&rt, rt.alloc(), "", rows)?;
     }
     Ok(())
 }

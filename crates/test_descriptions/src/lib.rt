@@ -12,4 +12,12 @@ mod machines;
 #[cfg(test)]
 mod nesting;
 #[cfg(test)]
+mod part_faults;
+#[cfg(test)]
+mod part_rules;
+#[cfg(test)]
+mod part_words;
+#[cfg(test)]
 mod told;
+#[cfg(test)]
+mod words;

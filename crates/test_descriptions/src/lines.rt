@@ -4,7 +4,7 @@ use desc_toml::{DescFault, Line, read_machine};
 use std::alloc::Global;
 use std::test::Fail;
 
-const LINES: [(&str, &str); 14] = [
+const LINES: [(&str, &str); 22] = [
     ("version", "description: not TOML\n"),
     ("colour = 1", "description: unknown key root 0 colour\n"),
     (
@@ -45,6 +45,38 @@ const LINES: [(&str, &str); 14] = [
     (
         "version = 1\ntop_mib = 64\nsystem.uuid = '00000000-0000-0000-0000-000000000000'",
         "description: rule 4 index 0\n",
+    ),
+    (
+        "version = 1\ntop_mib = 64\nsystem = {}\nfirmware.colour = 1",
+        "description: unknown key firmware 0 colour\n",
+    ),
+    (
+        "version = 1\ntop_mib = 64\nsystem = {}\nchassis.kind = 256",
+        "description: out of range chassis 0 kind\n",
+    ),
+    (
+        "version = 1\ntop_mib = 64\nsystem = {}\n[[socket]]\ncores = 1\nthreads = 1\n[[socket]]\ncores = 1",
+        "description: missing key socket 1 threads\n",
+    ),
+    (
+        "version = 1\ntop_mib = 64\nsystem = {}\n[[dimm]]\nsize_mib = 1\nspeed = ''",
+        "description: wrong kind dimm 0 speed\n",
+    ),
+    (
+        "version = 1\ntop_mib = 64\nsystem = {}\nrange = [{base_mib = 0, size_mib = 1}, {base_mib = 1, size_mib = 1, nodes = 1}]",
+        "description: unknown key range 1 nodes\n",
+    ),
+    (
+        "version = 1\ntop_mib = 64\nsystem = {}\n[[slot]]\nfunction = 256",
+        "description: out of range slot 0 function\n",
+    ),
+    (
+        "version = 1\ntop_mib = 64\nsystem = {}\noem_strings = [1]",
+        "description: wrong kind root 0 oem_strings\n",
+    ),
+    (
+        "version = 1\ntop_mib = 64\nsystem = {}\n[[socket]]\ncores = 2\nthreads = 2\n[[socket]]\ncores = 2\nthreads = 1",
+        "description: rule 7 index 1\n",
     ),
 ];
 

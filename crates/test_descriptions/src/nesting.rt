@@ -13,7 +13,7 @@ fn nested(alloc: Global, depth: usize) -> Result<String, Fail> {
     Ok(text)
 }
 
-fn push_times(text: &mut String, piece: &str, times: usize) -> Result<(), Fail> {
+pub(crate) fn push_times(text: &mut String, piece: &str, times: usize) -> Result<(), Fail> {
     for _ in 0..times {
         text.push_str(piece)?;
     }

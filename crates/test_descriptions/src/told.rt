@@ -1,7 +1,39 @@
-use crate::machines::told_machine;
+use crate::words::told_machine;
 use desc_toml::{DescFault, read_machine};
 use std::alloc::Global;
+use std::process::Abort;
 use std::test::Fail;
+
+/// The front of a description: what each one has, in one line for each key, so that others may follow.
+pub(crate) const FRONT: &str = "version = 1\ntop_mib = 64\nsystem = {}\n";
+
+// Asserts what each text is read as behind a front, in words.
+pub(crate) fn are_told(
+    rt: &impl Abort,
+    alloc: Global,
+    front: &str,
+    rows: &[(&str, &str)],
+) -> Result<(), Fail> {
+    for (text, wanted) in rows {
+        is_told(rt, alloc, front, text, wanted)?;
+    }
+    Ok(())
+}
+
+fn is_told(
+    rt: &impl Abort,
+    alloc: Global,
+    front: &str,
+    text: &str,
+    wanted: &str,
+) -> Result<(), Fail> {
+    let mut whole = String::new(alloc);
+    whole.push_str(front)?;
+    whole.push_str(text)?;
+    let told = told(alloc, whole.as_bytes())?;
+    assert_eq!(rt; told.as_str(), wanted, "of {text}");
+    Ok(())
+}
 
 // What bytes are read as, in words: a machine, or the first fault.
 pub(crate) fn told(alloc: Global, bytes: &[u8]) -> Result<String, Fail> {

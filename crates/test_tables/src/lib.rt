@@ -3,9 +3,15 @@
 #![tactic(auto)]
 
 #[cfg(test)]
+mod borders;
+#[cfg(test)]
+mod built;
+#[cfg(test)]
 mod files;
 #[cfg(test)]
 mod longest;
+#[cfg(test)]
+mod parts;
 #[cfg(test)]
 mod records;
 #[cfg(test)]

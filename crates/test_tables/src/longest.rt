@@ -5,14 +5,14 @@ ghost use Rattle.std.specs.Prelude.{◌<◌, ◌≤◌, ◌+◌, length, IfOk, O
 ghost use Rattle.table_model.specs.Strings.{HasNoNul};
 ghost use Rattle.smbios_build.specs.Buildable.{AreBuildable};
 
+use crate::built::{accepted_structures, are_built};
 use fixtures::{Sketch, SystemTexts, machine_of};
 use machine_desc::Machine;
-use smbios_build::laws::accepted_structures_are_buildable;
-use smbios_build::{StringSet, build_smbios};
+use smbios_build::StringSet;
 use std::alloc::Global;
 use std::process::Abort;
 use std::test::Fail;
-use table_model::{Body, Inventory, Structure, SystemInfo, inventory_of, structures_of};
+use table_model::{Body, Inventory, Structure, SystemInfo, inventory_of};
 use vt_outside::{Bytes, List, OutOfMemory, Text};
 
 const LONGEST: Sketch = Sketch {
@@ -88,30 +88,11 @@ fn the_structures_of_the_longest_texts(rt: HostRuntime) -> Result<(), Fail> {
     Ok(())
 }
 
-fn are_built(rt: &impl Abort, alloc: Global, structures: &[Structure], wanted: &[u8])
-    requires { AreBuildable structures.now }
-{
-    match build_smbios(alloc, structures) {
-        Ok(bytes) => assert_eq!(rt; bytes.as_slice(), wanted),
-        Err(_) => panic!(rt; "structures that aren't built"),
-    }
-}
-
 fn structures(alloc: Global) -> Result<List<Structure>, Fail>
     ensures { IfOk result (λ structures. AreBuildable structures) }
 {
     let machine = machine_of(alloc, &LONGEST)?;
-    structures_of_lawful(alloc, &machine)
-}
-
-fn structures_of_lawful(alloc: Global, machine: &Machine) -> Result<List<Structure>, Fail>
-    ensures { IfOk result (λ structures. AreBuildable structures) }
-{
-    if machine.check().is_err() {
-        return Err(Fail::from("a lawful machine"));
-    }
-    accepted_structures_are_buildable();
-    Ok(structures_of(alloc, &machine.system)?)
+    accepted_structures(alloc, &machine)
 }
 
 // The formatted area, each text with its NUL, and the end.

@@ -5,14 +5,13 @@ ghost use Rattle.table_model.specs.Strings.{HasNoNul};
 ghost use Rattle.smbios_build.specs.Buildable.{IsRaw, AreBuildable};
 ghost use Rattle.test_tables.specs.Unended.{AreUnended};
 
+use crate::built::{accepted_structures, are_built, text_of};
 use fixtures::{MINIMAL_MACHINE, machine_of};
-use machine_desc::Machine;
-use smbios_build::laws::accepted_structures_are_buildable;
 use smbios_build::{SmbiosBuildFault, StringSet, build_anchor, build_smbios};
 use std::alloc::Global;
 use std::process::Abort;
 use std::test::Fail;
-use table_model::{Body, Structure, structures_of};
+use table_model::{Body, Structure};
 use vt_outside::{Bytes, List, OutOfMemory, Text};
 
 // System Information of the minimal machine, whose texts are `ACME` and `VM`, and the end.
@@ -26,6 +25,9 @@ const RAW_STRUCTURES: &[u8] = b"\xc8\x06\x01\x02\x09\x08ab\0\0\x7f\x04\x00\x7f\0
 // The anchor of 64 bytes, with zeros for its checksum and the address of the structures.
 const ANCHOR: [u8; 24] = *b"_SM3_\0\x18\x03\0\0\x01\0\x40\0\0\0\0\0\0\0\0\0\0\0";
 
+// That of the structures of the minimal machine.
+const MINIMAL_ANCHOR: [u8; 24] = *b"_SM3_\0\x18\x03\0\0\x01\0\x2a\0\0\0\0\0\0\0\0\0\0\0";
+
 #[test]
 fn structures_of_a_machine(rt: HostRuntime) -> Result<(), Fail> {
     let structures = minimal_structures(rt.alloc())?;
@@ -38,25 +40,6 @@ fn minimal_structures(alloc: Global) -> Result<List<Structure>, Fail>
 {
     let machine = machine_of(alloc, &MINIMAL_MACHINE)?;
     accepted_structures(alloc, &machine)
-}
-
-fn accepted_structures(alloc: Global, machine: &Machine) -> Result<List<Structure>, Fail>
-    ensures { IfOk result (λ structures. AreBuildable structures) }
-{
-    if machine.check().is_err() {
-        return Err(Fail::from("a lawful machine"));
-    }
-    accepted_structures_are_buildable();
-    Ok(structures_of(alloc, &machine.system)?)
-}
-
-fn are_built(rt: &impl Abort, alloc: Global, structures: &[Structure], wanted: &[u8])
-    requires { AreBuildable structures.now }
-{
-    match build_smbios(alloc, structures) {
-        Ok(bytes) => assert_eq!(rt; bytes.as_slice(), wanted),
-        Err(_) => panic!(rt; "structures that aren't built"),
-    }
 }
 
 #[test]
@@ -177,8 +160,20 @@ fn add(alloc: Global, strings: &mut StringSet, text: &[u8]) -> Result<u8, OutOfM
 }
 
 #[test]
-fn an_anchor(rt: HostRuntime) {
+fn anchors(rt: HostRuntime) {
     assert_eq!(rt; build_anchor(0x40), ANCHOR);
+    assert_eq!(rt; build_anchor(0x2A), MINIMAL_ANCHOR);
+}
+
+// The byte that makes the anchor of 64 bytes at 0x03000000 sum to zero.
+#[test]
+fn the_checksum_of_an_anchor(rt: HostRuntime) {
+    let mut anchor = build_anchor(0x40);
+    anchor[19] = 0x03;
+    let sum = anchor
+        .iter()
+        .fold(0_u8, |sum, byte| sum.wrapping_add(*byte));
+    assert_eq!(rt; sum.wrapping_neg(), 0x10);
 }
 
 fn bytes_of(alloc: Global, bytes: &[u8]) -> Result<Bytes, OutOfMemory>
@@ -186,14 +181,6 @@ fn bytes_of(alloc: Global, bytes: &[u8]) -> Result<Bytes, OutOfMemory>
 {
     let mut copy = Bytes::new(alloc);
     copy.extend(bytes)?;
-    Ok(copy)
-}
-
-fn text_of(alloc: Global, text: &[u8]) -> Result<Text, OutOfMemory>
-    ensures { IfOk result (λ copy. copy ≡ text.now) }
-{
-    let mut copy = Text::new(alloc);
-    copy.extend(text)?;
     Ok(copy)
 }
 

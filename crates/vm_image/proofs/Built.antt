@@ -8,7 +8,8 @@ use Rattle.cfg_directory.specs.declared.item.Item.{Item}
 use Rattle.cfg_directory.specs.Items.{total_size}
 use Rattle.machine_desc.specs.declared.machine.Machine.{Machine}
 use Rattle.machine_desc.specs.Rules.{IsAccepted}
-use Rattle.table_model.specs.Smbios.{AreStructures, structures_of}
+use Rattle.table_model.specs.MachineStructures.{structures_of}
+use Rattle.table_model.specs.Smbios.{AreStructures}
 use Rattle.image_files.specs.declared.image.Image.{Image}
 use Rattle.image_files.specs.declared.image.ImageBuildFault.{ImageBuildFault}
 use Rattle.image_files.specs.Files.{ImageFile, by_name}
@@ -53,7 +54,7 @@ loaded_anywhere m accepted known places are =
     (links (image_files m) linkable) (begins_with (image_files m) [] (image_distinct m) (image_has_no_loader m)) are
 
 -- what is promised of the image holds
-pub built : (m : Machine) (items : List Item) (script : List Entry) → IsAccepted m → AreStructures (structures_file m) (structures_of m.system)
+pub built : (m : Machine) (items : List Item) (script : List Entry) → IsAccepted m → AreStructures (structures_file m) (structures_of m)
     → AreAcpiKnown m m.acpi → items ≡ image_items m → script ≡ image_script m → AllByRecursion Fits script
     → total_size (image_items m) ≤ image_limit → IsBuilt m items script
 built m items script accepted read known items_are script_is fits small =
@@ -73,7 +74,7 @@ built m items script accepted read known items_are script_is fits small =
 
 -- it is the image that was linked of its files, where one was
 pub image_built : (m : Machine) (files : List ImageFile) (r : Result Image ImageBuildFault) → IsAccepted m
-    → AreStructures (structures_file m) (structures_of m.system) → AreAcpiKnown m m.acpi → files ≡ image_files m
+    → AreStructures (structures_file m) (structures_of m) → AreAcpiKnown m m.acpi → files ≡ image_files m
     → IfOk r (λ image. image.items ≡ items_of files []) → IfOk r (λ image. image.script ≡ script_of files [])
     → IfOk r (λ image. AllByRecursion Fits image.script)
     → OnOk r (total_size (items_of files []) ≤ image_limit) → IfOk r (λ image. IsBuilt m image.items image.script)

@@ -6,7 +6,8 @@ use Rattle.std.specs.List.{AllByRecursion}
 use Rattle.vt_bytes.proofs.Each.{each_append, each_front, each_back}
 use Rattle.machine_desc.specs.declared.machine.Machine.{Machine}
 use Rattle.machine_desc.specs.Rules.{IsAccepted}
-use Rattle.table_model.specs.Smbios.{AreStructures, structures_of}
+use Rattle.table_model.specs.MachineStructures.{structures_of}
+use Rattle.table_model.specs.Smbios.{AreStructures}
 use Rattle.loader_script.specs.Run.{place_of as place_in}
 use Rattle.image_files.specs.Places.{ArePlaces}
 use Rattle.vm_image.specs.Image.{acpi_part, smbios_placed, structures_file, image_files, anchor_name}
@@ -23,10 +24,10 @@ use Rattle.vm_image.proofs.SmbiosStands.{smbios_clear_of_rsdps, smbios_clear_of_
 use Rattle.vm_image.proofs.AcpiStands.{acpi_clear_of_anchors, acpi_shown}
 
 -- a memory that holds a machine's files shows the machine
-pub image_shows : (m : Machine) → IsAccepted m → AreStructures (structures_file m) (structures_of m.system) → AreAcpiKnown m m.acpi → IsShownAnywhere m
+pub image_shows : (m : Machine) → IsAccepted m → AreStructures (structures_file m) (structures_of m) → AreAcpiKnown m m.acpi → IsShownAnywhere m
 image_shows m accepted read known places placed memory lawful_places linked top held =
     let bounds : Lawful m = lawful m accepted in
-    let few : length (structures_file m) ≤ 1000 = (structures_size m accepted).1 in
+    let few : length (structures_file m) ≤ 262144 = (structures_size m accepted).1 in
     let high : 0x4000000 ≤ memory.top = omega (arith, top) in
     let names = named (place_in placed) (image_files m) places placed (image_distinct m) linked in
     let stand = all_stand memory (place_in placed) [] (image_files m) places placed
@@ -41,7 +42,7 @@ image_shows m accepted read known places placed memory lawful_places linked top 
     let anchor_within : place_in placed anchor_name + 24 ≤ 0x100000 = smbios_stand.1.0.within in
     record {
       its_top = sym top;
-      smbios = smbios_shown memory (place_in placed) high (structures_file m) (structures_of m.system) (omega arith) read smbios_stand
+      smbios = smbios_shown memory (place_in placed) high (structures_file m) (structures_of m) (omega arith) read smbios_stand
           (λ other below has. let from = has.2.from in
           none (anchor_mark (place_in placed anchor_name)) (λ same. absurd (omega (arith, same))) (omega arith)
           (acpi_clear_of_anchors memory (place_in placed) high m m.acpi (place_in placed anchor_name) (omega arith) known acpi_stand)
@@ -54,7 +55,7 @@ image_shows m accepted read known places placed memory lawful_places linked top 
     }
 
 -- so does one that agrees with it on the files
-pub files_show_alike : (m : Machine) → IsAccepted m → AreStructures (structures_file m) (structures_of m.system) → AreAcpiKnown m m.acpi
+pub files_show_alike : (m : Machine) → IsAccepted m → AreStructures (structures_file m) (structures_of m) → AreAcpiKnown m m.acpi
     → IsShownAlike m
 files_show_alike m accepted read known places placed memory other lawful_places linked top held agree =
     image_shows m accepted read known places placed other lawful_places linked (agree.top ∙ top) (held_alike memory other placed held agree)

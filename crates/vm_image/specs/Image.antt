@@ -12,7 +12,7 @@ use Rattle.table_model.specs.declared.acpi.Table.{Table}
 use Rattle.table_model.specs.Header.{head_of, padded}
 use Rattle.table_model.specs.Acpi.{tables_of}
 use Rattle.table_model.specs.Anchor.{anchor_rows, anchor_of}
-use Rattle.table_model.specs.Smbios.{structures_of}
+use Rattle.table_model.specs.MachineStructures.{structures_of}
 use Rattle.vt_layout.specs.declared.row.Row.TheVariants.{Pointer}
 use Rattle.zone_alloc.specs.declared.zone.Zone.{Zone}
 use Rattle.zone_alloc.specs.declared.zone.Zone.TheVariants.{High, Fseg}
@@ -71,7 +71,7 @@ acpi_part m (Some acpi) = acpi_placed (acpi_files acpi (tables_of m acpi))
 
 -- the file of a machine's structures
 abbrev pub structures_file : Machine → List ℕ
-structures_file m = structures_bytes (structures_of m.system)
+structures_file m = structures_bytes (structures_of m)
 
 -- the file of the anchor of structures that have so many bytes
 abbrev pub anchor_blob : ℕ → BlobState

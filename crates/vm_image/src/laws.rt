@@ -5,7 +5,8 @@ ghost use Rattle.loader_script.specs.declared.entry.Entry.{Entry};
 ghost use Rattle.cfg_directory.specs.declared.item.Item.{Item};
 ghost use Rattle.machine_desc.specs.declared.machine.Machine.{Machine};
 ghost use Rattle.machine_desc.specs.Rules.{IsAccepted};
-ghost use Rattle.table_model.specs.Smbios.{AreStructures, structures_of};
+ghost use Rattle.table_model.specs.MachineStructures.{structures_of};
+ghost use Rattle.table_model.specs.Smbios.{AreStructures};
 ghost use Rattle.image_files.specs.Linkable.{AreLinkable};
 ghost use Rattle.vm_image.specs.Image.{structures_file, image_files};
 ghost use Rattle.vm_image.specs.Built.{IsBuilt};
@@ -24,10 +25,10 @@ pub fn one_image_is_built()
 
 /// Says that a memory shows the machine wherever its files come to stand, whatever lies outside of them and of the BIOS area.
 pub fn machine_is_shown_anywhere()
-    ensures { (m : Machine) → IsAccepted m → AreStructures (structures_file m) (structures_of m.system) → AreAcpiKnown m m.acpi → IsShownAnywhere m }
+    ensures { (m : Machine) → IsAccepted m → AreStructures (structures_file m) (structures_of m) → AreAcpiKnown m m.acpi → IsShownAnywhere m }
 {}
 
 /// Says that a memory shows the machine too where it agrees on the files and the BIOS area with one that holds the files.
 pub fn equal_files_show_the_same()
-    ensures { (m : Machine) → IsAccepted m → AreStructures (structures_file m) (structures_of m.system) → AreAcpiKnown m m.acpi → IsShownAlike m }
+    ensures { (m : Machine) → IsAccepted m → AreStructures (structures_file m) (structures_of m) → AreAcpiKnown m m.acpi → IsShownAlike m }
 {}

@@ -2,7 +2,8 @@
 
 ghost use Rattle.std.specs.Prelude.{◌≡◌, ◌<◌, ◌++◌, IfOk, OnOk};
 ghost use Rattle.machine_desc.specs.Rules.{IsAccepted};
-ghost use Rattle.table_model.specs.Smbios.{AreStructures, structures_of};
+ghost use Rattle.table_model.specs.MachineStructures.{structures_of};
+ghost use Rattle.table_model.specs.Smbios.{AreStructures};
 ghost use Rattle.image_files.specs.Files.{whole};
 ghost use Rattle.vm_image.specs.Image.{anchor_blob, anchor_name, smbios_placed, structures_file, structures_name, placed_file};
 
@@ -26,7 +27,7 @@ pub(crate) fn push_smbios(
 ) -> Result<(), OutOfMemory>
     requires { IsAccepted machine.now }
     ensures files { OnOk result (files.new.items ≡ files.old.items ++ smbios_placed (structures_file machine.now)) }
-    ensures read { OnOk result (AreStructures (structures_file machine.now) (structures_of machine.now.system)) }
+    ensures read { OnOk result (AreStructures (structures_file machine.now) (structures_of machine.now)) }
 {
     let bytes = structures_file(alloc, machine)?;
     let anchor = placed_anchor(alloc, bytes.len() as u32)?;
@@ -51,9 +52,9 @@ fn placed_structures(alloc: Global, bytes: Bytes) -> ImageFile
 fn structures_file(alloc: Global, machine: &Machine) -> Result<Bytes, OutOfMemory>
     requires { IsAccepted machine.now }
     ensures bytes { IfOk result (λ bytes. bytes ≡ structures_file machine.now) }
-    ensures read { OnOk result (AreStructures (structures_file machine.now) (structures_of machine.now.system)) }
+    ensures read { OnOk result (AreStructures (structures_file machine.now) (structures_of machine.now)) }
 {
-    let structures = structures_of(alloc, &machine.system)?;
+    let structures = structures_of(alloc, machine)?;
     match build_smbios(alloc, structures.as_slice()) {
         Ok(bytes) => Ok(bytes),
         Err(SmbiosBuildFault::OutOfMemory) => Err(OutOfMemory),

@@ -4,8 +4,10 @@ use Rattle.table_model.specs.Hpet.{hpet_of}
 use Rattle.table_model.specs.declared.acpi.Table.TheVariants.{Hpet}
 use Rattle.table_model.proofs.AcceptedAcpi.{accepted_fits}
 use Rattle.acpi_fixed.specs.Tables.{IsTablePut}
+use Rattle.acpi_fixed.proofs.AcpiThere.{has_acpi, not_none}
 use Rattle.acpi_fixed.proofs.OfParts.{of_parts}
 use Rattle.acpi_fixed.proofs.hpet.append_hpet.Goals as goal
+use Rattle.acpi_fixed.proofs.hpet.append_hpet.Goals.{in_default-via-in-Some+in_default, in_default-via-in_default}
 
 pub hpet_of-requires : goal.hpet_of-requires
 hpet_of-requires c = accepted_fits c.args.machine.now c.in-Some-Some.acpi c.requires.accepted c.in-Some-Some.is-0
@@ -17,3 +19,11 @@ returns-clause-put c =
     of_parts (λ acpi hpet. IsTablePut c.args.blob.now c.put_table.new.blob (Hpet (hpet_of acpi hpet))) c.args.machine.now.acpi c.args.machine.now.hpet
     part.acpi part.hpet part.is-0 part.is-1
     (subst (λ t. IsTablePut c.args.blob.now c.put_table.new.blob (Hpet t)) c.hpet_of.ensures put)) c.put_table.ensures.put
+
+pub unreachable-requires : goal.unreachable-requires
+unreachable-requires c =
+    let machine = c.args.machine.now in
+    elim c.in_default.branch [
+      | in_default-via-in-Some+in_default w ↦ not_none machine.hpet w.in_default.is-1 c.requires.wanted
+      | in_default-via-in_default w ↦ not_none machine.acpi w.in_default.is-0 (has_acpi machine c.requires.accepted c.requires.wanted)
+    ]

@@ -1,4 +1,4 @@
-use Rattle.std.proofs.Common.{◌+◌, map, arith, ap, subst, sym, ◌∙◌}
+use Rattle.std.proofs.Common.{map, arith, ap, subst, sym, ◌∙◌}
 use Rattle.std.proofs.lemmas.Result.{on_ok_weaker}
 use Rattle.std.specs.List.{AllByRecursion}
 use Rattle.vt_bytes.proofs.Each.{each_map}

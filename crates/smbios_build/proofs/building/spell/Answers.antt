@@ -5,8 +5,8 @@ use Rattle.vt_bytes.proofs.Each.{each_at}
 use Rattle.table_model.specs.declared.smbios.Structure.{Structure}
 use Rattle.table_model.specs.Smbios.{AreStructures}
 use Rattle.smbios_build.specs.Spelling.{structures_bytes}
-use Rattle.smbios_build.specs.Buildable.{IsBuildable}
-use Rattle.smbios_build.proofs.Read.{IsRead, each_buildable, structures_read}
+use Rattle.smbios_build.specs.Buildable.{IsBuildable, HasFittingNumbers}
+use Rattle.smbios_build.proofs.Read.{each_buildable, built_structures}
 use Rattle.smbios_build.proofs.building.spell.Goals as goal
 
 pub put_structure-requires : goal.put_structure-requires
@@ -18,5 +18,5 @@ pub returns-clause-spelled : goal.returns-clause-spelled
 returns-clause-spelled c =
     let all : take c.loop-structure.structure-index c.args.structures.now ≡ c.args.structures.now =
     take_all c.loop-structure.structure-index c.args.structures.now c.loop-structure-test.false in
-    subst (λ bytes. AreStructures bytes c.args.structures.now) (sym (c.loop-structure.invariant.0 ∙ ap structures_bytes all))
-    (structures_read c.args.structures.now c.requires (subst (AllByRecursion IsRead) all c.loop-structure.invariant.1))
+    subst (λ bytes. AreStructures bytes c.args.structures.now) (sym (c.loop-structure.invariant.written ∙ ap structures_bytes all))
+    (built_structures c.args.structures.now c.requires (subst (AllByRecursion HasFittingNumbers) all c.loop-structure.invariant.fit))

@@ -1,17 +1,11 @@
 use Rattle.std.proofs.Common.{length, min, ap, ◌∙◌}
 use Rattle.table_model.specs.Strings.{strings_of, with_nuls}
-use Rattle.smbios_build.proofs.Counted.{system_counted, raw_counted}
+use Rattle.smbios_build.proofs.Counted.{raw_counted}
 use Rattle.smbios_build.proofs.sizes.structure_size.Goals as goal
-
-pub returns-in-System : goal.returns-in-System
-returns-in-System c =
-    system_counted c.args.structure.now c.in-System.info c.info_size.result c.texts_size.result c.whole_size.result 0xFFFFFFFFFFFFFFFF
-    c.in-System.is c.requires c.info_size.ensures.size
-    (c.texts_size.ensures ∙ ap (λ texts. min (length (with_nuls (strings_of texts))) 0xFFFFFFFFFFFFFFFF) c.texts_of.ensures) c.whole_size.ensures
 
 pub returns-in-Raw : goal.returns-in-Raw
 returns-in-Raw c =
-    raw_counted c.args.structure.now c.in-Raw.kind c.in-Raw.area c.in-Raw.strings c.len.result c.strings_size.result c.whole_size-in-Raw.result
+    raw_counted c.args.structure.now c.in-Raw.kind c.in-Raw.area c.in-Raw.strings c.len.result c.strings_size.result c.whole_size.result
     0xFFFFFFFFFFFFFFFF c.in-Raw.is c.requires c.len.ensures
-    (c.strings_size.ensures ∙ ap (λ texts. min (length (with_nuls (strings_of texts))) 0xFFFFFFFFFFFFFFFF) c.as_slice.ensures)
-    c.whole_size-in-Raw.ensures
+    (c.strings_size.ensures ∙ ap (λ texts. min (length (with_nuls (strings_of texts))) 0xFFFFFFFFFFFFFFFF) c.as_slice-in-Raw.ensures)
+    c.whole_size.ensures

@@ -1,3 +1,4 @@
+use Rattle.std.proofs.lemmas.Result.{on_ok_weaker, IfErr-weaker}
 use Rattle.script_load.specs.Allocators.{MayAnswer}
 use Rattle.desc_toml.proofs.OneMachine.{read_accepted}
 use Rattle.vmtables.proofs.Refused.{description_failed}
@@ -10,3 +11,11 @@ pub returns-in_err-machine-clause-err : goal.returns-in_err-machine-clause-err
 returns-in_err-machine-clause-err g c =
     description_failed (MayAnswer g.A.ZoneAlloc.handed g.A.ZoneAlloc.zones g.A.ZoneAlloc.policy g.A.ZoneAlloc.gives) c.args.fill c.args.policy c.args.seed
     c.args.description.now _ c.in_err-machine.field-0.0 c.from_residual.result c.in_err-machine.ensures c.from_residual.ensures.1
+
+pub returns-clause-ok : goal.returns-clause-ok
+returns-clause-ok g c =
+    on_ok_weaker c.load_image.result (λ booted. booted c.args.description.now c.in_ok-machine.ensures) c.load_image.ensures.ok
+
+pub returns-clause-err : goal.returns-clause-err
+returns-clause-err g c =
+    IfErr-weaker c.load_image.result _ _ (λ fault failed. failed c.args.description.now c.in_ok-machine.ensures) c.load_image.ensures.err

@@ -1,0 +1,140 @@
+-- The index at which a machine breaks a rule is a small number.
+use Rattle.std.proofs.Common.{◌≡◌, ℕ, ◌<◌, ◌≤◌, Bool, true, false, nat_le, List, [], ◌∷◌, length, get_or, drop, map, Option, Some, None, refl, ◌∙◌, subst, arith, if◌then◌else◌}
+use Rattle.std.proofs.lemmas.List.{at_drop_more}
+use Rattle.std.proofs.lemmas.Option.{same_Some}
+use Rattle.std.proofs.lemmas.Bool.{and_parts, leb-true}
+use Rattle.std.specs.List.{list_all, zip}
+use Rattle.std.specs.Option.{option_map_or}
+use Rattle.machine_desc.specs.declared.machine.Machine.{Machine}
+use Rattle.machine_desc.specs.declared.machine.Acpi.{Acpi}
+use Rattle.machine_desc.specs.declared.machine.Broken.{Broken}
+use Rattle.machine_desc.proofs.Passing.{failing_within, all_pass}
+use Rattle.machine_desc.specs.Rules.{first_broken, only_at, first_failing, is_padded_text, breach_of_acpi, breaches, broken_rule, counts, is_within, with_ends, end_of, is_some_text, is_lawful_socket, is_lawful_dimm, is_lawful_range, is_lawful_slot, is_on_node_0}
+
+-- the rule at a place is the first broken one of those that are left
+pub broken_here : (rules : List (ℕ × Option ℕ)) (i index : ℕ) (d : ℕ × Option ℕ) → i < length rules → (get_or rules i d).1 ≡ Some index
+    → first_broken (drop i rules) ≡ Some (record { rule = (get_or rules i d).0; index = index })
+broken_here rules i index d within is = at_drop_more first_broken rules i d within ∙ rw is refl
+
+-- an index, if there is one, is less than a number
+abbrev IsBelow : ℕ → Option ℕ → Type 0
+IsBelow most breach = (index : ℕ) → breach ≡ Some index → index < most
+
+abbrev AreBelow : ℕ → List (ℕ × Option ℕ) → Type 0
+AreBelow most [] = Unit {0}
+AreBelow most (rule ∷ rules) = IsBelow most rule.1 × AreBelow most rules
+
+nothing_below : (most : ℕ) → IsBelow most None
+nothing_below most index is = absurd (cc)
+
+only_below : (most at : ℕ) (holds : Bool) → at < most → IsBelow most (only_at at holds)
+only_below most at true small index is = absurd (cc)
+only_below most at false small index is = subst (λ n. n < most) (same_Some at index is) small
+
+either_below : (most : ℕ) (test : Bool) (a b : Option ℕ) → IsBelow most a → IsBelow most b → IsBelow most (if test then a else b)
+either_below most true a b first second = first
+either_below most false a b first second = second
+
+failing_below : {A : Type 0} (most : ℕ) (test : A → Bool) (xs : List A) → length xs ≤ most → IsBelow most (first_failing test xs)
+failing_below most test xs short index is = omega (arith, failing_within test xs index is)
+
+acpi_below : (acpi : Option Acpi) → IsBelow 256 (breach_of_acpi acpi)
+acpi_below None = nothing_below 256
+acpi_below (Some acpi) =
+    either_below 256 (is_padded_text 6 acpi.oem_id) (only_at 1 (is_padded_text 8 acpi.oem_table_id)) (Some 0)
+    (only_below 256 1 (is_padded_text 8 acpi.oem_table_id) (omega arith)) (only_below 256 0 false (omega arith))
+
+zip_short : {A B : Type 0} (xs : List A) (ys : List B) → length (zip xs ys) ≤ length ys
+zip_short [] ys = omega arith
+zip_short (x ∷ xs) [] = omega arith
+zip_short (x ∷ xs) (y ∷ ys) = omega (arith, zip_short xs ys)
+
+index_is : (rule index : ℕ) (broken : Broken) → Some (record { rule = rule; index = index }) ≡ Some broken → index ≡ broken.index
+index_is rule index broken is = cc
+
+no_rule : (broken : Broken) → first_broken [] ≡ Some broken → ⊥
+no_rule broken is = cc
+
+-- the first rule that is broken
+first_below : (most rule : ℕ) (breach : Option ℕ) (others : Option Broken) (broken : Broken) → IsBelow most breach
+    → (breach ≡ None → others ≡ Some broken → broken.index < most)
+    → option_map_or (λ index. Some (record { rule = rule; index = index })) breach others ≡ Some broken → broken.index < most
+first_below most rule None others broken small next is = next refl is
+first_below most rule (Some index) others broken small next is = subst (λ n. n < most) (index_is rule index broken is) (small index refl)
+
+some_below : (most : ℕ) (rules : List (ℕ × Option ℕ)) (broken : Broken) → AreBelow most rules → first_broken rules ≡ Some broken → broken.index < most
+some_below most [] broken small is = absurd (no_rule broken is)
+some_below most (rule ∷ rules) broken small is =
+    first_below most rule.0 rule.1 (first_broken rules) broken small.0 (λ none. some_below most rules broken small.1) is
+
+-- the lists of a machine are short where none is too long
+pub record AreShort (m : Machine) : Type 0 where
+  pub oem_strings : length m.oem_strings ≤ 256
+  pub sockets : length m.sockets ≤ 256
+  pub dimms : length m.dimms ≤ 256
+  pub ranges : length m.ranges ≤ 256
+  pub slots : length m.slots ≤ 256
+
+are_short : (m : Machine) → first_failing is_within (counts m) ≡ None → AreShort m
+are_short m none =
+    let all = all_pass is_within (counts m) none in
+    let oem_strings = and_parts (nat_le (length m.oem_strings) 32) (list_all is_within (drop 1 (counts m))) all in
+    let sockets = and_parts (nat_le (length m.sockets) 256) (list_all is_within (drop 2 (counts m))) oem_strings.1 in
+    let dimms = and_parts (nat_le (length m.dimms) 256) (list_all is_within (drop 3 (counts m))) sockets.1 in
+    let ranges = and_parts (nat_le (length m.ranges) 64) (list_all is_within (drop 4 (counts m))) dimms.1 in
+    let slots = and_parts (nat_le (length m.slots) 64) true ranges.1 in
+    record {
+      oem_strings = omega (arith, leb-true (length m.oem_strings) 32 oem_strings.0);
+      sockets = leb-true (length m.sockets) 256 sockets.0;
+      dimms = leb-true (length m.dimms) 256 dimms.0;
+      ranges = omega (arith, leb-true (length m.ranges) 64 ranges.0);
+      slots = omega (arith, leb-true (length m.slots) 64 slots.0);
+    }
+
+-- the rules behind the one on the lengths of lists
+others_below : (m : Machine) → AreShort m → AreBelow 256 (drop 2 (breaches m))
+others_below m short =
+    let only : (at : ℕ) (holds : Bool) → at < 2 → IsBelow 256 (only_at at holds) = λ at holds small. only_below 256 at holds (omega arith) in
+    let first : 0 < 2 = omega arith in
+    let second : 1 < 2 = omega arith in
+    let ranges : length (with_ends m.ranges) ≤ 256 = omega (arith, zip_short (0 ∷ map end_of m.ranges) m.ranges, short.ranges) in (
+      only 0 _ first,
+      (
+        only 0 _ first,
+        (
+          failing_below 256 is_some_text m.oem_strings short.oem_strings,
+          (
+            only 0 _ first,
+            (
+              failing_below 256 is_lawful_socket m.sockets short.sockets,
+              (
+                failing_below 256 is_lawful_dimm m.dimms short.dimms,
+                (
+                  only 0 _ first,
+                  (
+                    failing_below 256 is_lawful_range (with_ends m.ranges) ranges,
+                    (
+                      only 0 _ first,
+                      (
+                        failing_below 256 is_lawful_slot m.slots short.slots,
+                        (
+                          only 1 _ second,
+                          (acpi_below m.acpi, (only 0 _ first, (failing_below 256 is_on_node_0 m.ranges short.ranges, tt))),
+                        ),
+                      ),
+                    ),
+                  ),
+                ),
+              ),
+            ),
+          ),
+        ),
+      ),
+    )
+
+pub index_is_small : (m : Machine) (broken : Broken) → broken_rule m ≡ Some broken → broken.index < 256
+index_is_small m broken is =
+    first_below 256 1 _ (first_broken (drop 1 (breaches m))) broken (only_below 256 0 _ (omega arith))
+    (λ _. first_below 256 2 (first_failing is_within (counts m)) (first_broken (drop 2 (breaches m))) broken
+    (failing_below 256 is_within (counts m) (omega arith))
+    (λ none. some_below 256 (drop 2 (breaches m)) broken (others_below m (are_short m none)))) is

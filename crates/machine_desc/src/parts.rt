@@ -1,0 +1,112 @@
+//! The rules of a machine's parts, each for itself.
+
+ghost use Rattle.std.specs.Prelude.{◌≡◌, true};
+ghost use Rattle.std.specs.Option.{option_map_or};
+ghost use Rattle.machine_desc.specs.Rules.{first_failing, counts, is_within, is_own_uuid, is_lawful_chassis, is_lawful_socket, is_lawful_dimm, is_lawful_slot, breach_of_acpi, is_padded_text, is_hpet_address};
+
+use crate::machine::{Acpi, Hpet, Machine, System};
+use crate::smbios_parts::{Chassis, Dimm, Slot, Socket};
+use vt_outside::Text;
+
+impl Machine {
+    // The first list that is too long.
+    pub(crate) fn long_list(&self) -> Option<usize>
+        ensures { result ≡ first_failing is_within (counts self.now) }
+    {
+        let counts = [
+            (self.oem_strings.len(), 32),
+            (self.sockets.len(), 256),
+            (self.dimms.len(), 256),
+            (self.ranges.len(), 64),
+            (self.slots.len(), 64),
+        ];
+        counts.iter().position(|count| count.0 > count.1)
+    }
+}
+
+impl System {
+    pub(crate) fn has_own_uuid(&self) -> bool
+        ensures { result ≡ option_map_or is_own_uuid self.now.uuid true }
+    {
+        match self.uuid {
+            None => true,
+            Some(uuid) => uuid != 0 && uuid != u128::MAX,
+        }
+    }
+}
+
+pub(crate) fn has_lawful_chassis(chassis: &Option<Chassis>) -> bool
+    ensures { result ≡ option_map_or is_lawful_chassis chassis.now true }
+{
+    match chassis {
+        None => true,
+        Some(chassis) => 1 <= chassis.kind && chassis.kind <= 127,
+    }
+}
+
+// The place of the first socket whose numbers of cores and threads aren't lawful.
+pub(crate) fn unlawful_socket(sockets: &[Socket]) -> Option<usize>
+    ensures { result ≡ first_failing is_lawful_socket sockets.now }
+{
+    sockets.iter().position(|socket| !is_lawful_socket(socket))
+}
+
+fn is_lawful_socket(socket: &Socket) -> bool
+    ensures { result ≡ is_lawful_socket socket.now }
+{
+    1 <= socket.cores && socket.cores <= socket.threads && socket.threads <= 65534
+}
+
+// The place of the first module whose size or speed isn't lawful.
+pub(crate) fn unlawful_dimm(dimms: &[Dimm]) -> Option<usize>
+    ensures { result ≡ first_failing is_lawful_dimm dimms.now }
+{
+    dimms.iter().position(|dimm| !is_lawful_dimm(dimm))
+}
+
+fn is_lawful_dimm(dimm: &Dimm) -> bool
+    ensures { result ≡ is_lawful_dimm dimm.now }
+{
+    1 <= dimm.size_mib && dimm.size_mib <= 16_777_216 && dimm.speed <= 65534
+}
+
+// The place of the first slot whose numbers aren't lawful.
+pub(crate) fn unlawful_slot(slots: &[Slot]) -> Option<usize>
+    ensures { result ≡ first_failing is_lawful_slot slots.now }
+{
+    slots.iter().position(|slot| !is_lawful_slot(slot))
+}
+
+fn is_lawful_slot(slot: &Slot) -> bool
+    ensures { result ≡ is_lawful_slot slot.now }
+{
+    1 <= slot.kind && 1 <= slot.width && slot.device <= 31 && slot.function <= 7
+}
+
+// The first of the identifiers that doesn't fit its field.
+pub(crate) fn breach_of_acpi(acpi: &Option<Acpi>) -> Option<usize>
+    ensures { result ≡ breach_of_acpi acpi.now }
+{
+    match acpi {
+        Some(acpi) if !is_padded(6, &acpi.oem_id) => Some(0),
+        Some(acpi) if !is_padded(8, &acpi.oem_table_id) => Some(1),
+        _ => None,
+    }
+}
+
+// Whether a text fits a field of so many bytes that is padded with spaces.
+fn is_padded(size: usize, text: &Text) -> bool
+    ensures { result ≡ is_padded_text size text.now }
+{
+    let len = text.len();
+    len <= size && (len == 0 || *text.get(len - 1) != b' ')
+}
+
+pub(crate) fn has_hpet_address(hpet: Option<Hpet>) -> bool
+    ensures { result ≡ option_map_or is_hpet_address hpet true }
+{
+    match hpet {
+        None => true,
+        Some(hpet) => hpet.address % 1024 == 0,
+    }
+}

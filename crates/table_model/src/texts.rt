@@ -1,0 +1,16 @@
+ghost use Rattle.std.specs.Prelude.{◌≡◌, IfOk};
+
+use vt_outside::{OutOfMemory, Text};
+
+/// Returns copies of three texts. Returns `OutOfMemory` when memory runs out.
+pub(crate) fn copies_of(
+    first: &Text,
+    second: &Text,
+    third: &Text,
+) -> Result<(Text, Text, Text), OutOfMemory>
+    ensures first { IfOk result (λ texts. texts.0 ≡ first.now) }
+    ensures second { IfOk result (λ texts. texts.1 ≡ second.now) }
+    ensures third { IfOk result (λ texts. texts.2 ≡ third.now) }
+{
+    Ok((first.copy()?, second.copy()?, third.copy()?))
+}

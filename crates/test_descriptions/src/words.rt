@@ -1,0 +1,82 @@
+//! Machines in words.
+
+use crate::part_words::push_parts;
+use machine_desc::{Acpi, Hpet, Machine, System};
+use std::alloc::Global;
+use std::test::Fail;
+use vt_outside::Text;
+
+// A machine in words.
+pub(crate) fn told_machine(alloc: Global, machine: &Machine) -> Result<String, Fail> {
+    let mut told = String::new(alloc);
+    push_top(alloc, &mut told, machine.top_mib)?;
+    push_oem_strings(&mut told, machine.oem_strings.as_slice())?;
+    push_system(alloc, &mut told, &machine.system)?;
+    push_parts(alloc, &mut told, machine)?;
+    push_acpi(&mut told, &machine.acpi)?;
+    push_hpet(alloc, &mut told, &machine.hpet)?;
+    Ok(told)
+}
+
+fn push_top(alloc: Global, told: &mut String, top_mib: u32) -> Result<(), Fail> {
+    let top = format!(in alloc; "top {top_mib}")?;
+    told.push_str(top.as_str())?;
+    Ok(())
+}
+
+fn push_oem_strings(told: &mut String, texts: &[Text]) -> Result<(), Fail> {
+    if !texts.is_empty() {
+        told.push_str("|oem")?;
+    }
+    for text in texts {
+        push_text(told, text)?;
+    }
+    Ok(())
+}
+
+fn push_system(alloc: Global, told: &mut String, system: &System) -> Result<(), Fail> {
+    push_text(told, &system.manufacturer)?;
+    push_text(told, &system.product)?;
+    push_text(told, &system.version)?;
+    push_text(told, &system.serial)?;
+    push_text(told, &system.sku)?;
+    push_text(told, &system.family)?;
+    push_uuid(alloc, told, system.uuid)
+}
+
+pub(crate) fn push_text(told: &mut String, text: &Text) -> Result<(), Fail> {
+    told.push_str("|")?;
+    told.push_str(str::from_utf8(text.as_slice()).unwrap_or("not UTF-8"))?;
+    Ok(())
+}
+
+fn push_uuid(alloc: Global, told: &mut String, uuid: Option<u128>) -> Result<(), Fail> {
+    if let Some(uuid) = uuid {
+        let uuid = format!(in alloc; "|uuid {uuid:x}")?;
+        told.push_str(uuid.as_str())?;
+    }
+    Ok(())
+}
+
+fn push_acpi(told: &mut String, acpi: &Option<Acpi>) -> Result<(), Fail> {
+    if let Some(acpi) = acpi {
+        told.push_str("|acpi")?;
+        push_text(told, &acpi.oem_id)?;
+        push_text(told, &acpi.oem_table_id)?;
+    }
+    Ok(())
+}
+
+fn push_hpet(alloc: Global, told: &mut String, hpet: &Option<Hpet>) -> Result<(), Fail> {
+    if let Some(hpet) = hpet {
+        let Hpet {
+            address,
+            block_id,
+            number,
+            min_tick,
+        } = *hpet;
+        let hpet = format!(in alloc; "|hpet {address:x} {block_id:x} {number} {min_tick}")?;
+        told.push_str(hpet.as_str())?;
+    }
+    Ok(())
+}

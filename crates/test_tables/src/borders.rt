@@ -1,0 +1,99 @@
+//! Numbers of structures at their borders, where another field takes over. What is expected was made by hand from DSP0134, 7.17, 7.18
+//! and 7.20.
+
+use machine_desc::{Dimm, MemRange};
+use std::alloc::Global;
+use std::test::Fail;
+use table_model::{ArrayInfo, MappedInfo, array_of, device_of, mapped_of};
+use vt_outside::{OutOfMemory, Text};
+
+// An array of one module of 2 TiB less 1 MiB.
+const BELOW_TWO_TIB: ArrayInfo = ArrayInfo {
+    location: 3,
+    purpose: 3,
+    correction: 3,
+    capacity: 0x7FFF_FC00,
+    error: 0xFFFE,
+    devices: 1,
+    extended: 0,
+};
+
+// One of 2 TiB.
+const TWO_TIB: ArrayInfo = ArrayInfo {
+    capacity: 0x8000_0000,
+    extended: 0x200_0000_0000,
+    ..BELOW_TWO_TIB
+};
+
+#[test]
+fn arrays_around_2_tib(rt: HostRuntime) -> Result<(), Fail> {
+    assert_eq!(rt; array(rt.alloc(), 2_097_151), BELOW_TWO_TIB);
+    assert_eq!(rt; array(rt.alloc(), 2_097_152), TWO_TIB);
+    Ok(())
+}
+
+fn array(alloc: Global, size_mib: u32) -> ArrayInfo {
+    array_of(&[dimm(alloc, size_mib)])
+}
+
+fn dimm(alloc: Global, size_mib: u32) -> Dimm {
+    Dimm {
+        locator: Text::new(alloc),
+        bank: Text::new(alloc),
+        manufacturer: Text::new(alloc),
+        serial: Text::new(alloc),
+        asset: Text::new(alloc),
+        part: Text::new(alloc),
+        size_mib,
+        speed: 0,
+    }
+}
+
+#[test]
+fn devices_around_32767_mib(rt: HostRuntime) -> Result<(), Fail> {
+    assert_eq!(rt; size_fields(rt.alloc(), 1)?, (1, 0));
+    assert_eq!(rt; size_fields(rt.alloc(), 32_766)?, (0x7FFE, 0));
+    assert_eq!(rt; size_fields(rt.alloc(), 32_767)?, (0x7FFF, 32_767));
+    assert_eq!(rt; size_fields(rt.alloc(), 16_777_216)?, (0x7FFF, 16_777_216));
+    Ok(())
+}
+
+fn size_fields(alloc: Global, size_mib: u32) -> Result<(u16, u32), OutOfMemory> {
+    let device = device_of(&dimm(alloc, size_mib))?;
+    Ok((device.size, device.extended))
+}
+
+// From 4 GiB to 4 TiB less 1 MiB.
+const BELOW_FOUR_TIB: MappedInfo = MappedInfo {
+    start: 0x0040_0000,
+    end: 0xFFFF_FBFF,
+    array: 0x1000,
+    width: 1,
+    ext_start: 0,
+    ext_end: 0,
+};
+
+// From 4 GiB to 4 TiB.
+const TO_FOUR_TIB: MappedInfo = MappedInfo {
+    start: 0xFFFF_FFFF,
+    end: 0xFFFF_FFFF,
+    array: 0x1000,
+    width: 1,
+    ext_start: 0x1_0000_0000,
+    ext_end: 0x3FF_FFFF_FFFF,
+};
+
+#[test]
+fn ranges_around_4_tib(rt: HostRuntime) {
+    assert_eq!(rt; mapped(4_190_207), BELOW_FOUR_TIB);
+    assert_eq!(rt; mapped(4_190_208), TO_FOUR_TIB);
+}
+
+// A range of so many MiB from 4 GiB on.
+fn mapped(size_mib: u32) -> MappedInfo {
+    mapped_of(MemRange {
+        base_mib: 4096,
+        size_mib,
+        node: 0,
+    })
+}

@@ -1,0 +1,43 @@
+//! Structures that are built, and what the tests of them share.
+
+ghost use Rattle.std.specs.Prelude.{◌≡◌, IfOk};
+ghost use Rattle.smbios_build.specs.Buildable.{AreBuildable};
+
+use machine_desc::Machine;
+use smbios_build::build_smbios;
+use smbios_build::laws::accepted_structures_are_buildable;
+use std::alloc::Global;
+use std::process::Abort;
+use std::test::Fail;
+use table_model::{Structure, structures_of};
+use vt_outside::{List, OutOfMemory, Text};
+
+/// Returns the structures of `machine`, which must be accepted.
+pub fn accepted_structures(alloc: Global, machine: &Machine) -> Result<List<Structure>, Fail>
+    ensures { IfOk result (λ structures. AreBuildable structures) }
+{
+    if machine.check().is_err() {
+        return Err(Fail::from("a lawful machine"));
+    }
+    accepted_structures_are_buildable();
+    Ok(structures_of(alloc, machine)?)
+}
+
+/// Asserts that `structures` are built as the bytes `wanted`.
+pub fn are_built(rt: &impl Abort, alloc: Global, structures: &[Structure], wanted: &[u8])
+    requires { AreBuildable structures.now }
+{
+    match build_smbios(alloc, structures) {
+        Ok(bytes) => assert_eq!(rt; bytes.as_slice(), wanted),
+        Err(_) => panic!(rt; "structures that aren't built"),
+    }
+}
+
+/// Returns a text with the bytes of `text`.
+pub fn text_of(alloc: Global, text: &[u8]) -> Result<Text, OutOfMemory>
+    ensures { IfOk result (λ copy. copy ≡ text.now) }
+{
+    let mut copy = Text::new(alloc);
+    copy.extend(text)?;
+    Ok(copy)
+}
