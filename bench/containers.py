@@ -3,18 +3,22 @@
 
 usage: containers.py FOLDER
 
-`large.container` has one file of 16 MiB, all of high memory, which its script places and sums up. `many.container` has 1,000 files of
-4 KiB and a script of 8,192 commands, the most that one may have: each file is placed, and then pointers and sums follow, of one file
-after the other. Both are spelled as docs/FORMATS.md says. `alone.container` has a script of no commands and no other file.
+`large.container` has one file of 16 MiB, all of high memory, which its script places and sums up. `random.container` has one of as many
+bytes at random, whose dump has a line for each 16 of them. `many.container` has 1,000 files of 4 KiB and a script of 8,192 commands, the
+most that one may have: each file is placed, and then pointers and sums follow, of one file after the other. `full.container` has as many
+bytes as an input may have, most of them in a file that no command names. `alone.container` has a script of no commands and no
+other file. All are spelled as docs/FORMATS.md says.
 """
 
 import pathlib
+import random
 import struct
 import sys
 
 SCRIPT = "etc/table-loader"
 FIRST_SELECTOR = 0x20
 MOST_COMMANDS = 8192
+MOST_BYTES = 64 << 20  # of an input
 
 
 def name_field(name):
@@ -49,6 +53,16 @@ def large():
     return container([("large", bytes(size)), (SCRIPT, allocate("large") + add_checksum("large", size))])
 
 
+def at_random():
+    return container([("random", random.Random(7).randbytes(16 << 20)), (SCRIPT, allocate("random", align=4096))])
+
+
+def full():
+    script = (SCRIPT, b"")
+    rest = MOST_BYTES - len(container([("unnamed", b""), script]))
+    return container([("unnamed", bytes(rest)), script])
+
+
 def many():
     names = [f"file-{at:04}" for at in range(1000)]
     commands = [allocate(name) for name in names]
@@ -63,5 +77,7 @@ def many():
 if __name__ == "__main__":
     folder = pathlib.Path(sys.argv[1])
     (folder / "large.container").write_bytes(large())
+    (folder / "random.container").write_bytes(at_random())
     (folder / "many.container").write_bytes(many())
+    (folder / "full.container").write_bytes(full())
     (folder / "alone.container").write_bytes(container([(SCRIPT, b"")]))

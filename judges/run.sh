@@ -4,7 +4,7 @@
 # where a bit of a checksum is flipped, or it would be no judge. They judge boots of each policy of places and of some seeds of
 # events too. Then `vmtables load` is given files that QEMU made for machines of its own, and what `vmtables build` makes for each
 # description, and judge_load.py judges the memory that it leaves of them; of a description it must be the memory that `boot`
-# leaves. Nothing is proved here.
+# leaves. Last, the commands that README.md shows must print what it says. Nothing is proved here.
 #
 # usage: judges/run.sh [PROGRAM]     PROGRAM stands for ./vmtables
 #
@@ -257,11 +257,21 @@ judge_examples() {
     done
 }
 
+# Has each command that a document shows print what the document says.
+judge_document() {
+    local said
+    description=$1
+    echo "$description"
+    said=$(python3 "$here/shown_commands.py" "$1" "$program" 2>&1) || { fault shown_commands.py "the commands" "$said"; return; }
+    echo "$said"
+}
+
 judge_all() {
     "$program" --version || exit 1 # builds ./vmtables where it isn't built, in sight
     cd "$root" || exit 1
     judge_examples
     ! has qemu-system-x86_64 || judge_machines
+    judge_document README.md
 }
 
 # listed NAME..: the names with commas between them, after how many they are.

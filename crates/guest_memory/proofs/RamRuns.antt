@@ -1,14 +1,9 @@
 -- Runs of bytes that are RAM.
 use Rattle.std.proofs.Common.{◌≡◌, ℕ, zero, suc, ◌+◌, ◌-◌, ◌<◌, Bool, true, false, inl, inr, arith, refl, sym, subst, add-zero}
 use Rattle.std.proofs.lemmas.Bool.{cases_lt, and_from, and_parts}
-use Rattle.std.proofs.lemmas.Bool.Decides.{nat_tests}
 use Rattle.vt_bytes.specs.Memory.{IsTop, IsRam, IsRamRange, is_ram}
-use Rattle.vt_bytes.proofs.Seen.{ram_tested}
+use Rattle.vt_bytes.proofs.Seen.{ram_tested, ram_from_test}
 use Rattle.guest_memory.specs.RamRange.{is_ram_range, LieInARange}
-
--- an address that is tested so is RAM
-ram_from_test : (top address : ℕ) → is_ram top address ≡ true → IsRam top address
-ram_from_test top address passes = grind (arith, nat_tests)
 
 -- bytes that are RAM lie in one range, since they don't reach over a gap
 pub in_a_range : (top address count : ℕ) → IsTop top → 0 < count → IsRamRange top address count → LieInARange top address count

@@ -16,7 +16,8 @@ use Rattle.table_model.specs.Strings.{HasNoNul, IsString, with_nuls, string_set,
 use Rattle.table_model.specs.Numbered.{numbered}
 use Rattle.table_model.specs.Structures.{layout_of}
 use Rattle.table_model.proofs.WrittenBodies.{length-numbered}
-use Rattle.smbios_build.specs.Spelling.{formatted, layout_bytes, structure_bytes, structures_bytes}
+use Rattle.table_model.specs.Smbios.{formatted}
+use Rattle.smbios_build.specs.Spelling.{layout_bytes, structure_bytes, structures_bytes}
 use Rattle.smbios_build.specs.Buildable.{IsRaw, IsBuildable}
 use Rattle.table_model.proofs.WrittenAreas.{each_string}
 use Rattle.smbios_build.proofs.Texts.{strings_of-strings}

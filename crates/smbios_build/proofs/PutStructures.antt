@@ -18,7 +18,8 @@ use Rattle.table_model.specs.Strings.{IsString, numbers_from, strings_of, string
 use Rattle.table_model.specs.Numbered.{numbered}
 use Rattle.table_model.specs.Structures.{number_of, layout_of}
 use Rattle.table_model.proofs.WrittenBodies.{length-numbered}
-use Rattle.smbios_build.specs.Spelling.{formatted, layout_bytes, structure_bytes}
+use Rattle.table_model.specs.Smbios.{formatted}
+use Rattle.smbios_build.specs.Spelling.{layout_bytes, structure_bytes}
 use Rattle.smbios_build.specs.Buildable.{IsRaw, IsBuildable, IsPut}
 use Rattle.smbios_build.proofs.Texts.{strings_of-strings}
 

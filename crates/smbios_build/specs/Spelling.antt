@@ -1,17 +1,13 @@
 -- The bytes that structures are written as (DMTF DSP0134, version 3.0.0, 6.1.2).
-use Rattle.std.specs.Prelude.{ℕ, ◌+◌, List, ◌∷◌, ◌++◌, length}
+use Rattle.std.specs.Prelude.{ℕ, List, ◌++◌}
 use Rattle.std.specs.List.{flat_map}
-use Rattle.vt_bytes.specs.Numbers.{le_bytes}
 use Rattle.vt_layout.specs.declared.row.Row.{Row}
 use Rattle.vt_layout.specs.Rows.{spelled}
 use Rattle.table_model.specs.declared.smbios.Structure.{Structure}
 use Rattle.table_model.specs.Strings.{numbers_from, strings_of, string_set}
 use Rattle.table_model.specs.Numbered.{numbered}
 use Rattle.table_model.specs.Structures.{number_of, layout_of}
-
--- a structure without its strings: its type, its length, its handle, and its area
-abbrev pub formatted : ℕ → ℕ → List ℕ → List ℕ
-formatted number handle area = number ∷ (4 + length area) ∷ le_bytes 2 handle ++ area
+use Rattle.table_model.specs.Smbios.{formatted}
 
 -- a structure of a type with these rows and texts: its texts are numbered in its area in their order, and those that aren't empty follow it
 abbrev pub layout_bytes : ℕ → ℕ → List Row → List (List ℕ) → List ℕ

@@ -3,9 +3,9 @@ ghost use Rattle.std.specs.List.{AllByRecursion};
 ghost use Rattle.vt_bytes.specs.Numbers.{le_bytes};
 ghost use Rattle.vt_layout.specs.Rows.{IsRow, size, spelled, string_numbers};
 ghost use Rattle.table_model.specs.Strings.{HasNoNul, IsString, string_set};
-ghost use Rattle.table_model.specs.Smbios.{IsStructure};
+ghost use Rattle.table_model.specs.Smbios.{IsStructure, formatted};
 ghost use Rattle.table_model.specs.Structures.{number_of};
-ghost use Rattle.smbios_build.specs.Spelling.{formatted, layout_bytes};
+ghost use Rattle.smbios_build.specs.Spelling.{layout_bytes};
 ghost use Rattle.smbios_build.specs.Buildable.{IsBuildable, IsPut};
 
 use crate::numbered_rows::put_numbered;

@@ -12,6 +12,7 @@ pub mod OneBody
 pub mod OneStructure
 pub mod OneStructures
 pub mod OneSmbios
+pub mod KnownKinds
 pub mod OneInventory
 pub mod WrittenAreas
 pub mod Numbered

@@ -63,23 +63,39 @@ one_range view address maximum a b is also =
 table_from : ℕ → ℕ → ℕ → List Structure → SmbiosTable
 table_from major minor docrev structures = record { major = major; minor = minor; docrev = docrev; structures = structures }
 
-same_table : (s t : SmbiosTable) → s.major ≡ t.major → s.minor ≡ t.minor → s.docrev ≡ t.docrev → s.structures ≡ t.structures → s ≡ t
+pub same_table : (s t : SmbiosTable) → s.major ≡ t.major → s.minor ≡ t.minor → s.docrev ≡ t.docrev → s.structures ≡ t.structures → s ≡ t
 unfolding table_from
 same_table s t major minor docrev structures =
     ap (λ n. table_from n s.minor s.docrev s.structures) major ∙ ap (λ n. table_from t.major n s.docrev s.structures) minor
     ∙ ap (λ n. table_from t.major t.minor n s.structures) docrev ∙ ap (table_from t.major t.minor t.docrev) structures
 
+-- the least valid anchor of a view tells of the structures, and leads to these bytes
+pub record Leads (view : View) (address : ℕ) (anchor : Anchor) (structures : ℕ) (bytes : List ℕ) : Type 0 where
+  pub valid : IsAnchor view address anchor structures
+  pub least : (other : ℕ) → other < address → HasAnchor view other → ⊥
+  pub range : IsRange view structures anchor.maximum_size bytes
+
+-- one anchor does, to the same bytes
+pub one_leads : (view : View) (p q : ℕ) (a b : Anchor) (s t : ℕ) (bytes others : List ℕ) → Leads view p a s bytes → Leads view q b t others
+    → (a ≡ b) × (bytes ≡ others)
+one_leads view p q a b s t bytes others is also =
+    let place : p ≡ q = one_least (HasAnchor view) p q (a, s, is.valid) (b, t, also.valid) is.least also.least in
+    let valid = subst (λ address. IsAnchor view address a s) place is.valid in
+    let told = one_anchor view q a b s t valid also.valid in
+    let at_place = subst (λ address. IsRange view address a.maximum_size bytes) told.1 is.range in
+    let at_most = subst (λ (anchor : Anchor). IsRange view t anchor.maximum_size bytes) told.0 at_place in
+    (told.0, one_range view t b.maximum_size bytes others at_most also.range)
+
+-- a table that is shown stands in them
+pub leads_of : (view : View) (t : SmbiosTable) (is : ShowsSmbios view t)
+    → Leads view is.address is.anchor is.structures (is.used ++ is.unused)
+leads_of view t is = record { valid = is.valid; least = is.least; range = is.range }
+
 pub one_smbios : (view : View) → IsOne (ShowsSmbios view)
 one_smbios view s t is also =
-    let place : is.address ≡ also.address =
-    one_least (HasAnchor view) is.address also.address (is.anchor, is.structures, is.valid) (also.anchor, also.structures, also.valid) is.least
-    also.least in
-    let valid = subst (λ a. IsAnchor view a is.anchor is.structures) place is.valid in
-    let told = one_anchor view also.address is.anchor also.anchor is.structures also.structures valid also.valid in
-    let at_place = subst (λ a. IsRange view a is.anchor.maximum_size (is.used ++ is.unused)) told.1 is.range in
-    let at_most = subst (λ (a : Anchor). IsRange view also.structures a.maximum_size (is.used ++ is.unused)) told.0 at_place in
-    let bytes =
-    one_range view also.structures also.anchor.maximum_size (is.used ++ is.unused) (also.used ++ also.unused) at_most also.range in
-    same_table s t (is.major ∙ ap (λ (a : Anchor). a.major) told.0 ∙ sym also.major) (is.minor ∙ ap (λ (a : Anchor). a.minor) told.0 ∙ sym also.minor)
-    (is.docrev ∙ ap (λ (a : Anchor). a.docrev) told.0 ∙ sym also.docrev)
-    (one_list_of_structures s.structures t.structures is.used also.used is.unused also.unused is.listed also.listed bytes)
+    let same =
+    one_leads view is.address also.address is.anchor also.anchor is.structures also.structures (is.used ++ is.unused) (also.used ++ also.unused)
+    (leads_of view s is) (leads_of view t also) in
+    same_table s t (is.major ∙ ap (λ (a : Anchor). a.major) same.0 ∙ sym also.major) (is.minor ∙ ap (λ (a : Anchor). a.minor) same.0 ∙ sym also.minor)
+    (is.docrev ∙ ap (λ (a : Anchor). a.docrev) same.0 ∙ sym also.docrev)
+    (one_list_of_structures s.structures t.structures is.used also.used is.unused also.unused is.listed also.listed same.1)

@@ -33,18 +33,18 @@ by_parts kind handle area bytes rest strings spelled =
     ∙ ap (λ b. kind ∷ (4 + length area) ∷ handle % 256 ∷ handle / 256 % 256 ∷ b) (append_assoc area (string_set strings) rest)
 
 -- what two structures have in common
-record SameParts (k l h g : ℕ) (a b p q : List ℕ) (u v : List (List ℕ)) : Type 0 where
+pub record SameParts (k l h g : ℕ) (a b p q : List ℕ) (u v : List (List ℕ)) : Type 0 where
   pub kinds : k ≡ l
-  pub handles : h ≡ g
+  pub handles : le_bytes 2 h ≡ le_bytes 2 g
   pub areas : a ≡ b
   pub strings : u ≡ v
   pub rests : p ≡ q
 
 -- structures that spell the same have the same parts
-same_spelling : (k l h g : ℕ) (a b x y p q : List ℕ) (u v : List (List ℕ)) → x ≡ k ∷ (4 + length a) ∷ le_bytes 2 h ++ a ++ string_set u
-    → y ≡ l ∷ (4 + length b) ∷ le_bytes 2 g ++ b ++ string_set v → h < 2 ^ 16 → g < 2 ^ 16 → AreStrings u → AreStrings v → x ++ p ≡ y ++ q
+pub same_spelling : (k l h g : ℕ) (a b x y p q : List ℕ) (u v : List (List ℕ)) → x ≡ k ∷ (4 + length a) ∷ le_bytes 2 h ++ a ++ string_set u
+    → y ≡ l ∷ (4 + length b) ∷ le_bytes 2 g ++ b ++ string_set v → AreStrings u → AreStrings v → x ++ p ≡ y ++ q
     → SameParts k l h g a b p q u v
-same_spelling k l h g a b x y p q u v x_spelled y_spelled h_fits g_fits us vs same =
+same_spelling k l h g a b x y p q u v x_spelled y_spelled us vs same =
     let x_parts = by_parts k h a x p u x_spelled in
     let y_parts = by_parts l g b y q v y_spelled in
     let kinds : k ≡ l = cc in
@@ -57,7 +57,7 @@ same_spelling k l h g a b x y p q u v x_spelled y_spelled h_fits g_fits us vs sa
     let sets = one_string_set u v p q us vs fronts.1 in
     record {
       kinds = kinds;
-      handles = one_handle h g h_fits g_fits handle_bytes;
+      handles = handle_bytes;
       areas = fronts.0;
       strings = sets.0;
       rests = sets.1;
@@ -82,13 +82,14 @@ pub one_structure : (k l : ℕ) (s t : Structure) (x y p q : List ℕ) → IsStr
 unfolding structure_from
 one_structure k l s t x y p q is also same =
     let parts =
-    same_spelling k l s.handle t.handle is.area also.area x y p q is.strings also.strings is.spelled also.spelled is.handle_fits also.handle_fits
-    is.are_strings also.are_strings same in
+    same_spelling k l s.handle t.handle is.area also.area x y p q is.strings also.strings is.spelled also.spelled is.are_strings
+    also.are_strings same in
+    let handles = one_handle s.handle t.handle is.handle_fits also.handle_fits parts.handles in
     let moved =
     same_body k l is.area also.area is.strings also.strings s.body parts.kinds parts.areas parts.strings is.body in
     let bodies : s.body ≡ t.body = one_body l also.area also.strings s.body t.body moved also.body in
     record {
       kinds = parts.kinds;
-      structures = ap (λ handle. structure_from handle s.body) parts.handles ∙ ap (structure_from t.handle) bodies;
+      structures = ap (λ handle. structure_from handle s.body) handles ∙ ap (structure_from t.handle) bodies;
       rests = parts.rests;
     }

@@ -11,11 +11,15 @@ use Rattle.table_model.specs.Structures.{IsBody}
 use Rattle.table_model.specs.MachineStructures.{structures_of}
 use Rattle.table_model.specs.Anchor.{IsAnchor, HasAnchor, IsRange}
 
--- The bytes are a structure of a type: the type, its length, its handle, its area, and its strings.
+-- a structure without its strings: its type, its length, its handle, and its area
+abbrev pub formatted : ℕ → ℕ → List ℕ → List ℕ
+formatted number handle area = number ∷ (4 + length area) ∷ le_bytes 2 handle ++ area
+
+-- The bytes are a structure of a type, with its handle, its area, and its strings.
 pub record IsStructure (bytes : List ℕ) (kind : ℕ) (s : Structure) : Type 0 where
   pub area : List ℕ
   pub strings : List (List ℕ)
-  pub spelled : bytes ≡ kind ∷ (4 + length area) ∷ le_bytes 2 s.handle ++ area ++ string_set strings
+  pub spelled : bytes ≡ formatted kind s.handle area ++ string_set strings
   pub handle_fits : s.handle < 2 ^ 16
   pub are_strings : AreStrings strings
   pub body : IsBody kind area strings s.body

@@ -1,4 +1,4 @@
-ghost use Rattle.std.specs.Prelude.{◌≡◌, ◌+◌, ◌*◌, ◌%◌, ◌==◌, length, OnOk, OnErr};
+ghost use Rattle.std.specs.Prelude.{◌≡◌, ◌≢◌, ◌+◌, ◌*◌, ◌%◌, ◌==◌, length, MatchBool, OnOk, OnErr};
 ghost use Rattle.std.specs.List.{list_all};
 ghost use Rattle.vt_outside.specs.Stream.{Rose};
 ghost use Rattle.vt_bytes.specs.Memory.{IsTop, IsRamRange, ram_ranges};
@@ -72,11 +72,21 @@ fn dump_rows<K: Sink>(
     Ok(())
 }
 
-// Whether all bytes are the fill byte.
+// Whether the 16 bytes of a row are all the fill byte.
 fn is_filled(row: &[u8], fill: u8) -> bool
+    requires { length row.now ≡ 16 }
     ensures { result ≡ list_all (λ byte. byte == fill) row.now }
 {
-    row.iter().all(|byte| *byte == fill)
+    let filled = [fill; 8];
+    are_eight(&row[..8], filled) && are_eight(&row[8..], filled)
+}
+
+// Whether eight bytes are these. They are compared as numbers, all at once, since most of what a dump looks at is the fill byte.
+fn are_eight(bytes: &[u8], others: [u8; 8]) -> bool
+    requires { length bytes.now ≡ 8 }
+    ensures { MatchBool result (bytes.now ≡ others) (bytes.now ≢ others) }
+{
+    u64::from_le_bytes(*bytes.as_array().unwrap()) == u64::from_le_bytes(others)
 }
 
 fn header(top: u32, fill: u8) -> [u8; 21]

@@ -4,5 +4,6 @@ pub mod Shows
 pub mod Spelled
 pub mod NumberRows
 pub mod InBytes
+pub mod AsRows
 pub mod Entries
 pub mod Filled

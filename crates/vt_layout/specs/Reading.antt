@@ -1,11 +1,11 @@
 -- What stands at a row, in bytes that begin with the first row of a layout.
-use Rattle.std.specs.Prelude.{◌≡◌, ℕ, ◌^◌, ◌<◌, ◌≤◌, List, length, take, slice_index_or, Result}
+use Rattle.std.specs.Prelude.{◌≡◌, ℕ, ◌^◌, ◌<◌, ◌≤◌, List, [], ◌∷◌, length, take, drop, slice_index_or, Result}
 use Rattle.vt_outside.specs.Name.{name_of, before_nul}
 use Rattle.vt_outside.specs.declared.name.NameFault.{NameFault}
 use Rattle.vt_bytes.specs.Numbers.{le, be}
 use Rattle.vt_bytes.specs.Parts.{part}
 use Rattle.vt_layout.specs.declared.row.Row.{Row}
-use Rattle.vt_layout.specs.declared.row.Row.TheVariants.{Number, BigEndian, Named, Reserved}
+use Rattle.vt_layout.specs.declared.row.Row.TheVariants.{Number, BigEndian, Bytes, Named, StringNumber, Ignored, Reserved}
 use Rattle.vt_layout.specs.Rows.{width_of, size}
 
 -- the row with this index, or one of no bytes where there is none
@@ -45,3 +45,26 @@ IsNamed row = ⊥
 -- the bytes reach to the end of the rows
 abbrev pub Reach : List ℕ → List Row → Type 0
 Reach bytes rows = (size rows ≤ length bytes) × (size rows < 2 ^ 32)
+
+-- a row that any bytes can be: a number, bytes, the number of a string, or what no reader looks at
+abbrev pub IsReadable : Row → Type 0
+IsReadable (Number width value) = Unit {0}
+IsReadable (BigEndian width value) = Unit {0}
+IsReadable (Bytes width bytes) = Unit {0}
+IsReadable (StringNumber number) = Unit {0}
+IsReadable (Ignored width value) = Unit {0}
+IsReadable (Reserved width) = Unit {0}
+IsReadable row = ⊥
+
+-- the row of a shape that its bytes are
+abbrev pub row_in : Row → List ℕ → Row
+row_in (Number width value) bytes = Number width (le bytes)
+row_in (BigEndian width value) bytes = BigEndian width (be bytes)
+row_in (Bytes width text) bytes = Bytes width bytes
+row_in (StringNumber number) bytes = StringNumber (le bytes)
+row_in row bytes = row
+
+-- the rows of a shape that bytes begin with
+abbrev pub rows_in : List Row → List ℕ → List Row
+rows_in [] bytes = []
+rows_in (row ∷ rows) bytes = row_in row (take (width_of row) bytes) ∷ rows_in rows (drop (width_of row) bytes)

@@ -4,7 +4,7 @@ ghost use Rattle.std.specs.Prelude.{◌≡◌, ◌≤◌, ◌+◌, ◌↔◌, �
 ghost use Rattle.std.specs.List.{AllByRecursion};
 ghost use Rattle.vt_layout.specs.declared.row.Row.{Row};
 ghost use Rattle.vt_layout.specs.Rows.{IsRow, IsPlain, size, shape, linked, spelled, number, text};
-ghost use Rattle.vt_layout.specs.Reading.{row_at, read_number, read_name, IsNumber, IsNamed};
+ghost use Rattle.vt_layout.specs.Reading.{row_at, read_number, read_name, IsNumber, IsNamed, IsReadable, rows_in};
 ghost use Rattle.vt_bytes.specs.View.{View, view_of};
 ghost use Rattle.vt_layout.specs.Shown.{Shown, LayoutShown, Held};
 ghost use Rattle.vt_layout.specs.Entries.{Entry, Types, entries_rows, linked_entries, IsOfType, EntriesShown};
@@ -33,6 +33,13 @@ pub fn shown_rows_are_read()
         → read_number k rows bytes ≡ number k rows }
     ensures name { (bytes : List ℕ) (rows : List Row) (k : ℕ) → LayoutShown (view_of bytes) 0 rows → IsNamed (row_at k rows)
         → read_name k rows bytes ≡ Ok (text k rows) }
+{}
+
+/// States that bytes are shown as rows of a shape, where any bytes can be such rows and there are enough of them.
+pub fn bytes_are_shown_as_rows()
+    ensures shown { (kinds : List Row) (bytes : List ℕ) → AllByRecursion IsReadable kinds → size kinds ≤ length bytes
+        → LayoutShown (view_of bytes) 0 (rows_in kinds bytes) }
+    ensures shaped { (kinds : List Row) (bytes : List ℕ) → shape (rows_in kinds bytes) ≡ shape kinds }
 {}
 
 /// States that entries that a view holds as they were written are shown there, each pointer with its target's place added. They

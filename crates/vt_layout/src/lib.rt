@@ -17,7 +17,7 @@ mod writing;
 
 pub use entry::entry_head;
 pub use pointer_size::is_pointer_size;
-pub use reading::{blank_name, read_name, read_u8, read_u16, read_u32};
+pub use reading::{blank_name, read_name, read_u8, read_u16, read_u32, read_u64};
 pub use row::{Row, size_of};
 pub use short_bytes::ShortBytes;
 pub use writing::{put_row, put_rows};

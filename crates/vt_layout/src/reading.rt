@@ -39,6 +39,16 @@ pub fn read_u32(bytes: &[u8], rows: &[Row], index: usize) -> u32
     number(bytes, rows, index) as u32
 }
 
+/// Reads the number of eight bytes at the row `rows[index]`, which must be a `Number` or a `BigEndian` that is eight bytes wide.
+/// `bytes` and `rows` are as for [`read_u8`].
+pub fn read_u64(bytes: &[u8], rows: &[Row], index: usize) -> u64
+    requires row { IsNumber 8 (row_at index rows.now) }
+    requires within { Reach bytes.now rows.now }
+    ensures { result ≡ read_number index rows.now bytes.now }
+{
+    number(bytes, rows, index)
+}
+
 /// Reads the file name at the row `rows[index]`, which must be a `Named`. `bytes` and `rows` are as for [`read_u8`].
 ///
 /// The errors are those of [`Name::read`]: `NoNul` if the 56 bytes have no NUL, `EmptyName` if they begin with one, and

@@ -1,0 +1,32 @@
+-- What a memory shows from its anchors, or the first fault (DMTF DSP0134, version 3.0.0, 5.2.2).
+use Rattle.std.specs.Prelude.{◌≡◌, ℕ, ◌<◌, ◌⊎◌, List, Option, Result, Err}
+use Rattle.vt_bytes.specs.View.{View}
+use Rattle.table_model.specs.declared.anchor.Anchor.{Anchor}
+use Rattle.table_model.specs.declared.smbios.SmbiosTable.{SmbiosTable}
+use Rattle.table_model.specs.Anchor.{IsAnchor, HasAnchor, IsRange}
+use Rattle.smbios_decode.specs.declared.fault.SmbiosFault.{SmbiosFault}
+use Rattle.smbios_decode.specs.declared.fault.SmbiosFault.TheVariants.{OutOfMemory}
+use Rattle.smbios_decode.specs.Faults.{IsRefused}
+
+-- no valid anchor stands anywhere
+abbrev pub HasNoAnchor : View → Type 0
+HasNoAnchor view = (address : ℕ) → HasAnchor view address → ⊥
+
+-- the least address of a valid anchor
+abbrev pub IsFirstAnchor : View → ℕ → Type 0
+IsFirstAnchor view address = HasAnchor view address × ((other : ℕ) → other < address → HasAnchor view other → ⊥)
+
+-- The least valid anchor leads to bytes that aren't structures, with this first fault.
+pub record RefusesSmbios (view : View) (fault : SmbiosFault) : Type 0 where
+  pub address : ℕ
+  pub anchor : Anchor
+  pub structures : ℕ
+  pub valid : IsAnchor view address anchor structures
+  pub least : (other : ℕ) → other < address → HasAnchor view other → ⊥
+  pub bytes : List ℕ
+  pub range : IsRange view structures anchor.maximum_size bytes
+  pub refused : IsRefused bytes fault
+
+-- a result is what was meant, unless memory ran out
+abbrev pub OrNoMemory : Result (Option SmbiosTable) SmbiosFault → Result (Option SmbiosTable) SmbiosFault → Type 0
+OrNoMemory result meant = (result ≡ meant) ⊎ (result ≡ Err OutOfMemory)

@@ -1,0 +1,43 @@
+ghost use Rattle.std.specs.Prelude.{◌≡◌, ◌⊎◌, ◌↔◌, None, Some, Ok, Err, IfOk, IfErr, IfSome};
+ghost use Rattle.vt_bytes.specs.Memory.{seen};
+ghost use Rattle.table_model.specs.declared.smbios.SmbiosTable.{SmbiosTable};
+ghost use Rattle.table_model.specs.Smbios.{ShowsSmbios};
+ghost use Rattle.smbios_decode.specs.declared.fault.SmbiosFault.{SmbiosFault};
+ghost use Rattle.smbios_decode.specs.declared.fault.SmbiosFault.TheVariants.{OutOfMemory as NoMemory};
+ghost use Rattle.anchor_scan.specs.Shown.{HasNoAnchor, RefusesSmbios, OrNoMemory};
+
+use crate::anchor::{find_smbios, read_anchor};
+use crate::range::range_from;
+use guest_memory::GuestMemory;
+use smbios_decode::{SmbiosFault, decode_table};
+use std::alloc::Global;
+use table_model::SmbiosTable;
+
+/// Reads the SMBIOS table of `memory` from its anchor (DSP0134 5.2.2): the structures in the bytes from the address on that the
+/// anchor tells, as many as its maximum size says and as are RAM without a gap. What is read takes its memory from `alloc`, and so
+/// does a copy of those bytes meanwhile.
+///
+/// Returns `Ok(None)` when no valid anchor stands in `memory`, and then takes no memory. The errors are those of
+/// [`decode_table`]; a place counts from the first of the bytes.
+pub fn scan_smbios(alloc: Global, memory: &GuestMemory) -> Result<Option<SmbiosTable>, SmbiosFault>
+    ensures none { result ≡ Ok None ↔ HasNoAnchor (seen memory.now) }
+    // What is read is shown, and what is shown is read.
+    ensures shown { IfOk result (λ found. IfSome found (λ table. ShowsSmbios (seen memory.now) table)) }
+    ensures shows { (table : SmbiosTable) → ShowsSmbios (seen memory.now) table → OrNoMemory result (Ok (Some table)) }
+    // A fault is the first, and where there is one it is told.
+    ensures refused { IfErr result (λ fault. (fault ≡ NoMemory) ⊎ RefusesSmbios (seen memory.now) fault) }
+    ensures refuses { (fault : SmbiosFault) → RefusesSmbios (seen memory.now) fault → OrNoMemory result (Err fault) }
+{
+    let Some(address) = find_smbios(memory) else {
+        return Ok(None);
+    };
+    let found = read_anchor(memory, address);
+    let bytes = range_from(alloc, memory, found.structures, found.anchor.maximum_size)?;
+    let structures = decode_table(alloc, &bytes)?;
+    Ok(Some(SmbiosTable {
+        major: found.anchor.major,
+        minor: found.anchor.minor,
+        docrev: found.anchor.docrev,
+        structures,
+    }))
+}

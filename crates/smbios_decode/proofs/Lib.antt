@@ -1,0 +1,14 @@
+pub mod FieldNumbers
+pub mod Taken
+pub mod Asked
+pub mod Typed
+pub mod Counted
+pub mod Bodies
+pub mod Wholes
+pub mod Missing
+pub mod OneFault
+pub mod OneReading
+pub mod Pairs
+pub mod Pieces
+pub mod Headed
+pub mod Onward

@@ -1,0 +1,22 @@
+use Rattle.std.proofs.Common.{refl}
+use Rattle.table_model.specs.BiosInformation.{bios_kind}
+use Rattle.smbios_decode.proofs.Taken.{is_taken, taken_none, taken_number, taken_text}
+use Rattle.smbios_decode.proofs.records.bios.Goals as goal
+
+pub returns : goal.returns
+returns c =
+    is_taken bios_kind _ (λ all. refl)
+    (taken_text c.text.ensures.area c.text.ensures.strings c.text.ensures.asked
+    (taken_text c.text-2.ensures.area c.text-2.ensures.strings c.text-2.ensures.asked
+    (taken_number c.word.ensures.value c.word.ensures.after
+    (taken_text c.text-3.ensures.area c.text-3.ensures.strings c.text-3.ensures.asked
+    (taken_number c.byte.ensures.value c.byte.ensures.after
+    (taken_number c.qword.ensures.value c.qword.ensures.after
+    (taken_number c.byte-2.ensures.value c.byte-2.ensures.after
+    (taken_number c.byte-3.ensures.value c.byte-3.ensures.after
+    (taken_number c.byte-4.ensures.value c.byte-4.ensures.after
+    (taken_number c.byte-5.ensures.value c.byte-5.ensures.after
+    (taken_number c.byte-6.ensures.value c.byte-6.ensures.after
+    (taken_number c.byte-7.ensures.value c.byte-7.ensures.after
+    (taken_none c.byte-7.new.self)))))))))))))
+    refl

@@ -1,0 +1,32 @@
+use Rattle.std.proofs.Common.{refl}
+use Rattle.table_model.specs.MemoryDevice.{device_kind}
+use Rattle.smbios_decode.proofs.Taken.{is_taken, taken_none, taken_number, taken_text}
+use Rattle.smbios_decode.proofs.records.device.Goals as goal
+
+pub returns : goal.returns
+returns c =
+    is_taken device_kind _ (λ all. refl)
+    (taken_number c.word.ensures.value c.word.ensures.after
+    (taken_number c.word-2.ensures.value c.word-2.ensures.after
+    (taken_number c.word-3.ensures.value c.word-3.ensures.after
+    (taken_number c.word-4.ensures.value c.word-4.ensures.after
+    (taken_number c.word-5.ensures.value c.word-5.ensures.after
+    (taken_number c.byte.ensures.value c.byte.ensures.after
+    (taken_number c.byte-2.ensures.value c.byte-2.ensures.after
+    (taken_text c.text.ensures.area c.text.ensures.strings c.text.ensures.asked
+    (taken_text c.text-2.ensures.area c.text-2.ensures.strings c.text-2.ensures.asked
+    (taken_number c.byte-3.ensures.value c.byte-3.ensures.after
+    (taken_number c.word-6.ensures.value c.word-6.ensures.after
+    (taken_number c.word-7.ensures.value c.word-7.ensures.after
+    (taken_text c.text-3.ensures.area c.text-3.ensures.strings c.text-3.ensures.asked
+    (taken_text c.text-4.ensures.area c.text-4.ensures.strings c.text-4.ensures.asked
+    (taken_text c.text-5.ensures.area c.text-5.ensures.strings c.text-5.ensures.asked
+    (taken_text c.text-6.ensures.area c.text-6.ensures.strings c.text-6.ensures.asked
+    (taken_number c.byte-4.ensures.value c.byte-4.ensures.after
+    (taken_number c.dword.ensures.value c.dword.ensures.after
+    (taken_number c.word-8.ensures.value c.word-8.ensures.after
+    (taken_number c.word-9.ensures.value c.word-9.ensures.after
+    (taken_number c.word-10.ensures.value c.word-10.ensures.after
+    (taken_number c.word-11.ensures.value c.word-11.ensures.after
+    (taken_none c.word-11.new.self)))))))))))))))))))))))
+    refl

@@ -1,0 +1,28 @@
+use Rattle.std.proofs.Common.{◌+◌, arith, sym, ◌∙◌}
+use Rattle.std.proofs.lemmas.List.{length-take-le}
+use Rattle.smbios_decode.proofs.Pieces.{Begins, both_within, strings_begin, none_begin, no_strings}
+use Rattle.smbios_decode.proofs.strings.read_strings.Goals as goal
+use Rattle.smbios_decode.proofs.strings.read_strings.Goals.{then-end-eq0, else-end-eq0+in_ok-texts}
+
+pub returns-in_default-clause-none : goal.returns-in_default-clause-none
+returns-in_default-clause-none c = λ none. no_strings c.args.bytes.now (c.end_of_strings.ensures.none c.in_default.is)
+
+pub slice_bounds-texts_in-end : goal.slice_bounds-texts_in-end
+slice_bounds-texts_in-end c =
+    let within = both_within c.args.bytes.now c.in-Some.end c.in-Some.ensures.some.0 in
+    sym (length-take-le c.in-Some.end c.args.bytes.now (omega arith))
+
+pub overflow_add-result : goal.overflow_add-result
+overflow_add-result c = omega (arith, both_within c.args.bytes.now c.in-Some.end c.in-Some.ensures.some.0)
+
+pub returns-clause-found : goal.returns-clause-found
+returns-clause-found c =
+    let begins : Begins c.args.bytes.now (c.in-Some.end + 2) c.if-end-eq0.texts =
+    elim c.if-end-eq0.branch [
+      | then-end-eq0 w ↦
+          none_begin c.args.bytes.now c.in-Some.end c.if-end-eq0.texts c.in-Some.ensures.some w.if-end-eq0.true (w.texts-is ∙ w.new-texts.ensures)
+      | else-end-eq0+in_ok-texts w ↦
+          strings_begin c.args.bytes.now c.in-Some.end c.if-end-eq0.texts c.in-Some.ensures.some w.if-end-eq0.false
+          (w.texts-is ∙ w.in_ok-texts.ensures)
+    ] in
+    (begins.are, begins.sized, begins.rest, begins.split)

@@ -1,0 +1,25 @@
+use Rattle.std.proofs.Common.{◌+◌, sym, subst, inr}
+use Rattle.std.proofs.lemmas.Result.{err_from_is_err_and}
+use Rattle.smbios_decode.specs.Faults.{IsRead}
+use Rattle.smbios_decode.proofs.Onward.{IsReached, reached_more, read_last, refused_there, no_end}
+use Rattle.smbios_decode.proofs.table.decode.Goals as goal
+
+pub returns-in_err-found-clause-refused : goal.returns-in_err-found-clause-refused
+returns-in_err-found-clause-refused c =
+    let p = err_from_is_err_and c.from_residual.result c.from_residual.ensures.1 in
+    rw (p.1, p.2)
+    (refused_there c.args.bytes.now c.loop-place.place c.loop-place.structures c.in_err-found.field-0.0 c.loop-place.invariant c.in_err-found.ensures.fault)
+
+pub returns-then-found-clause-read : goal.returns-then-found-clause-read
+returns-then-found-clause-read c =
+    subst (IsRead c.args.bytes.now) (sym c.in_ok-push.ensures.ok)
+    (read_last c.args.bytes.now c.loop-place.place c.loop-place.structures c.in_ok-found.found c.loop-place.invariant c.in_ok-found.ensures.found c.if-found.true)
+
+pub loop-place-preserved : goal.loop-place-preserved
+loop-place-preserved c =
+    subst (IsReached c.args.bytes.now (c.loop-place.place + c.in_ok-found.found.size)) (sym c.in_ok-push.ensures.ok)
+    (reached_more c.args.bytes.now c.loop-place.place c.loop-place.structures c.in_ok-found.found c.loop-place.invariant c.in_ok-found.ensures.found
+    c.if-found.false)
+
+pub returns-clause-refused : goal.returns-clause-refused
+returns-clause-refused c = inr (no_end c.args.bytes.now c.loop-place.place c.loop-place.structures c.loop-place.invariant c.loop-place-test.false)

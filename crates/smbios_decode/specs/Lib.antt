@@ -1,0 +1,13 @@
+pub mod Ends
+pub mod Faults
+pub mod Texts
+pub mod Kinds
+pub mod Found
+pub use Rattle.vt_bytes.specs.Numbers
+pub use Rattle.vt_layout.specs.Rows
+pub use Rattle.vt_layout.specs.Reading
+pub use Rattle.table_model.specs.Strings
+pub use Rattle.table_model.specs.StructureKinds
+pub use Rattle.table_model.specs.OemStrings
+pub use Rattle.table_model.specs.Structures
+pub use Rattle.table_model.specs.Smbios

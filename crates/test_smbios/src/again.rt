@@ -1,0 +1,165 @@
+//! The structures of machines, which are built as bytes and read again, also with other bytes behind them.
+
+ghost use Rattle.std.specs.Prelude.{IfOk};
+ghost use Rattle.smbios_build.specs.Buildable.{AreBuildable};
+
+use crate::told::read;
+use desc_toml::read_machine;
+use machine_desc::Machine;
+use smbios_build::build_smbios;
+use smbios_build::laws::accepted_structures_are_buildable;
+use std::alloc::Global;
+use std::process::Abort;
+use std::test::Fail;
+use table_model::{Structure, structures_of};
+use vt_outside::{Bytes, List};
+
+// A machine of which nothing is described but what must be.
+const LEAST: &str = "version = 1\ntop_mib = 64\n[system]\n";
+
+// A machine with texts of every length that a string may have at the borders of what a machine may say.
+const SYSTEM: &str = "version = 1
+top_mib = 3072
+oem_strings = [' ', '~']
+[system]
+manufacturer = 'AAAAAAAAAAAAAAAAAAAAAAAAAAAAAAAAAAAAAAAAAAAAAAAAAAAAAAAAAAAAAAAA'
+product = 'B'
+version = ''
+serial = 'B'
+sku = ''
+family = 'FFFFFFFFFFFFFFFFFFFFFFFFFFFFFFFFFFFFFFFFFFFFFFFFFFFFFFFFFFFFFFFF'
+uuid = '6f1a5e0c-2b4d-4c7e-9a38-0d5c1b7e42f9'
+";
+
+// A machine with each part, and of most parts two, one of which has no texts.
+const PARTS: &str = "version = 1
+top_mib = 2048
+oem_strings = ['EX-1', 'made for tests']
+[system]
+manufacturer = 'Example Co'
+product = 'Server'
+version = '1'
+serial = 'S-0001'
+sku = 'EX-SRV-1'
+family = 'Servers'
+uuid = '6f1a5e0c-2b4d-4c7e-9a38-0d5c1b7e42f9'
+[firmware]
+vendor = 'Example'
+version = '1.0'
+date = '01/02/2024'
+major = 1
+minor = 2
+[chassis]
+manufacturer = 'Example Co'
+version = 'B2'
+serial = 'C-0001'
+asset = 'A-0001'
+sku = 'EX-CHS-1'
+kind = 23
+[[socket]]
+designation = 'CPU 0'
+manufacturer = 'Example Co'
+version = 'EX-8'
+serial = 'P-0001'
+asset = 'A-0002'
+part = 'EX-CPU-8'
+cores = 256
+threads = 65534
+mhz = 2600
+[[socket]]
+cores = 1
+threads = 2
+[[dimm]]
+locator = 'DIMM 0'
+bank = 'Bank 0'
+manufacturer = 'Example Co'
+serial = 'M-0001'
+asset = 'A-0003'
+part = 'EX-MEM-2'
+size_mib = 16777216
+speed = 3200
+[[dimm]]
+size_mib = 1
+[[range]]
+base_mib = 0
+size_mib = 2048
+node = 0
+[[range]]
+base_mib = 4294967295
+size_mib = 1
+node = 0
+[[slot]]
+designation = 'SLOT 1'
+kind = 0xA5
+width = 8
+used = true
+id = 513
+bus = 1
+device = 31
+function = 7
+[[slot]]
+kind = 1
+width = 1
+";
+
+static DESCRIPTIONS: [&str; 3] = [LEAST, SYSTEM, PARTS];
+
+#[test]
+fn structures_are_read_again(rt: HostRuntime) -> Result<(), Fail> {
+    for description in &DESCRIPTIONS {
+        let structures = structures(rt.alloc(), description)?;
+        are_read_again(&rt, rt.alloc(), structures.as_slice())?;
+    }
+    Ok(())
+}
+
+// The structures of the machine that a text describes.
+fn structures(alloc: Global, description: &str) -> Result<List<Structure>, Fail>
+    ensures { IfOk result (λ structures. AreBuildable structures) }
+{
+    let machine = read_machine(alloc, description.as_bytes())?;
+    accepted_structures(alloc, &machine)
+}
+
+fn accepted_structures(alloc: Global, machine: &Machine) -> Result<List<Structure>, Fail>
+    ensures { IfOk result (λ structures. AreBuildable structures) }
+{
+    if machine.check().is_err() {
+        return Err(Fail::from("a lawful machine"));
+    }
+    accepted_structures_are_buildable();
+    Ok(structures_of(alloc, machine)?)
+}
+
+fn are_read_again(rt: &impl Abort, alloc: Global, structures: &[Structure]) -> Result<(), Fail>
+    requires { AreBuildable structures.now }
+{
+    let mut bytes = build_smbios(alloc, structures)?;
+    is_read_as(rt, alloc, bytes.as_slice(), structures)?;
+    push_others(&mut bytes)?;
+    is_read_as(rt, alloc, bytes.as_slice(), structures)
+}
+
+// Appends what would be a fault if it were looked at.
+fn push_others(bytes: &mut Bytes) -> Result<(), Fail> {
+    bytes.extend(b"\x7f\x03\x00")?;
+    Ok(())
+}
+
+// The bytes are read as these structures, whose printed form has each of their fields.
+fn is_read_as(
+    rt: &impl Abort,
+    alloc: Global,
+    bytes: &[u8],
+    structures: &[Structure],
+) -> Result<(), Fail> {
+    let again = read(alloc, bytes)?;
+    let printed = printed(alloc, again.as_slice())?;
+    let wanted = self::printed(alloc, structures)?;
+    assert_eq!(rt; printed.as_str(), wanted.as_str());
+    Ok(())
+}
+
+fn printed(alloc: Global, structures: &[Structure]) -> Result<String, Fail> {
+    Ok(format!(in alloc; "{structures:?}")?)
+}
