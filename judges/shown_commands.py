@@ -3,7 +3,8 @@
 
 A command is a line of a fenced block that begins with `$ `. The lines behind it, up to the next command or the end of the block, are
 what it prints, on standard output and standard error; a last line `status N` is its exit status, which is 0 where none is told. The
-commands run one after the other in one folder, a copy of the current one's top, so that one may read what another wrote.
+commands run one after the other in a folder of their own, with links to what stands in the current one, so that one may read what another
+wrote.
 
 usage: shown_commands.py DOCUMENT PROGRAM     PROGRAM is what ./vmtables is to be
 
