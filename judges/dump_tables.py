@@ -1,6 +1,6 @@
 #!/usr/bin/env python3
 """Turns a dump of guest memory into files for dmidecode and iasl. It is no part of the product: it serves the checks of
-judges/run.sh alone, and judges nothing itself beyond finding the tables by their anchors.
+judges/run.sh, and whoever wants to look at a dump. It judges nothing itself beyond finding the tables by their anchors.
 
 usage: dump_tables.py DUMP FOLDER
 

@@ -1,19 +1,21 @@
 #!/usr/bin/env python3
-"""Writes the container (docs/FORMATS.md) of the fw_cfg files that a machine of QEMU has. It is no part of the product: it serves
-the checks of judges/run.sh alone.
+"""Writes the container (docs/FORMATS.md) of the fw_cfg files that a machine of QEMU has, for `vmtables load`. It is no part of the
+product: it serves the checks of judges/run.sh, and whoever wants to load such files.
 
-usage: qemu_files.py MACHINE CONTAINER
+usage: qemu_files.py MACHINE CONTAINER [OPTION..]
 
-MACHINE is pc or q35. The machine is started with its processors stopped, so that no firmware runs, and its device is read by
-qtest's port accesses, as QEMU's docs/specs/fw_cfg has it: an item is selected by a write to port 0x510, and each read of port 0x511
-gives its next byte; item 0x0019 is the directory. Whether the guest may write a file is found by having the device take the file's
-first byte from the guest's memory, where it stands unchanged, by DMA: for a file that may only be read the device sets the error
-bit.
+MACHINE is pc or q35, and QEMU gets each OPTION too, as `-m 2048`.
+
+The machine is started with its processors stopped, so that no firmware runs, and its device is read by qtest's port accesses, as
+QEMU's docs/specs/fw_cfg has it: an item is selected by a write to port 0x510, and each read of port 0x511 gives its next byte; item
+0x0019 is the directory. Whether the guest may write a file is found by having the device take the file's first byte from the guest's
+memory, where it stands unchanged, by DMA: for a file that may only be read the device sets the error bit.
 
 Status 0: done; 2: what the machine answers makes no container; 3: QEMU doesn't start it, or it doesn't answer.
 """
 
 import pathlib
+import shutil
 import struct
 import subprocess
 import sys
@@ -49,6 +51,8 @@ class Machine:
     """A machine that stands still, and answers the lines of qtest. It ends itself after SECONDS."""
 
     def __init__(self, options):
+        if shutil.which("qemu-system-x86_64") is None:
+            raise NoAnswer("qemu-system-x86_64 isn't installed")
         command = ["timeout", "--kill-after=5", SECONDS, "qemu-system-x86_64", *STOPPED, *DRIVEN, *options]
         self.process = subprocess.Popen(command, stdin=subprocess.PIPE, stdout=subprocess.PIPE, text=True)
 
@@ -112,9 +116,9 @@ def container_of(machine):
     return directory + flags + files
 
 
-def main(machine_name, container):
+def main(machine_name, container, *options):
     try:
-        with Machine(MACHINES[machine_name]) as machine:
+        with Machine([*MACHINES[machine_name], *options]) as machine:
             content = container_of(machine)
         read_container(content)
     except (OSError, NoAnswer) as refusal:
@@ -128,6 +132,6 @@ def main(machine_name, container):
 
 
 if __name__ == "__main__":
-    if len(sys.argv) != 3 or sys.argv[1] not in MACHINES:
-        sys.exit("usage: qemu_files.py pc|q35 CONTAINER")
+    if len(sys.argv) < 3 or sys.argv[1] not in MACHINES:
+        sys.exit("usage: qemu_files.py pc|q35 CONTAINER [OPTION..]")
     sys.exit(main(*sys.argv[1:]))

@@ -6,6 +6,8 @@ what it prints, on standard output and standard error; a last line `status N` is
 commands run one after the other in a folder of their own, with links to what stands in the current one, so that one may read what another
 wrote.
 
+A command that needs a program that isn't there is skipped, and its line says so.
+
 usage: shown_commands.py DOCUMENT PROGRAM     PROGRAM is what ./vmtables is to be
 
 Prints a line for each command. Status 0: each printed what the document says; 1: one didn't.
@@ -13,11 +15,13 @@ Prints a line for each command. Status 0: each printed what the document says; 1
 
 import os
 import pathlib
+import shutil
 import subprocess
 import sys
 import tempfile
 
 LONGEST = 600  # seconds that a command may take
+NEEDED = {"q35": "qemu-system-x86_64"}  # the program that a command needs which has this in it
 OF_TRIES = ("checked: ended", "run=ended")  # how lines begin by which `rt try` says that nothing is proved
 
 
@@ -61,6 +65,11 @@ def printed(command, folder):
     return "".join(line for line in lines if not line.startswith(OF_TRIES)), run.returncode
 
 
+def missing(command):
+    """Returns the program that a command needs, where it isn't there."""
+    return next((tool for part, tool in NEEDED.items() if part in command and shutil.which(tool) is None), None)
+
+
 def make_folder(folder, root, program):
     """Makes a folder that has all that stands at the top of the repository, and the program as ./vmtables."""
     for entry in root.iterdir():
@@ -75,6 +84,9 @@ def main(document, program):
         folder = pathlib.Path(name)
         make_folder(folder, pathlib.Path.cwd(), pathlib.Path(program).resolve())
         for command, lines in shown_commands(pathlib.Path(document).read_text()):
+            if (tool := missing(command)) is not None:
+                print(f"  $ {command}: skipped, since {tool} isn't there")
+                continue
             text, status = expected(lines)
             got, ended = printed(command, folder)
             if (got, ended) == (text, status):

@@ -2,6 +2,8 @@
 use Rattle.std.specs.Prelude.{ℕ, zero, suc, List, [], ◌∷◌, Option, Some, None, ◌==◌, if◌then◌else◌}
 use Rattle.desc_schema.specs.declared.item.Item.{Item}
 use Rattle.desc_schema.specs.Taken.{first, rest, skip, item_at, text_of, number_to, flag_of, uuid_if, count_of}
+use Rattle.desc_toml.specs.declared.machine.Front.{Front}
+use Rattle.desc_toml.specs.declared.machine.Arrays.{Arrays}
 use Rattle.machine_desc.specs.declared.machine.Machine.{Machine}
 use Rattle.machine_desc.specs.declared.machine.System.{System}
 use Rattle.machine_desc.specs.declared.machine.Acpi.{Acpi}
@@ -117,28 +119,48 @@ hpet_of values = record {
   min_tick = number_to 0xFFFF (item_at 3 values);
 }
 
--- The version, the top, the texts of the maker, and one table with the seven values of the system; the tables that may be left out, and
--- the arrays, each behind what stands before it.
-unfoldable pub machine_of : List Item → Machine
-machine_of values =
+-- The version, the top, the texts of the maker, one table with the seven values of the system, and two tables that may be left out, each
+-- behind what stands before it; and what follows them.
+unfoldable pub front_of : List Item → Front × List Item
+front_of values =
     let oem_strings = list_of one_text 1 (skip 2 values) in
     let firmware = part_of firmware_of 5 (skip 8 oem_strings.1) in
-    let chassis = part_of chassis_of 6 firmware.1 in
-    let sockets = list_of socket_of 9 chassis.1 in
+    let chassis = part_of chassis_of 6 firmware.1 in (
+      record {
+        top_mib = number_to 0xFFFFFFFF (item_at 1 values);
+        oem_strings = oem_strings.0;
+        system = system_of (skip 1 oem_strings.1);
+        firmware = firmware.0;
+        chassis = chassis.0;
+      },
+      chassis.1,
+    )
+
+-- the arrays, one after the other, and what follows them
+unfoldable pub arrays_of : List Item → Arrays × List Item
+arrays_of values =
+    let sockets = list_of socket_of 9 values in
     let dimms = list_of dimm_of 8 sockets.1 in
     let ranges = list_of range_of 3 dimms.1 in
     let slots = list_of slot_of 8 ranges.1 in
-    let acpi = part_of acpi_of 2 slots.1 in
+    (record { sockets = sockets.0; dimms = dimms.0; ranges = ranges.0; slots = slots.0 }, slots.1)
+
+-- what stands before the arrays, these, and two tables that may be left out
+unfoldable pub machine_of : List Item → Machine
+machine_of values =
+    let front = front_of values in
+    let arrays = arrays_of front.1 in
+    let acpi = part_of acpi_of 2 arrays.1 in
     record {
-      top_mib = number_to 0xFFFFFFFF (item_at 1 values);
-      oem_strings = oem_strings.0;
-      system = system_of (skip 1 oem_strings.1);
-      firmware = firmware.0;
-      chassis = chassis.0;
-      sockets = sockets.0;
-      dimms = dimms.0;
-      ranges = ranges.0;
-      slots = slots.0;
+      top_mib = front.0.top_mib;
+      oem_strings = front.0.oem_strings;
+      system = front.0.system;
+      firmware = front.0.firmware;
+      chassis = front.0.chassis;
+      sockets = arrays.0.sockets;
+      dimms = arrays.0.dimms;
+      ranges = arrays.0.ranges;
+      slots = arrays.0.slots;
       acpi = acpi.0;
       hpet = (part_of hpet_of 4 acpi.1).0;
     }

@@ -1,38 +1,94 @@
 //! A machine from the values of its description, which are taken out one after the other.
 
 ghost use Rattle.std.specs.Prelude.{◌≡◌, IfOk};
-ghost use Rattle.desc_toml.specs.Values.{part_of, list_of, machine_of};
+ghost use Rattle.desc_toml.specs.Values.{part_of, list_of, front_of, arrays_of, machine_of};
 
 use crate::parts::Part;
 use desc_schema::Items;
-use machine_desc::{Machine, System};
+use machine_desc::{Chassis, Dimm, Firmware, Machine, MemRange, Slot, Socket, System};
 use std::alloc::Global;
-use vt_outside::{List, OutOfMemory};
+use vt_outside::{List, OutOfMemory, Text};
 
-// The machine of these values.
+// What a machine has before its arrays.
+#[derive(Drop)]
+struct Front {
+    top_mib: u32,
+    oem_strings: List<Text>,
+    system: System,
+    firmware: Option<Firmware>,
+    chassis: Option<Chassis>,
+}
+
+// The arrays of a machine.
+#[derive(Drop)]
+struct Arrays {
+    sockets: List<Socket>,
+    dimms: List<Dimm>,
+    ranges: List<MemRange>,
+    slots: List<Slot>,
+}
+
+// The machine of these values. It is made in parts, since the proof of a function grows steeply with the values that it owns at a `?`.
 #[tactic(auto, unfolding(crate::specs::Values::machine_of))]
 pub(crate) fn machine_of(alloc: Global, items: &mut Items) -> Result<Machine, OutOfMemory>
     ensures { IfOk result (λ machine. machine ≡ machine_of items.old) }
 {
-    let _version = items.take_first();
-    let top_mib = items.take_number(u32::MAX as u64) as u32;
-    let oem_strings = list_of(alloc, items)?;
-    let _one = items.take_first();
-    let system = System::take(alloc, items);
-    let firmware = part_of(alloc, items);
-    let chassis = part_of(alloc, items);
+    let Front {
+        top_mib,
+        oem_strings,
+        system,
+        firmware,
+        chassis,
+    } = front_of(alloc, items)?;
+    let Arrays {
+        sockets,
+        dimms,
+        ranges,
+        slots,
+    } = arrays_of(alloc, items)?;
     Ok(Machine {
         top_mib,
         oem_strings,
         system,
         firmware,
         chassis,
+        sockets,
+        dimms,
+        ranges,
+        slots,
+        acpi: part_of(alloc, items),
+        hpet: part_of(alloc, items),
+    })
+}
+
+// What a machine has before its arrays. No version but 1 is read, and there is one table of the system.
+#[tactic(auto, unfolding(crate::specs::Values::front_of))]
+fn front_of(alloc: Global, items: &mut Items) -> Result<Front, OutOfMemory>
+    ensures { IfOk result (λ front. (front, items.new) ≡ front_of items.old) }
+{
+    let _version = items.take_first();
+    let top_mib = items.take_number(u32::MAX as u64) as u32;
+    let oem_strings = list_of(alloc, items)?;
+    let _one = items.take_first();
+    Ok(Front {
+        top_mib,
+        oem_strings,
+        system: System::take(alloc, items),
+        firmware: part_of(alloc, items),
+        chassis: part_of(alloc, items),
+    })
+}
+
+// The arrays of a machine.
+#[tactic(auto, unfolding(crate::specs::Values::arrays_of))]
+fn arrays_of(alloc: Global, items: &mut Items) -> Result<Arrays, OutOfMemory>
+    ensures { IfOk result (λ arrays. (arrays, items.new) ≡ arrays_of items.old) }
+{
+    Ok(Arrays {
         sockets: list_of(alloc, items)?,
         dimms: list_of(alloc, items)?,
         ranges: list_of(alloc, items)?,
         slots: list_of(alloc, items)?,
-        acpi: part_of(alloc, items),
-        hpet: part_of(alloc, items),
     })
 }
 

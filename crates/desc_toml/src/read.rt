@@ -30,10 +30,14 @@ fn accepted(machine: Machine) -> Result<Machine, DescFault>
 {
     match machine.check() {
         Ok(()) => Ok(machine),
-        Err(broken) => Err(DescFault::Broken {
-            rule: broken.rule as u8,
-            index: broken.index,
-        }),
+        Err(broken) => {
+            // Given up by a call, since each of its parts would be a step of this proof if it ended in place.
+            drop(machine);
+            Err(DescFault::Broken {
+                rule: broken.rule as u8,
+                index: broken.index,
+            })
+        }
     }
 }
 

@@ -62,7 +62,11 @@ fn record(alloc: Global, kind: Kind, area: &[u8], strings: &[Text]) -> Result<Bo
     let body = body_of(kind, &mut fields);
     match fields.fault() {
         None => Ok(body),
-        Some(fault) => Err(fault),
+        Some(fault) => {
+            // Given up by a call, since each of its parts would be a step of this proof if it ended in place.
+            drop(body);
+            Err(fault)
+        }
     }
 }
 

@@ -55,7 +55,7 @@ fn machines_with_acpi_tables_and_their_dumps(rt: HostRuntime) -> Result<(), Fail
 }
 
 // Each description's machine has the dump beside it.
-fn are_dumped(alloc: Global, worked: &[(&str, &str)]) -> Result<(), Fail> {
+pub(crate) fn are_dumped(alloc: Global, worked: &[(&str, &str)]) -> Result<(), Fail> {
     for (description, dump) in worked {
         is_dumped(alloc, description, dump)?;
     }

@@ -55,7 +55,10 @@ fn ends_in_turns(alloc: Global, times: usize, dump: &str) -> Result<(), Fail> {
 fn ends_over_plan(alloc: Global, plan: &mut ListSchedule, ending: &Ending) -> Result<(), Fail> {
     let run = boot("turns", MINIMAL.as_bytes());
     let mut place = ShelfAlloc::new();
-    ends_over(alloc, &run, &mut place, plan, &mut World::idle(), ending)
+    let mut world = World::idle();
+    let ended = ends_over(alloc, &run, &mut place, plan, &mut world, ending);
+    drop(world);
+    ended
 }
 
 // The table of 42 bytes at the highest place below 0x04000000 that 16 divides, and the anchor of 24 bytes at the highest below 0x00100000.

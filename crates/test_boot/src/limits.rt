@@ -41,15 +41,16 @@ fn the_longest_description(rt: HostRuntime) -> Result<(), Fail> {
 #[test]
 fn the_longest_input(rt: HostRuntime) -> Result<(), Fail> {
     let input = padded(rt.alloc(), &[], 0, LIMIT)?;
-    // pieces that end where an input has to, and pieces that don't
-    for piece in [65_536, 65_535, 40_000_000] {
-        input_ends(
-            rt.alloc(),
-            "the longest input",
-            input.as_slice(),
-            piece,
-            &refused(b"description: not TOML\n"),
-        )?;
+    ends_in_each_piece(rt.alloc(), input.as_slice())
+}
+
+// Pieces that end where an input has to, and pieces that don't.
+static PIECES: [usize; 3] = [65_536, 65_535, 40_000_000];
+
+fn ends_in_each_piece(alloc: Global, input: &[u8]) -> Result<(), Fail> {
+    let ending = refused(b"description: not TOML\n");
+    for piece in &PIECES {
+        input_ends(alloc, "the longest input", input, *piece, &ending)?;
     }
     Ok(())
 }

@@ -1,6 +1,7 @@
 //! Descriptions with every part that SMBIOS tells, and the dumps of the machines that they describe.
 
-use fixtures::{BOOTED, Run, boot, booted, ends, ends_in, is_same};
+use crate::dumps::are_dumped;
+use fixtures::{BOOTED, Run, boot, ends_in, is_same};
 use std::alloc::Global;
 use std::test::Fail;
 use vmtables::{State, World};
@@ -214,26 +215,26 @@ static MACHINES: [(&str, &str); 4] = [
 
 #[test]
 fn parts_and_their_dumps(rt: HostRuntime) -> Result<(), Fail> {
-    for (description, dump) in &MACHINES {
-        ends(
-            rt.alloc(),
-            &boot(description, description.as_bytes()),
-            &booted(dump),
-        )?;
-    }
-    Ok(())
+    are_dumped(rt.alloc(), &MACHINES)
 }
 
 // A machine with 256 sockets and 256 modules, each of whose texts has 64 bytes.
 #[test]
 fn the_greatest_machine(rt: HostRuntime) -> Result<(), Fail> {
     let description = greatest(rt.alloc())?;
-    shows_the_greatest(rt.alloc(), description.as_slice(), &mut World::idle())
+    ends_as_the_greatest(rt.alloc(), description.as_slice())
 }
 
 // Each socket has 0x30 bytes, six texts with a NUL each, and a NUL, and each module 0x28 with as many; System Information has 0x1B bytes and two
 // NULs, the array 0x17 and two, the range 0x1F and two, and the end 4 and two. These are 222,813 bytes, which the anchor tells.
 const SIZE_OF_ITS_STRUCTURES: [u8; 4] = [0x5D, 0x66, 0x03, 0x00];
+
+fn ends_as_the_greatest(alloc: Global, description: &[u8]) -> Result<(), Fail> {
+    let mut world = World::idle();
+    let shown = shows_the_greatest(alloc, description, &mut world);
+    drop(world);
+    shown
+}
 
 fn shows_the_greatest(alloc: Global, description: &[u8], world: &mut World) -> Result<(), Fail> {
     let run = Run {

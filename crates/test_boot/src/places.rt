@@ -43,5 +43,8 @@ fn ends_placed(alloc: Global, fails: &[u32], ending: &Ending) -> Result<(), Fail
 
 fn ends_with_places(alloc: Global, place: &mut FailingAlloc, ending: &Ending) -> Result<(), Fail> {
     let run = boot("the minimal machine", MINIMAL.as_bytes());
-    ends_with(alloc, &run, place, &mut World::idle(), ending)
+    let mut world = World::idle();
+    let ended = ends_with(alloc, &run, place, &mut world, ending);
+    drop(world);
+    ended
 }

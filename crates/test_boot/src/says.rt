@@ -19,8 +19,13 @@ static SAYS: [(usize, &[u32], usize); 5] = [
 #[test]
 fn a_say_that_fails(rt: HostRuntime) -> Result<(), Fail> {
     let minimal = boot("a say that fails", MINIMAL.as_bytes());
-    let alloc = rt.alloc();
-    says(alloc, &minimal, &booted(MINIMAL_DUMP))?;
+    says(rt.alloc(), &minimal, &booted(MINIMAL_DUMP))?;
+    says_of_faults(rt.alloc(), minimal)?;
+    says_of_refusals(rt.alloc(), minimal)
+}
+
+// The first read fails, or standard output has room for a part of the dump.
+fn says_of_faults(alloc: Global, minimal: Run) -> Result<(), Fail> {
     says(
         alloc,
         &Run {
@@ -29,6 +34,18 @@ fn a_say_that_fails(rt: HostRuntime) -> Result<(), Fail> {
         },
         &READ_FAULT,
     )?;
+    says(
+        alloc,
+        &Run {
+            room: 30,
+            ..minimal
+        },
+        &write_fault(MINIMAL_DUMP, 30),
+    )
+}
+
+// A word in another case, or a description of another version.
+fn says_of_refusals(alloc: Global, minimal: Run) -> Result<(), Fail> {
     says(
         alloc,
         &Run {
@@ -44,14 +61,6 @@ fn a_say_that_fails(rt: HostRuntime) -> Result<(), Fail> {
             ..minimal
         },
         &refused(b"description: out of range root 0 version\n"),
-    )?;
-    says(
-        alloc,
-        &Run {
-            room: 30,
-            ..minimal
-        },
-        &write_fault(MINIMAL_DUMP, 30),
     )
 }
 

@@ -1,6 +1,7 @@
 //! Sources that fail, and sources that give their bytes in pieces.
 
-use fixtures::{MINIMAL, MINIMAL_DUMP, READ_FAULT, Run, boot, booted, ends};
+use fixtures::{Ending, MINIMAL, MINIMAL_DUMP, READ_FAULT, Run, boot, booted, ends};
+use std::alloc::Global;
 use std::test::Fail;
 
 // How many bytes a call gives at most, and the calls that fail. In pieces of 117 bytes the second call tells the end.
@@ -23,17 +24,17 @@ static UNFAILING: [(&str, usize, &[u32]); 5] = [
 
 #[test]
 fn sources_that_fail(rt: HostRuntime) -> Result<(), Fail> {
-    for (case, piece, fails) in &FAILING {
-        ends(rt.alloc(), &from(case, *piece, fails), &READ_FAULT)?;
-    }
-    Ok(())
+    all_end(rt.alloc(), &FAILING, &READ_FAULT)
 }
 
 #[test]
 fn sources_in_pieces(rt: HostRuntime) -> Result<(), Fail> {
-    let done = booted(MINIMAL_DUMP);
-    for (case, piece, fails) in &UNFAILING {
-        ends(rt.alloc(), &from(case, *piece, fails), &done)?;
+    all_end(rt.alloc(), &UNFAILING, &booted(MINIMAL_DUMP))
+}
+
+fn all_end(alloc: Global, sources: &[(&str, usize, &[u32])], ending: &Ending) -> Result<(), Fail> {
+    for (case, piece, fails) in sources {
+        ends(alloc, &from(case, *piece, fails), ending)?;
     }
     Ok(())
 }

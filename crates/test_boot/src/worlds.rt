@@ -1,9 +1,9 @@
 //! What becomes of a world over many runs.
 
-use fixtures::{BOOTED, Ending, MINIMAL, READ_FAULT, Run, USAGE, boot, ends_in, is_same, refused};
+use fixtures::{BOOTED, Ending, MINIMAL, READ_FAULT, Run, USAGE, boot, ends_in, is_same};
 use std::alloc::Global;
 use std::test::Fail;
-use vmtables::{LoadFault, State, World};
+use vmtables::{LoadFault, State, Status, World};
 
 const LARGER: &str = "version = 1\ntop_mib = 65\nsystem = {}\n";
 
@@ -29,117 +29,133 @@ const LARGER_LOADED: Seen = Seen::Loaded {
     checksum: 0x1D,
 };
 
-// A run: how its words, its description or its source are otherwise than those of a boot of the minimal machine.
-#[derive(Clone, Copy)]
-enum Step {
-    Loads,
-    LoadsLarger,
-    IsRefused,
-    // the first read fails
-    Fails,
-    // the read after the last byte fails
-    FailsAtTheEnd,
-    // a word in another case
-    IsMisspelled,
-    IsMisspelledLarger,
-    HasTwoWords,
-    HasNoWord,
+// A run of the top call: its words, its description and the reads that fail, and how it ends in a world in which nothing was begun.
+struct Step {
+    case: &'static str,
+    words: &'static [&'static str],
+    description: &'static str,
+    failing_reads: &'static [u32],
+    ending: Ending<'static>,
 }
+
+const LOADS: Step = Step {
+    case: "the minimal machine",
+    words: &["boot"],
+    description: MINIMAL,
+    failing_reads: &[],
+    ending: BOOTED,
+};
+
+const LOADS_LARGER: Step = Step {
+    case: "a larger machine",
+    description: LARGER,
+    ..LOADS
+};
+
+const IS_REFUSED: Step = Step {
+    case: "a refused description",
+    description: OF_VERSION_2,
+    ending: Ending {
+        status: Status::DescriptionRefused,
+        out: Some(b""),
+        say: b"description: out of range root 0 version\n",
+        state: State::Idle,
+    },
+    ..LOADS
+};
+
+// The first read fails.
+const FAILS: Step = Step {
+    case: "a read that fails",
+    failing_reads: &[0],
+    ending: READ_FAULT,
+    ..LOADS
+};
+
+// The read after the last byte fails.
+const FAILS_AT_THE_END: Step = Step {
+    case: "a read at the end that fails",
+    description: LARGER,
+    failing_reads: &[1],
+    ending: READ_FAULT,
+    ..LOADS
+};
+
+const IS_MISSPELLED: Step = Step {
+    case: "a word in another case",
+    words: &["Boot"],
+    ending: USAGE,
+    ..LOADS
+};
+
+const IS_MISSPELLED_LARGER: Step = Step {
+    description: LARGER,
+    ..IS_MISSPELLED
+};
+
+const HAS_TWO_WORDS: Step = Step {
+    case: "two words",
+    words: &["boot", "boot"],
+    ending: USAGE,
+    ..LOADS
+};
+
+const HAS_NO_WORD: Step = Step {
+    case: "no word",
+    words: &[],
+    ending: USAGE,
+    ..LOADS
+};
 
 // One run after the other in one world, and what is seen of the world after it.
 static STEPS: [(Step, Seen); 13] = [
-    (Step::IsRefused, Seen::Idle),
-    (Step::IsMisspelled, Seen::Idle),
-    (Step::Fails, Seen::Idle),
-    (Step::Loads, MINIMAL_LOADED),
-    (Step::IsMisspelledLarger, MINIMAL_LOADED),
-    (Step::FailsAtTheEnd, MINIMAL_LOADED),
-    (Step::IsRefused, MINIMAL_LOADED),
-    (Step::LoadsLarger, LARGER_LOADED),
-    (Step::Fails, LARGER_LOADED),
-    (Step::HasTwoWords, LARGER_LOADED),
-    (Step::IsRefused, LARGER_LOADED),
-    (Step::HasNoWord, LARGER_LOADED),
-    (Step::Loads, MINIMAL_LOADED),
+    (IS_REFUSED, Seen::Idle),
+    (IS_MISSPELLED, Seen::Idle),
+    (FAILS, Seen::Idle),
+    (LOADS, MINIMAL_LOADED),
+    (IS_MISSPELLED_LARGER, MINIMAL_LOADED),
+    (FAILS_AT_THE_END, MINIMAL_LOADED),
+    (IS_REFUSED, MINIMAL_LOADED),
+    (LOADS_LARGER, LARGER_LOADED),
+    (FAILS, LARGER_LOADED),
+    (HAS_TWO_WORDS, LARGER_LOADED),
+    (IS_REFUSED, LARGER_LOADED),
+    (HAS_NO_WORD, LARGER_LOADED),
+    (LOADS, MINIMAL_LOADED),
 ];
 
 #[test]
 fn runs_in_one_world(rt: HostRuntime) -> Result<(), Fail> {
     let mut world = World::idle();
-    is_same("no run", "world", &seen_of(&world), &Seen::Idle)?;
-    all_leave(rt.alloc(), &mut world)
+    let left = all_leave(rt.alloc(), &mut world);
+    drop(world);
+    left
 }
 
 fn all_leave(alloc: Global, world: &mut World) -> Result<(), Fail> {
+    is_same("no run", "world", &seen_of(world), &Seen::Idle)?;
     for (step, seen) in &STEPS {
-        leaves(alloc, *step, world, seen)?;
+        leaves(alloc, step, world, seen)?;
     }
     Ok(())
 }
 
 // The step ends as it does in any world, and leaves a world of which so much is seen.
-fn leaves(alloc: Global, step: Step, world: &mut World, seen: &Seen) -> Result<(), Fail> {
+fn leaves(alloc: Global, step: &Step, world: &mut World, seen: &Seen) -> Result<(), Fail> {
     let run = run_of(step);
     let ending = Ending {
         state: state_of(seen),
-        ..ending_of(step)
+        ..step.ending
     };
     ends_in(alloc, &run, world, &ending)?;
     is_same(run.case, "world", &seen_of(world), seen)
 }
 
-fn run_of(step: Step) -> Run<'static> {
+fn run_of(step: &Step) -> Run<'static> {
     Run {
-        words: words_of(step),
-        failing_reads: failing_reads_of(step),
-        ..boot(case_of(step), description_of(step).as_bytes())
-    }
-}
-
-fn case_of(step: Step) -> &'static str {
-    match step {
-        Step::Loads => "the minimal machine",
-        Step::LoadsLarger => "a larger machine",
-        Step::IsRefused => "a refused description",
-        Step::Fails => "a read that fails",
-        Step::FailsAtTheEnd => "a read at the end that fails",
-        Step::IsMisspelled | Step::IsMisspelledLarger => "a word in another case",
-        Step::HasTwoWords => "two words",
-        Step::HasNoWord => "no word",
-    }
-}
-
-fn words_of(step: Step) -> &'static [&'static str] {
-    match step {
-        Step::IsMisspelled | Step::IsMisspelledLarger => &["Boot"],
-        Step::HasTwoWords => &["boot", "boot"],
-        Step::HasNoWord => &[],
-        _ => &["boot"],
-    }
-}
-
-fn description_of(step: Step) -> &'static str {
-    match step {
-        Step::IsRefused => OF_VERSION_2,
-        Step::LoadsLarger | Step::FailsAtTheEnd | Step::IsMisspelledLarger => LARGER,
-        _ => MINIMAL,
-    }
-}
-
-fn failing_reads_of(step: Step) -> &'static [u32] {
-    match step {
-        Step::Fails => &[0],
-        Step::FailsAtTheEnd => &[1],
-        _ => &[],
-    }
-}
-
-fn ending_of(step: Step) -> Ending<'static> {
-    match step {
-        Step::Loads | Step::LoadsLarger => BOOTED,
-        Step::IsRefused => refused(b"description: out of range root 0 version\n"),
-        Step::Fails | Step::FailsAtTheEnd => READ_FAULT,
-        _ => USAGE,
+        words: step.words,
+        failing_reads: step.failing_reads,
+        ..boot(step.case, step.description.as_bytes())
     }
 }
 

@@ -1,10 +1,10 @@
 //! Bytes that aren't UTF-8, and a byte order mark.
 
-use crate::told::told;
+use crate::told::are_bytes_told;
 use std::test::Fail;
 
 // Bytes, and what they are read as.
-const BYTES: [(&[u8], &str); 9] = [
+static BYTES: [(&[u8], &str); 9] = [
     (b"\xFF", "not TOML"),
     (b"version = 1\n\x80", "not TOML"),
     (
@@ -31,8 +31,7 @@ const BYTES: [(&[u8], &str); 9] = [
 #[test]
 fn bytes(rt: HostRuntime) -> Result<(), Fail> {
     for (bytes, words) in &BYTES {
-        let told = told(rt.alloc(), bytes)?;
-        assert_eq!(rt; told.as_str(), *words);
+        are_bytes_told(&rt, rt.alloc(), bytes, words, "bytes")?;
     }
     Ok(())
 }

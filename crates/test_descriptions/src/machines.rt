@@ -91,7 +91,7 @@ const EVERY_VALUE: &str =
     |acpi|EXMPL|EXSERVER|hpet fed00400 ffffffff 255 65535";
 
 // Descriptions, and their machines.
-const MACHINES: [(&str, &str); 12] = [
+static MACHINES: [(&str, &str); 12] = [
     (EVERY_KEY, EVERY_VALUE),
     ("version = 1\ntop_mib = 64\n[system]\n", "top 64||||||"),
     ("top_mib = 3072\nsystem = {}\nversion = 1", "top 3072||||||"),
@@ -134,7 +134,7 @@ const MACHINES: [(&str, &str); 12] = [
 ];
 
 // Parts of a machine behind the front of its description, and the machine in words.
-const PARTS: [(&str, &str); 24] = [
+static PARTS: [(&str, &str); 24] = [
     ("oem_strings = []", "top 64||||||"),
     ("oem_strings = ['a', \"b c\"]", "top 64|oem|a|b c||||||"),
     ("firmware = {}", "top 64|||||||firmware|||| 0 0"),

@@ -1,16 +1,21 @@
 //! Values deep inside one another: a document may have 80.
 
-use crate::told::told;
+use crate::told::are_bytes_told;
 use std::alloc::Global;
+use std::process::Abort;
 use std::test::Fail;
 
 // A description whose top is so many arrays inside one another.
 fn nested(alloc: Global, depth: usize) -> Result<String, Fail> {
     let mut text = String::new(alloc);
-    text.push_str("version = 1\ntop_mib = ")?;
-    push_times(&mut text, "[", depth)?;
-    push_times(&mut text, "]", depth)?;
+    push_nested(&mut text, depth)?;
     Ok(text)
+}
+
+fn push_nested(text: &mut String, depth: usize) -> Result<(), Fail> {
+    text.push_str("version = 1\ntop_mib = ")?;
+    push_times(text, "[", depth)?;
+    push_times(text, "]", depth)
 }
 
 pub(crate) fn push_times(text: &mut String, piece: &str, times: usize) -> Result<(), Fail> {
@@ -20,18 +25,17 @@ pub(crate) fn push_times(text: &mut String, piece: &str, times: usize) -> Result
     Ok(())
 }
 
+fn is_nested_told(rt: &impl Abort, alloc: Global, depth: usize, wanted: &str) -> Result<(), Fail> {
+    let text = nested(alloc, depth)?;
+    are_bytes_told(rt, alloc, text.as_bytes(), wanted, "nested arrays")
+}
+
 #[test]
 fn eighty_arrays_are_read(rt: HostRuntime) -> Result<(), Fail> {
-    let text = nested(rt.alloc(), 80)?;
-    let told = told(rt.alloc(), text.as_bytes())?;
-    assert_eq!(rt; told.as_str(), "wrong kind 0 0 1");
-    Ok(())
+    is_nested_told(&rt, rt.alloc(), 80, "wrong kind 0 0 1")
 }
 
 #[test]
 fn eighty_one_arrays_are_refused(rt: HostRuntime) -> Result<(), Fail> {
-    let text = nested(rt.alloc(), 81)?;
-    let told = told(rt.alloc(), text.as_bytes())?;
-    assert_eq!(rt; told.as_str(), "not TOML");
-    Ok(())
+    is_nested_told(&rt, rt.alloc(), 81, "not TOML")
 }

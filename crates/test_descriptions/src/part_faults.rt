@@ -4,7 +4,7 @@ use crate::told::{FRONT, are_told};
 use std::test::Fail;
 
 // The texts of the maker, and the order of the tables.
-const OF_OEM_STRINGS: [(&str, &str); 16] = [
+static OF_OEM_STRINGS: [(&str, &str); 16] = [
     ("oem_strings = 'a'", "wrong kind 0 0 2"),
     ("oem_strings = {}", "wrong kind 0 0 2"),
     ("oem_strings = 1", "wrong kind 0 0 2"),
@@ -25,7 +25,7 @@ const OF_OEM_STRINGS: [(&str, &str); 16] = [
 ];
 
 // The table `firmware`.
-const OF_FIRMWARE: [(&str, &str); 14] = [
+static OF_FIRMWARE: [(&str, &str); 14] = [
     ("firmware = 'a'", "wrong kind 0 0 4"),
     ("firmware = []", "wrong kind 0 0 4"),
     ("[[firmware]]", "wrong kind 0 0 4"),
@@ -46,7 +46,7 @@ const OF_FIRMWARE: [(&str, &str); 14] = [
 ];
 
 // The table `chassis`.
-const OF_THE_CHASSIS: [(&str, &str); 13] = [
+static OF_THE_CHASSIS: [(&str, &str); 13] = [
     ("chassis = 1", "wrong kind 0 0 5"),
     ("chassis = [{}]", "wrong kind 0 0 5"),
     ("[[chassis]]", "wrong kind 0 0 5"),
@@ -63,7 +63,7 @@ const OF_THE_CHASSIS: [(&str, &str); 13] = [
 ];
 
 // The tables `socket`.
-const OF_SOCKETS: [(&str, &str); 28] = [
+static OF_SOCKETS: [(&str, &str); 28] = [
     ("socket = 1", "wrong kind 0 0 6"),
     ("socket = {}", "wrong kind 0 0 6"),
     ("[socket]\ncores = 1\nthreads = 1", "wrong kind 0 0 6"),
@@ -122,7 +122,7 @@ const OF_SOCKETS: [(&str, &str); 28] = [
 ];
 
 // The tables `dimm`.
-const OF_MODULES: [(&str, &str); 18] = [
+static OF_MODULES: [(&str, &str); 18] = [
     ("dimm = 1", "wrong kind 0 0 7"),
     ("[dimm]\nsize_mib = 1", "wrong kind 0 0 7"),
     ("dimm = [{size_mib = 1}, []]", "wrong kind 0 0 7"),
@@ -153,7 +153,7 @@ const OF_MODULES: [(&str, &str); 18] = [
 ];
 
 // The tables `range`.
-const OF_RANGES: [(&str, &str); 15] = [
+static OF_RANGES: [(&str, &str); 15] = [
     ("range = 1", "wrong kind 0 0 8"),
     ("[range]\nbase_mib = 0\nsize_mib = 1", "wrong kind 0 0 8"),
     ("range = [0]", "wrong kind 0 0 8"),
@@ -190,7 +190,7 @@ const OF_RANGES: [(&str, &str); 15] = [
 ];
 
 // The tables `slot`.
-const OF_SLOTS: [(&str, &str); 21] = [
+static OF_SLOTS: [(&str, &str); 21] = [
     ("slot = 1", "wrong kind 0 0 9"),
     ("slot = ''", "wrong kind 0 0 9"),
     ("[slot]", "wrong kind 0 0 9"),
@@ -214,19 +214,22 @@ const OF_SLOTS: [(&str, &str); 21] = [
     ("[[slot]]\n[[slot]]\nfunction = 256", "out of range 7 1 7"),
 ];
 
-const TABLES: [&[(&str, &str)]; 7] = [
-    &OF_OEM_STRINGS,
-    &OF_FIRMWARE,
-    &OF_THE_CHASSIS,
-    &OF_SOCKETS,
-    &OF_MODULES,
-    &OF_RANGES,
-    &OF_SLOTS,
-];
+// The tables: a static can't refer to others.
+fn tables() -> [&'static [(&'static str, &'static str)]; 7] {
+    [
+        &OF_OEM_STRINGS,
+        &OF_FIRMWARE,
+        &OF_THE_CHASSIS,
+        &OF_SOCKETS,
+        &OF_MODULES,
+        &OF_RANGES,
+        &OF_SLOTS,
+    ]
+}
 
 #[test]
 fn faults_of_parts(rt: HostRuntime) -> Result<(), Fail> {
-    for rows in &TABLES {
+    for rows in tables() {
         are_told(&rt, rt.alloc(), FRONT, rows)?;
     }
     Ok(())

@@ -1,9 +1,10 @@
 //! The SMBIOS parts of a machine in words.
 
-use crate::words::push_text;
+use crate::words::push_texts;
 use machine_desc::{Chassis, Dimm, Firmware, Machine, MemRange, Slot, Socket};
 use std::alloc::Global;
 use std::test::Fail;
+use vt_outside::Text;
 
 pub(crate) fn push_parts(alloc: Global, told: &mut String, machine: &Machine) -> Result<(), Fail> {
     if let Some(firmware) = &machine.firmware {
@@ -19,21 +20,29 @@ pub(crate) fn push_parts(alloc: Global, told: &mut String, machine: &Machine) ->
 }
 
 fn push_firmware(alloc: Global, told: &mut String, firmware: &Firmware) -> Result<(), Fail> {
-    told.push_str("|firmware")?;
-    push_text(told, &firmware.vendor)?;
-    push_text(told, &firmware.version)?;
-    push_text(told, &firmware.date)?;
-    push_numbers(alloc, told, &[firmware.major as u64, firmware.minor as u64])
+    push_part(
+        alloc,
+        told,
+        "|firmware",
+        &[&firmware.vendor, &firmware.version, &firmware.date],
+        &[firmware.major as u64, firmware.minor as u64],
+    )
 }
 
 fn push_chassis(alloc: Global, told: &mut String, chassis: &Chassis) -> Result<(), Fail> {
-    told.push_str("|chassis")?;
-    push_text(told, &chassis.manufacturer)?;
-    push_text(told, &chassis.version)?;
-    push_text(told, &chassis.serial)?;
-    push_text(told, &chassis.asset)?;
-    push_text(told, &chassis.sku)?;
-    push_numbers(alloc, told, &[chassis.kind as u64])
+    push_part(
+        alloc,
+        told,
+        "|chassis",
+        &[
+            &chassis.manufacturer,
+            &chassis.version,
+            &chassis.serial,
+            &chassis.asset,
+            &chassis.sku,
+        ],
+        &[chassis.kind as u64],
+    )
 }
 
 fn push_sockets(alloc: Global, told: &mut String, sockets: &[Socket]) -> Result<(), Fail> {
@@ -44,16 +53,18 @@ fn push_sockets(alloc: Global, told: &mut String, sockets: &[Socket]) -> Result<
 }
 
 fn push_socket(alloc: Global, told: &mut String, socket: &Socket) -> Result<(), Fail> {
-    told.push_str("|socket")?;
-    push_text(told, &socket.designation)?;
-    push_text(told, &socket.manufacturer)?;
-    push_text(told, &socket.version)?;
-    push_text(told, &socket.serial)?;
-    push_text(told, &socket.asset)?;
-    push_text(told, &socket.part)?;
-    push_numbers(
+    push_part(
         alloc,
         told,
+        "|socket",
+        &[
+            &socket.designation,
+            &socket.manufacturer,
+            &socket.version,
+            &socket.serial,
+            &socket.asset,
+            &socket.part,
+        ],
         &[
             socket.cores as u64,
             socket.threads as u64,
@@ -70,14 +81,20 @@ fn push_dimms(alloc: Global, told: &mut String, dimms: &[Dimm]) -> Result<(), Fa
 }
 
 fn push_dimm(alloc: Global, told: &mut String, dimm: &Dimm) -> Result<(), Fail> {
-    told.push_str("|dimm")?;
-    push_text(told, &dimm.locator)?;
-    push_text(told, &dimm.bank)?;
-    push_text(told, &dimm.manufacturer)?;
-    push_text(told, &dimm.serial)?;
-    push_text(told, &dimm.asset)?;
-    push_text(told, &dimm.part)?;
-    push_numbers(alloc, told, &[dimm.size_mib as u64, dimm.speed as u64])
+    push_part(
+        alloc,
+        told,
+        "|dimm",
+        &[
+            &dimm.locator,
+            &dimm.bank,
+            &dimm.manufacturer,
+            &dimm.serial,
+            &dimm.asset,
+            &dimm.part,
+        ],
+        &[dimm.size_mib as u64, dimm.speed as u64],
+    )
 }
 
 fn push_ranges(alloc: Global, told: &mut String, ranges: &[MemRange]) -> Result<(), Fail> {
@@ -88,10 +105,11 @@ fn push_ranges(alloc: Global, told: &mut String, ranges: &[MemRange]) -> Result<
 }
 
 fn push_range(alloc: Global, told: &mut String, range: &MemRange) -> Result<(), Fail> {
-    told.push_str("|range")?;
-    push_numbers(
+    push_part(
         alloc,
         told,
+        "|range",
+        &[],
         &[
             range.base_mib as u64,
             range.size_mib as u64,
@@ -108,11 +126,11 @@ fn push_slots(alloc: Global, told: &mut String, slots: &[Slot]) -> Result<(), Fa
 }
 
 fn push_slot(alloc: Global, told: &mut String, slot: &Slot) -> Result<(), Fail> {
-    told.push_str("|slot")?;
-    push_text(told, &slot.designation)?;
-    push_numbers(
+    push_part(
         alloc,
         told,
+        "|slot",
+        &[&slot.designation],
         &[
             slot.kind as u64,
             slot.width as u64,
@@ -123,6 +141,19 @@ fn push_slot(alloc: Global, told: &mut String, slot: &Slot) -> Result<(), Fail> 
             slot.function as u64,
         ],
     )
+}
+
+// A part's name, its texts and its numbers.
+fn push_part(
+    alloc: Global,
+    told: &mut String,
+    name: &str,
+    texts: &[&Text],
+    numbers: &[u64],
+) -> Result<(), Fail> {
+    told.push_str(name)?;
+    push_texts(told, texts)?;
+    push_numbers(alloc, told, numbers)
 }
 
 // A bar, and each number behind a space.

@@ -1,5 +1,6 @@
 use crate::words::told_machine;
 use desc_toml::{DescFault, read_machine};
+use machine_desc::Machine;
 use std::alloc::Global;
 use std::process::Abort;
 use std::test::Fail;
@@ -27,40 +28,81 @@ fn is_told(
     text: &str,
     wanted: &str,
 ) -> Result<(), Fail> {
+    let whole = joined(alloc, front, text)?;
+    are_bytes_told(rt, alloc, whole.as_bytes(), wanted, text)
+}
+
+fn joined(alloc: Global, front: &str, text: &str) -> Result<String, Fail> {
     let mut whole = String::new(alloc);
     whole.push_str(front)?;
     whole.push_str(text)?;
-    let told = told(alloc, whole.as_bytes())?;
-    assert_eq!(rt; told.as_str(), wanted, "of {text}");
+    Ok(whole)
+}
+
+// Asserts what bytes are read as, in words. A failure names them as `of`.
+pub(crate) fn are_bytes_told(
+    rt: &impl Abort,
+    alloc: Global,
+    bytes: &[u8],
+    wanted: &str,
+    of: &str,
+) -> Result<(), Fail> {
+    let told = told(alloc, bytes)?;
+    is_text(rt, told.as_str(), wanted, of);
     Ok(())
 }
 
-// What bytes are read as, in words: a machine, or the first fault.
-pub(crate) fn told(alloc: Global, bytes: &[u8]) -> Result<String, Fail> {
-    match read_machine(alloc, bytes) {
-        Ok(machine) => told_machine(alloc, &machine),
-        Err(fault) => told_fault(alloc, &fault),
+// Compares a text. A failure names what it is told of.
+pub(crate) fn is_text(rt: &impl Abort, text: &str, wanted: &str, of: &str) {
+    assert_eq!(rt; text, wanted, "of {of}");
+}
+
+// What bytes are read as, in words: a machine, or the first fault. A machine has twenty parts to drop: it is proved once, in the call.
+fn told(alloc: Global, bytes: &[u8]) -> Result<String, Fail> {
+    let read = read_machine(alloc, bytes);
+    let told = told_reading(alloc, &read);
+    drop(read);
+    told
+}
+
+// By a reference, so that it owns no machine.
+fn told_reading(alloc: Global, read: &Result<Machine, DescFault>) -> Result<String, Fail> {
+    match read {
+        Ok(machine) => told_machine(alloc, machine),
+        Err(fault) => told_fault(alloc, fault),
     }
 }
 
 fn told_fault(alloc: Global, fault: &DescFault) -> Result<String, Fail> {
     match fault {
-        DescFault::NotToml => Ok(format!(in alloc; "not TOML")?),
+        DescFault::NotToml => told_words(alloc, "not TOML"),
         DescFault::UnknownKey { table, index, key } => {
             told_unknown(alloc, *table, *index, key.as_slice())
         }
         DescFault::MissingKey { table, index, key } => {
-            Ok(format!(in alloc; "missing {table} {index} {key}")?)
+            told_at(alloc, "missing", *table, *index, *key)
         }
         DescFault::WrongKind { table, index, key } => {
-            Ok(format!(in alloc; "wrong kind {table} {index} {key}")?)
+            told_at(alloc, "wrong kind", *table, *index, *key)
         }
         DescFault::OutOfRange { table, index, key } => {
-            Ok(format!(in alloc; "out of range {table} {index} {key}")?)
+            told_at(alloc, "out of range", *table, *index, *key)
         }
-        DescFault::Broken { rule, index } => Ok(format!(in alloc; "rule {rule} index {index}")?),
-        DescFault::OutOfMemory => Ok(format!(in alloc; "out of memory")?),
+        DescFault::Broken { rule, index } => told_rule(alloc, *rule, *index),
+        DescFault::OutOfMemory => told_words(alloc, "out of memory"),
     }
+}
+
+fn told_words(alloc: Global, words: &str) -> Result<String, Fail> {
+    Ok(format!(in alloc; "{words}")?)
+}
+
+fn told_at(alloc: Global, what: &str, table: u8, index: u32, key: u8) -> Result<String, Fail> {
+    Ok(format!(in alloc; "{what} {table} {index} {key}")?)
+}
+
+fn told_rule(alloc: Global, rule: u8, index: u32) -> Result<String, Fail> {
+    Ok(format!(in alloc; "rule {rule} index {index}")?)
 }
 
 fn told_unknown(alloc: Global, table: u8, index: u32, key: &[u8]) -> Result<String, Fail> {

@@ -9,13 +9,17 @@ use vt_outside::Text;
 // A machine in words.
 pub(crate) fn told_machine(alloc: Global, machine: &Machine) -> Result<String, Fail> {
     let mut told = String::new(alloc);
-    push_top(alloc, &mut told, machine.top_mib)?;
-    push_oem_strings(&mut told, machine.oem_strings.as_slice())?;
-    push_system(alloc, &mut told, &machine.system)?;
-    push_parts(alloc, &mut told, machine)?;
-    push_acpi(&mut told, &machine.acpi)?;
-    push_hpet(alloc, &mut told, &machine.hpet)?;
+    push_machine(alloc, &mut told, machine)?;
     Ok(told)
+}
+
+fn push_machine(alloc: Global, told: &mut String, machine: &Machine) -> Result<(), Fail> {
+    push_top(alloc, told, machine.top_mib)?;
+    push_oem_strings(told, machine.oem_strings.as_slice())?;
+    push_system(alloc, told, &machine.system)?;
+    push_parts(alloc, told, machine)?;
+    push_acpi(told, &machine.acpi)?;
+    push_hpet(alloc, told, &machine.hpet)
 }
 
 fn push_top(alloc: Global, told: &mut String, top_mib: u32) -> Result<(), Fail> {
@@ -35,16 +39,29 @@ fn push_oem_strings(told: &mut String, texts: &[Text]) -> Result<(), Fail> {
 }
 
 fn push_system(alloc: Global, told: &mut String, system: &System) -> Result<(), Fail> {
-    push_text(told, &system.manufacturer)?;
-    push_text(told, &system.product)?;
-    push_text(told, &system.version)?;
-    push_text(told, &system.serial)?;
-    push_text(told, &system.sku)?;
-    push_text(told, &system.family)?;
+    push_texts(
+        told,
+        &[
+            &system.manufacturer,
+            &system.product,
+            &system.version,
+            &system.serial,
+            &system.sku,
+            &system.family,
+        ],
+    )?;
     push_uuid(alloc, told, system.uuid)
 }
 
-pub(crate) fn push_text(told: &mut String, text: &Text) -> Result<(), Fail> {
+// Each text behind a bar.
+pub(crate) fn push_texts(told: &mut String, texts: &[&Text]) -> Result<(), Fail> {
+    for text in texts {
+        push_text(told, text)?;
+    }
+    Ok(())
+}
+
+fn push_text(told: &mut String, text: &Text) -> Result<(), Fail> {
     told.push_str("|")?;
     told.push_str(str::from_utf8(text.as_slice()).unwrap_or("not UTF-8"))?;
     Ok(())
@@ -61,8 +78,7 @@ fn push_uuid(alloc: Global, told: &mut String, uuid: Option<u128>) -> Result<(),
 fn push_acpi(told: &mut String, acpi: &Option<Acpi>) -> Result<(), Fail> {
     if let Some(acpi) = acpi {
         told.push_str("|acpi")?;
-        push_text(told, &acpi.oem_id)?;
-        push_text(told, &acpi.oem_table_id)?;
+        push_texts(told, &[&acpi.oem_id, &acpi.oem_table_id])?;
     }
     Ok(())
 }

@@ -6,7 +6,7 @@ use std::process::Abort;
 use std::test::Fail;
 
 // Items by their selectors, and the first six bytes that each is read as.
-const ITEMS: [(u16, [u8; 6]); 6] = [
+static ITEMS: [(u16, [u8; 6]); 6] = [
     (0x0000, [0x51, 0x45, 0x4D, 0x55, 0, 0]),
     (0x0001, [3, 0, 0, 0, 0, 0]),
     (0x0019, [0, 0, 0, 2, 0, 0]),
@@ -18,19 +18,24 @@ const ITEMS: [(u16, [u8; 6]); 6] = [
 #[test]
 fn bytes_of_items(rt: HostRuntime) -> Result<(), Fail> {
     let mut device = device(rt.alloc())?;
-    for (select, bytes) in ITEMS {
-        is_read(&rt, &mut device, select, bytes);
-        is_read(&rt, &mut device, select, bytes);
-    }
+    are_read_twice(&rt, &mut device);
+    drop(device);
     Ok(())
 }
 
+fn are_read_twice(rt: &impl Abort, device: &mut Device) {
+    for (select, bytes) in &ITEMS {
+        is_read(rt, device, *select, bytes);
+        is_read(rt, device, *select, bytes);
+    }
+}
+
 // Selects an item, which sets the offset to 0, and reads its first bytes.
-fn is_read(rt: &impl Abort, device: &mut Device, select: u16, bytes: [u8; 6]) {
+fn is_read(rt: &impl Abort, device: &mut Device, select: u16, bytes: &[u8; 6]) {
     assert!(rt; !device.busy());
     device.write_selector(select);
     for byte in bytes {
-        next_is(rt, device, byte);
+        next_is(rt, device, *byte);
     }
 }
 
@@ -43,6 +48,7 @@ fn next_is(rt: &impl Abort, device: &mut Device, byte: u8) {
 fn the_directory(rt: HostRuntime) -> Result<(), Fail> {
     let mut device = device(rt.alloc())?;
     is_directory(&rt, &mut device, &image());
+    drop(device);
     Ok(())
 }
 
@@ -59,19 +65,32 @@ fn is_directory(rt: &impl Abort, device: &mut Device, image: &[u8; 143]) {
 #[test]
 fn a_new_device(rt: HostRuntime) -> Result<(), Fail> {
     let mut device = device(rt.alloc())?;
-    assert_eq!(rt; device.read_address(), 0x5145_4D55_2043_4647);
-    next_is(&rt, &mut device, 0x51);
-    are_files(&rt, &device);
+    is_new(&rt, &mut device);
+    drop(device);
     Ok(())
+}
+
+fn is_new(rt: &impl Abort, device: &mut Device) {
+    assert_eq!(rt; device.read_address(), 0x5145_4D55_2043_4647);
+    next_is(rt, device, 0x51);
+    are_files(rt, device);
 }
 
 // The host sees files alone.
 fn are_files(rt: &impl Abort, device: &Device) {
     assert!(rt; device.finished().is_empty());
     for select in [0x0000, 0x0001, 0x0019, 0x0022] {
-        assert!(rt; device.item(select).is_none(), "{select}");
+        is_no_file(rt, device, select);
     }
     for select in [0x0020, 0x0021] {
-        assert!(rt; device.item(select).is_some(), "{select}");
+        is_file(rt, device, select);
     }
+}
+
+fn is_no_file(rt: &impl Abort, device: &Device, select: u16) {
+    assert!(rt; device.item(select).is_none(), "{select}");
+}
+
+fn is_file(rt: &impl Abort, device: &Device, select: u16) {
+    assert!(rt; device.item(select).is_some(), "{select}");
 }

@@ -4,11 +4,12 @@ ghost use Rattle.std.specs.Prelude.{◌≡◌};
 ghost use Rattle.cfg_dma.specs.Transfers.{room_of};
 
 use crate::rig::{
-    Asked, DIRECTORY, ERROR, FIXED, READ, SELECT, SKIP, TARGET, WRITABLE, WRITE, device, finish,
-    has_control, has_finished, has_target, memory, start, transfer,
+    Asked, DIRECTORY, ERROR, FIXED, READ, SELECT, SKIP, TARGET, WRITABLE, WRITE, finish,
+    has_control, has_finished, has_target, new_rig, start, transfer,
 };
 use cfg_dma::{Device, Finished, Kind};
 use guest_memory::GuestMemory;
+use std::alloc::Global;
 use std::process::Abort;
 use std::test::Fail;
 
@@ -22,10 +23,16 @@ const SIGNATURE: Asked = Asked {
 #[test]
 fn the_signature_in_pieces(rt: HostRuntime) -> Result<(), Fail> {
     for bytes in [1, 3, u32::MAX] {
-        let mut device = device(rt.alloc())?;
-        let mut memory = memory(rt.alloc())?;
-        is_signature(&rt, &mut device, &mut memory, bytes);
+        is_signature_in(&rt, rt.alloc(), bytes)?;
     }
+    Ok(())
+}
+
+// In pieces of so many bytes.
+fn is_signature_in(rt: &impl Abort, alloc: Global, bytes: u32) -> Result<(), Fail> {
+    let mut rig = new_rig(alloc)?;
+    is_signature(rt, &mut rig.device, &mut rig.memory, bytes);
+    drop(rig);
     Ok(())
 }
 
@@ -55,7 +62,7 @@ fn is_read(rt: &impl Abort, device: &Device, memory: &GuestMemory) {
 }
 
 // Transfers by their control words and lengths, one after the other, and what then stands where bytes are moved.
-const IN_TURN: [(u32, u32, [u8; 8]); 8] = [
+static IN_TURN: [(u32, u32, [u8; 8]); 8] = [
     (
         READ | SELECT | FIXED,
         1,
@@ -80,26 +87,47 @@ const IN_TURN: [(u32, u32, [u8; 8]); 8] = [
 
 #[test]
 fn one_after_the_other(rt: HostRuntime) -> Result<(), Fail> {
-    let mut device = device(rt.alloc())?;
-    let mut memory = memory(rt.alloc())?;
-    for (control, length, target) in IN_TURN {
-        let asked = Asked {
-            control,
-            length,
-            address: TARGET,
-        };
-        transfer(&rt, &mut device, &mut memory, asked);
-        has_control(&rt, &memory, 0);
-        has_target(&rt, &memory, target);
-    }
+    let mut rig = new_rig(rt.alloc())?;
+    are_in_turn(&rt, &mut rig.device, &mut rig.memory);
+    drop(rig);
     Ok(())
+}
+
+fn are_in_turn(rt: &impl Abort, device: &mut Device, memory: &mut GuestMemory)
+    requires { room_of device.old ≡ 8 }
+{
+    for (control, length, target) in &IN_TURN {
+        leaves(rt, device, memory, *control, *length, target);
+    }
+}
+
+// The transfer leaves these bytes where bytes are moved.
+fn leaves(
+    rt: &impl Abort,
+    device: &mut Device,
+    memory: &mut GuestMemory,
+    control: u32,
+    length: u32,
+    target: &[u8; 8],
+)
+    requires { room_of device.old ≡ 8 }
+    ensures { room_of device.new ≡ 8 }
+{
+    let asked = Asked {
+        control,
+        length,
+        address: TARGET,
+    };
+    transfer(rt, device, memory, asked);
+    has_control(rt, memory, 0);
+    has_target(rt, memory, *target);
 }
 
 #[test]
 fn a_skip_past_the_end(rt: HostRuntime) -> Result<(), Fail> {
-    let mut device = device(rt.alloc())?;
-    let mut memory = memory(rt.alloc())?;
-    skip_all(&rt, &mut device, &mut memory);
+    let mut rig = new_rig(rt.alloc())?;
+    skip_all(&rt, &mut rig.device, &mut rig.memory);
+    drop(rig);
     Ok(())
 }
 
@@ -150,10 +178,16 @@ fn is_at_end(rt: &impl Abort, device: &mut Device, memory: &mut GuestMemory)
 #[test]
 fn many_zeros_over_frames(rt: HostRuntime) -> Result<(), Fail> {
     for bytes in [700, u32::MAX] {
-        let mut device = device(rt.alloc())?;
-        let mut memory = memory(rt.alloc())?;
-        are_zeros(&rt, &mut device, &mut memory, bytes);
+        are_zeros_in(&rt, rt.alloc(), bytes)?;
     }
+    Ok(())
+}
+
+// In pieces of so many bytes.
+fn are_zeros_in(rt: &impl Abort, alloc: Global, bytes: u32) -> Result<(), Fail> {
+    let mut rig = new_rig(alloc)?;
+    are_zeros(rt, &mut rig.device, &mut rig.memory, bytes);
+    drop(rig);
     Ok(())
 }
 
@@ -167,15 +201,19 @@ fn are_zeros(rt: &impl Abort, device: &mut Device, memory: &mut GuestMemory, byt
     };
     start(rt, device, memory, asked);
     finish(rt, device, memory, bytes);
+    have_sums_of_zeros(rt, memory);
+}
+
+fn have_sums_of_zeros(rt: &impl Abort, memory: &GuestMemory) {
     assert_eq!(rt; memory.sum_range(0x8FFE, 9000), 0x38);
     assert_eq!(rt; memory.sum_range(0x8FFD, 9002), 0x14);
 }
 
 #[test]
 fn a_read_over_its_own_descriptor(rt: HostRuntime) -> Result<(), Fail> {
-    let mut device = device(rt.alloc())?;
-    let mut memory = memory(rt.alloc())?;
-    read_over_descriptor(&rt, &mut device, &mut memory);
+    let mut rig = new_rig(rt.alloc())?;
+    read_over_descriptor(&rt, &mut rig.device, &mut rig.memory);
+    drop(rig);
     Ok(())
 }
 

@@ -5,15 +5,16 @@ ghost use Rattle.cfg_dma.specs.Transfers.{room_of};
 
 use crate::rig::{
     Asked, DESCRIPTOR, FIXED, READ, SELECT, TARGET, WRITABLE, WRITE, describe, device, finish,
-    has_bytes, has_control, has_target, memory, start, start_at, start_low,
+    has_bytes, has_control, has_target, memory, new_rig, start, start_at, start_low,
 };
 use cfg_dma::Device;
 use guest_memory::GuestMemory;
+use std::alloc::Global;
 use std::process::Abort;
 use std::test::Fail;
 
 // Halves of addresses at which no 16 bytes are RAM.
-const NO_DESCRIPTORS: [(u32, u32); 6] = [
+static NO_DESCRIPTORS: [(u32, u32); 6] = [
     (0, 0x9_FFF1),
     (0, 0xA_0000),
     (0, 0xF_FFF1),
@@ -25,10 +26,27 @@ const NO_DESCRIPTORS: [(u32, u32); 6] = [
 #[test]
 fn descriptors_that_are_no_ram(rt: HostRuntime) -> Result<(), Fail> {
     let mut memory = memory(rt.alloc())?;
-    for (high, low) in NO_DESCRIPTORS {
-        let mut device = device(rt.alloc())?;
-        is_passed_over(&rt, &mut device, &mut memory, high, low);
+    are_passed_over(&rt, rt.alloc(), &mut memory)
+}
+
+fn are_passed_over(rt: &impl Abort, alloc: Global, memory: &mut GuestMemory) -> Result<(), Fail> {
+    for (high, low) in &NO_DESCRIPTORS {
+        is_passed_over_anew(rt, alloc, memory, *high, *low)?;
     }
+    Ok(())
+}
+
+// By a device of its own.
+fn is_passed_over_anew(
+    rt: &impl Abort,
+    alloc: Global,
+    memory: &mut GuestMemory,
+    high: u32,
+    low: u32,
+) -> Result<(), Fail> {
+    let mut device = device(alloc)?;
+    is_passed_over(rt, &mut device, memory, high, low);
+    drop(device);
     Ok(())
 }
 
@@ -58,7 +76,7 @@ fn is_passed_over(
 }
 
 // Ranges of memory by their address and length, and the control word that a read and a write of them leave.
-const RANGES: [(u64, u32, u32); 9] = [
+static RANGES: [(u64, u32, u32); 9] = [
     (0x9_FFFF, 2, 1),
     (0xA_0000, 1, 1),
     (0x400_0000, 1, 1),
@@ -73,17 +91,47 @@ const RANGES: [(u64, u32, u32); 9] = [
 #[test]
 fn ranges_that_are_no_ram(rt: HostRuntime) -> Result<(), Fail> {
     let mut memory = memory(rt.alloc())?;
-    for (address, length, left) in RANGES {
-        for control in [READ | SELECT | FIXED, WRITE | SELECT | WRITABLE] {
-            let mut device = device(rt.alloc())?;
-            let asked = Asked {
-                control,
-                length,
-                address,
-            };
-            is_over_at_once(&rt, &mut device, &mut memory, asked, left);
-        }
+    are_over_at_once(&rt, rt.alloc(), &mut memory)
+}
+
+fn are_over_at_once(rt: &impl Abort, alloc: Global, memory: &mut GuestMemory) -> Result<(), Fail> {
+    for (address, length, left) in &RANGES {
+        is_over_at_once_both_ways(rt, alloc, memory, *address, *length, *left)?;
     }
+    Ok(())
+}
+
+// As a read and as a write.
+fn is_over_at_once_both_ways(
+    rt: &impl Abort,
+    alloc: Global,
+    memory: &mut GuestMemory,
+    address: u64,
+    length: u32,
+    left: u32,
+) -> Result<(), Fail> {
+    for control in [READ | SELECT | FIXED, WRITE | SELECT | WRITABLE] {
+        let asked = Asked {
+            control,
+            length,
+            address,
+        };
+        is_over_at_once_anew(rt, alloc, memory, asked, left)?;
+    }
+    Ok(())
+}
+
+// By a device of its own.
+fn is_over_at_once_anew(
+    rt: &impl Abort,
+    alloc: Global,
+    memory: &mut GuestMemory,
+    asked: Asked,
+    left: u32,
+) -> Result<(), Fail> {
+    let mut device = device(alloc)?;
+    is_over_at_once(rt, &mut device, memory, asked, left);
+    drop(device);
     Ok(())
 }
 
@@ -107,10 +155,10 @@ fn is_over_at_once(
 // The second read is of the same bytes as the first.
 #[test]
 fn a_select_resets_the_offset(rt: HostRuntime) -> Result<(), Fail> {
-    let mut device = device(rt.alloc())?;
-    let mut memory = memory(rt.alloc())?;
-    read_two(&rt, &mut device, &mut memory);
-    read_two(&rt, &mut device, &mut memory);
+    let mut rig = new_rig(rt.alloc())?;
+    read_two(&rt, &mut rig.device, &mut rig.memory);
+    read_two(&rt, &mut rig.device, &mut rig.memory);
+    drop(rig);
     Ok(())
 }
 

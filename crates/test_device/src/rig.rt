@@ -43,6 +43,23 @@ pub(crate) struct Asked {
     pub(crate) address: u64,
 }
 
+/// A device and the memory that it is attached to. A test ends with a call that drops it: in its own proof each of its parts would be
+/// dropped.
+#[derive(Drop)]
+pub(crate) struct Rig {
+    pub(crate) device: Device,
+    pub(crate) memory: GuestMemory,
+}
+
+/// Makes a device and its memory.
+pub(crate) fn new_rig(alloc: Global) -> Result<Rig, Fail>
+    ensures { IfOk result (λ rig. room_of rig.device ≡ 8) }
+{
+    let memory = memory(alloc)?;
+    let device = device(alloc)?;
+    Ok(Rig { device, memory })
+}
+
 /// Makes a device with room for 8 transfers.
 pub(crate) fn device(alloc: Global) -> Result<Device, Fail>
     ensures { IfOk result (λ device. room_of device ≡ 8) }

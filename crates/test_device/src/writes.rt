@@ -4,21 +4,28 @@ ghost use Rattle.std.specs.Prelude.{◌≡◌};
 ghost use Rattle.cfg_dma.specs.Transfers.{room_of};
 
 use crate::rig::{
-    Asked, FIXED, READ, SELECT, SKIP, TARGET, WRITABLE, WRITE, device, finish, has_bytes,
-    has_control, has_finished, has_target, memory, start, transfer,
+    Asked, FIXED, READ, SELECT, SKIP, TARGET, WRITABLE, WRITE, finish, has_bytes, has_control,
+    has_finished, has_target, new_rig, start, transfer,
 };
 use cfg_dma::{Device, Finished, Kind};
 use guest_memory::GuestMemory;
+use std::alloc::Global;
 use std::process::Abort;
 use std::test::Fail;
 
 #[test]
 fn a_write_in_pieces(rt: HostRuntime) -> Result<(), Fail> {
     for bytes in [1, 3, u32::MAX] {
-        let mut device = device(rt.alloc())?;
-        let mut memory = memory(rt.alloc())?;
-        is_written(&rt, &mut device, &mut memory, bytes);
+        is_written_in(&rt, rt.alloc(), bytes)?;
     }
+    Ok(())
+}
+
+// In pieces of so many bytes.
+fn is_written_in(rt: &impl Abort, alloc: Global, bytes: u32) -> Result<(), Fail> {
+    let mut rig = new_rig(alloc)?;
+    is_written(rt, &mut rig.device, &mut rig.memory, bytes);
+    drop(rig);
     Ok(())
 }
 
@@ -47,7 +54,7 @@ fn is_written(rt: &impl Abort, device: &mut Device, memory: &mut GuestMemory, by
 }
 
 // Writes that are refused: what was done before, the write, and what is read behind it.
-const REFUSED: [(u32, u32, u32, u32, [u8; 8]); 4] = [
+static REFUSED: [(u32, u32, u32, u32, [u8; 8]); 4] = [
     (
         READ | SELECT | FIXED,
         1,
@@ -80,22 +87,33 @@ const REFUSED: [(u32, u32, u32, u32, [u8; 8]); 4] = [
 
 #[test]
 fn refused_writes(rt: HostRuntime) -> Result<(), Fail> {
-    for (before, count, control, length, behind) in REFUSED {
-        let mut device = device(rt.alloc())?;
-        let mut memory = memory(rt.alloc())?;
+    for (before, count, control, length, behind) in &REFUSED {
         let first = Asked {
-            control: before,
-            length: count,
+            control: *before,
+            length: *count,
             address: TARGET,
         };
-        transfer(&rt, &mut device, &mut memory, first);
         let write = Asked {
-            control,
-            length,
+            control: *control,
+            length: *length,
             address: 0x6000,
         };
-        is_refused(&rt, &mut device, &mut memory, write, behind);
+        is_refused_behind(&rt, rt.alloc(), first, write, behind)?;
     }
+    Ok(())
+}
+
+fn is_refused_behind(
+    rt: &impl Abort,
+    alloc: Global,
+    first: Asked,
+    write: Asked,
+    behind: &[u8; 8],
+) -> Result<(), Fail> {
+    let mut rig = new_rig(alloc)?;
+    transfer(rt, &mut rig.device, &mut rig.memory, first);
+    is_refused(rt, &mut rig.device, &mut rig.memory, write, behind);
+    drop(rig);
     Ok(())
 }
 
@@ -105,7 +123,7 @@ fn is_refused(
     device: &mut Device,
     memory: &mut GuestMemory,
     write: Asked,
-    behind: [u8; 8],
+    behind: &[u8; 8],
 )
     requires { room_of device.old ≡ 8 }
     ensures { room_of device.new ≡ 8 }
@@ -121,19 +139,26 @@ fn is_refused(
         address: TARGET,
     };
     transfer(rt, device, memory, read);
-    has_target(rt, memory, behind);
+    has_target(rt, memory, *behind);
 }
 
 #[test]
 fn the_record_of_a_refusal(rt: HostRuntime) -> Result<(), Fail> {
-    let mut device = device(rt.alloc())?;
-    let mut memory = memory(rt.alloc())?;
+    let mut rig = new_rig(rt.alloc())?;
+    is_recorded(&rt, &mut rig.device, &mut rig.memory);
+    drop(rig);
+    Ok(())
+}
+
+fn is_recorded(rt: &impl Abort, device: &mut Device, memory: &mut GuestMemory)
+    requires { room_of device.old ≡ 8 }
+{
     let write = Asked {
         control: WRITE | SELECT | FIXED,
         length: 2,
         address: TARGET,
     };
-    start(&rt, &mut device, &mut memory, write);
+    start(rt, device, memory, write);
     let last = Finished {
         kind: Kind::Write,
         select: 0x20,
@@ -142,6 +167,5 @@ fn the_record_of_a_refusal(rt: HostRuntime) -> Result<(), Fail> {
         address: TARGET,
         error: true,
     };
-    has_finished(&rt, &device, 1, last);
-    Ok(())
+    has_finished(rt, device, 1, last);
 }

@@ -1,7 +1,8 @@
 //! The files of a device, by name and by selector, and bytes that are written into one.
 
-ghost use Rattle.std.specs.Prelude.{◌≡◌, length, IfOk};
+ghost use Rattle.std.specs.Prelude.{◌≡◌, [], length, IfOk};
 
+use crate::containers::are_bytes;
 use cfg_directory::{Item, Items};
 use std::alloc::Global;
 use std::process::Abort;
@@ -11,11 +12,28 @@ use vt_outside::{Bytes, Name, OutOfMemory};
 #[test]
 fn files_by_name_and_selector(rt: HostRuntime) -> Result<(), Fail> {
     let (first, second) = (Name::of("etc/a")?, Name::of("etc/ab")?);
+    let bytes = five_bytes(rt.alloc())?;
     let mut items = Items::new(rt.alloc());
-    assert_eq!(rt; items.add(first, true, five_bytes(rt.alloc())?)?, 0x20);
+    let done = is_added(&rt, &mut items, &first, &second, bytes);
+    drop(items);
+    done
+}
+
+// The first file that is added, a byte of which is then written.
+fn is_added(
+    rt: &impl Abort,
+    items: &mut Items,
+    first: &Name,
+    second: &Name,
+    bytes: Bytes,
+) -> Result<(), Fail>
+    requires none { items.old ≡ [] }
+    requires five { length bytes ≡ 5 }
+{
+    assert_eq!(rt; items.add(*first, true, bytes)?, 0x20);
     items.write_at(0x20, 1, &[9, 8]);
-    is_found(&rt, &items, &first, &second);
-    is_selected(&rt, &items, &first);
+    is_found(rt, items, first, second);
+    is_selected(rt, items, first);
     Ok(())
 }
 
@@ -30,7 +48,7 @@ fn is_found(rt: &impl Abort, items: &Items, first: &Name, second: &Name) {
 
 fn is_the_file(rt: &impl Abort, item: &Item) {
     assert_eq!(rt; (item.select, item.writable), (0x20, true));
-    assert_eq!(rt; item.bytes.as_slice(), [7, 9, 8, 7, 7].as_slice());
+    are_bytes(rt, "the file", item.bytes.as_slice(), &[7, 9, 8, 7, 7]);
 }
 
 // It is found by its selector, and no other.
@@ -54,7 +72,9 @@ fn five_bytes(alloc: Global) -> Result<Bytes, OutOfMemory>
 fn one_more_file(rt: HostRuntime) -> Result<(), Fail> {
     let name = Name::of("etc/table-loader")?;
     let mut items = Items::new(rt.alloc());
-    assert_eq!(rt; items.add(name, false, Bytes::new(rt.alloc()))?, 0x20);
+    let added = items.add(name, false, Bytes::new(rt.alloc()));
+    drop(items);
+    assert_eq!(rt; added?, 0x20);
     Ok(())
 }
 
@@ -62,6 +82,8 @@ fn one_more_file(rt: HostRuntime) -> Result<(), Fail> {
 fn one_more_file_with_a_selector(rt: HostRuntime) -> Result<(), Fail> {
     let name = Name::of("etc/table-loader")?;
     let mut items = Items::new(rt.alloc());
-    items.add_at(name, 0x3FFF, true, Bytes::new(rt.alloc()))?;
+    let added = items.add_at(name, 0x3FFF, true, Bytes::new(rt.alloc()));
+    drop(items);
+    added?;
     Ok(())
 }

@@ -1,7 +1,7 @@
 //! Containers of as many bytes as the files of a device may have, 67,108,864, in one file and in as many as there may be, 1,024. What
 //! they are as bytes was made by hand from QEMU, docs/specs/fw_cfg.
 
-ghost use Rattle.std.specs.Prelude.{◌≡◌, ◌<◌, ◌≤◌, ◌+◌, ◌*◌, length, IfOk, OnOk};
+ghost use Rattle.std.specs.Prelude.{◌≡◌, ◌<◌, ◌≤◌, ◌+◌, ◌*◌, [], length, IfOk, OnOk};
 ghost use Rattle.test_directory.specs.Filled.{HasFiles};
 
 use cfg_directory::{Items, directory_bytes, read_image, write_image};
@@ -29,39 +29,77 @@ fn is_read_and_written(rt: &impl Abort, alloc: Global, count: u16, chunks: u16) 
     requires chunks { chunks ≤ 1024 }
 {
     let image = image(alloc, count, chunks)?;
-    let items = read_image(alloc, image.as_slice())?;
-    assert_eq!(rt; items.all().len(), usize::from(count));
-    are_written(rt, alloc, &items, image.as_slice())?;
-    Ok(())
+    is_read(rt, alloc, image.as_slice(), count)
 }
 
-// The files are written as this container, which begins with their directory.
-fn are_written(
+fn is_read(rt: &impl Abort, alloc: Global, image: &[u8], count: u16) -> Result<(), Fail> {
+    let items = read_image(alloc, image)?;
+    let done = are_written_all(rt, alloc, &items, image, count);
+    drop(items);
+    done
+}
+
+fn are_written_all(
     rt: &impl Abort,
     alloc: Global,
     items: &Items,
     image: &[u8],
-) -> Result<(), OutOfMemory> {
-    let directory = directory_bytes(alloc, items)?;
-    assert_eq!(rt; directory.len(), 4 + 64 * items.all().len());
-    assert!(rt; image.starts_with(directory.as_slice()));
+    count: u16,
+) -> Result<(), Fail> {
+    assert_eq!(rt; items.all().len(), usize::from(count));
+    are_written(rt, alloc, items, image)
+}
+
+// The files are written as this container, which begins with their directory.
+fn are_written(rt: &impl Abort, alloc: Global, items: &Items, image: &[u8]) -> Result<(), Fail> {
+    begins_with_directory(rt, alloc, items, image)?;
     let written = write_image(alloc, items)?;
-    assert!(rt; written.as_slice() == image);
+    is_image(rt, written.as_slice(), image);
     Ok(())
+}
+
+// Without the bytes of either, which are many.
+fn is_image(rt: &impl Abort, written: &[u8], image: &[u8]) {
+    assert!(rt; written == image);
+}
+
+fn begins_with_directory(
+    rt: &impl Abort,
+    alloc: Global,
+    items: &Items,
+    image: &[u8],
+) -> Result<(), Fail> {
+    let directory = directory_bytes(alloc, items)?;
+    is_front(rt, directory.as_slice(), items, image);
+    Ok(())
+}
+
+fn is_front(rt: &impl Abort, directory: &[u8], items: &Items, image: &[u8]) {
+    assert_eq!(rt; directory.len(), 4 + 64 * items.all().len());
+    assert!(rt; image.starts_with(directory));
 }
 
 #[test]
 fn the_largest_file_is_added(rt: HostRuntime) -> Result<(), Fail> {
-    let (image, items) = (image(rt.alloc(), 1, 1024)?, device(rt.alloc(), 1, 1024)?);
-    are_written(&rt, rt.alloc(), &items, image.as_slice())?;
-    Ok(())
+    is_added_and_written(&rt, rt.alloc(), 1, 1024)
 }
 
 #[test]
 fn files_are_added_up_to_1024(rt: HostRuntime) -> Result<(), Fail> {
-    let (image, items) = (image(rt.alloc(), 1024, 1)?, device(rt.alloc(), 1024, 1)?);
-    are_written(&rt, rt.alloc(), &items, image.as_slice())?;
-    Ok(())
+    is_added_and_written(&rt, rt.alloc(), 1024, 1)
+}
+
+// So many files of so many chunks each are added, and written as their container.
+fn is_added_and_written(rt: &impl Abort, alloc: Global, count: u16, chunks: u16) -> Result<(), Fail>
+    requires count { count ≤ 1024 }
+    requires chunks { chunks ≤ 1024 }
+    requires small { count * (chunks * 65536) ≤ 67108864 }
+{
+    let image = image(alloc, count, chunks)?;
+    let items = device(alloc, count, chunks)?;
+    let done = are_written(rt, alloc, &items, image.as_slice());
+    drop(items);
+    done
 }
 
 // A device of so many files of so many chunks each.
@@ -70,10 +108,19 @@ fn device(alloc: Global, count: u16, chunks: u16) -> Result<Items, Fail>
     requires small { count * (chunks * 65536) ≤ 67108864 }
 {
     let mut items = Items::new(alloc);
-    for number in 0..count {
-        add_file(alloc, &mut items, number, chunks)?;
-    }
+    add_files(alloc, &mut items, count, chunks)?;
     Ok(items)
+}
+
+fn add_files(alloc: Global, items: &mut Items, count: u16, chunks: u16) -> Result<(), Fail>
+    requires few { count ≤ 1024 }
+    requires small { count * (chunks * 65536) ≤ 67108864 }
+    requires none { items.old ≡ [] }
+{
+    for number in 0..count {
+        add_file(alloc, items, number, chunks)?;
+    }
+    Ok(())
 }
 
 // Adds the file of a number, unless its name is another's.
@@ -84,11 +131,11 @@ fn add_file(alloc: Global, items: &mut Items, number: u16, chunks: u16) -> Resul
     requires files { HasFiles items.old number (chunks * 65536) }
     ensures { OnOk result (HasFiles items.new (number + 1) (chunks * 65536)) }
 {
-    let contents = contents(alloc, number, chunks)?;
     let name = Name::read(&field_of(number))?;
     if items.find(&name).is_some() {
         return Err(Fail::from("a name that is another's"));
     }
+    let contents = contents(alloc, number, chunks)?;
     items.add(name, false, contents)?;
     Ok(())
 }
@@ -99,15 +146,35 @@ fn image(alloc: Global, count: u16, chunks: u16) -> Result<Bytes, OutOfMemory>
     requires chunks { chunks ≤ 1024 }
 {
     let mut image = Bytes::new(alloc);
+    put_image(&mut image, count, chunks)?;
+    Ok(image)
+}
+
+fn put_image(image: &mut Bytes, count: u16, chunks: u16) -> Result<(), OutOfMemory>
+    requires count { count ≤ 1024 }
+    requires chunks { chunks ≤ 1024 }
+{
     image.extend(&u32::from(count).to_be_bytes())?;
+    put_entries(image, count, chunks)?;
+    put_flags(image, count)?;
+    put_all_contents(image, count, chunks)
+}
+
+fn put_entries(image: &mut Bytes, count: u16, chunks: u16) -> Result<(), OutOfMemory>
+    requires count { count ≤ 1024 }
+    requires chunks { chunks ≤ 1024 }
+{
     for number in 0..count {
         image.extend(&entry_of(number, chunks))?;
     }
+    Ok(())
+}
+
+fn put_flags(image: &mut Bytes, count: u16) -> Result<(), OutOfMemory> {
     for _ in 0..count {
         image.push(0)?;
     }
-    put_all_contents(&mut image, count, chunks)?;
-    Ok(image)
+    Ok(())
 }
 
 fn put_all_contents(image: &mut Bytes, count: u16, chunks: u16) -> Result<(), OutOfMemory> {

@@ -1,7 +1,7 @@
 //! Loads that end before their script does, or that have nothing to do.
 
 use crate::files::{LOADER, Line, PLACE_ANCHOR, PLACE_TABLES, items_of, items_with};
-use crate::plans::{PADDING, TABLES, plan_of, reads_to};
+use crate::plans::{PADDING, TABLES, first_reads, no_events};
 use crate::rig::{End, FILL, Held, ends};
 use cfg_directory::Items;
 use loader_script::Cause;
@@ -137,12 +137,24 @@ fn ends_so(
     count: usize,
     left: &[Held],
 ) -> Result<(), Fail> {
-    let reads = reads_to(0xF_0000, 0x300_0000);
-    let mut plan = plan_of(alloc, 0, 0, &[])?;
     let end = End {
         answer,
-        reads: &reads[..count.min(5)],
+        reads: first_reads(count),
         left,
     };
-    ends(rt, alloc, items, fails, &mut plan, &end)
+    ends_without_events(rt, alloc, items, fails, &end)
+}
+
+/// The load over no events of a plan ends so.
+pub(crate) fn ends_without_events(
+    rt: &impl Abort,
+    alloc: Global,
+    items: Items,
+    fails: &[u32],
+    end: &End<'_>,
+) -> Result<(), Fail> {
+    let mut plan = no_events(alloc);
+    let done = ends(rt, alloc, items, fails, &mut plan, end);
+    drop(plan);
+    done
 }

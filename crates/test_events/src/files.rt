@@ -62,10 +62,21 @@ pub(crate) fn items_with(
     last: &[u8],
 ) -> Result<Items, Fail> {
     let mut container = Bytes::new(alloc);
-    put_directory(&mut container, empties, name, last)?;
-    put_padded(&mut container, &[], 4 + usize::from(empties))?;
-    put_contents(&mut container, last)?;
-    Ok(read_image(alloc, container.as_slice())?)
+    put_container(&mut container, empties, name, last)?;
+    let items = read_image(alloc, container.as_slice());
+    drop(container);
+    Ok(items?)
+}
+
+fn put_container(
+    container: &mut Bytes,
+    empties: u8,
+    name: &str,
+    last: &[u8],
+) -> Result<(), OutOfMemory> {
+    put_directory(container, empties, name, last)?;
+    put_padded(container, &[], 4 + usize::from(empties))?;
+    put_contents(container, last)
 }
 
 fn put_directory(
@@ -128,17 +139,26 @@ fn put_entry(
 fn put_line(script: &mut Bytes, line: &Line) -> Result<(), OutOfMemory> {
     let Line(times, number, names, rest) = line;
     for _ in 0..*times {
-        script.extend(&[*number, 0, 0, 0])?;
-        for name in *names {
-            put_padded(script, name.as_bytes(), 56)?;
-        }
-        put_padded(
-            script,
-            rest,
-            124usize.saturating_sub(names.len().saturating_mul(56)),
-        )?;
+        put_command(script, *number, names, rest)?;
     }
     Ok(())
+}
+
+fn put_command(
+    script: &mut Bytes,
+    number: u8,
+    names: &[&str],
+    rest: &[u8],
+) -> Result<(), OutOfMemory> {
+    script.extend(&[number, 0, 0, 0])?;
+    for name in names {
+        put_padded(script, name.as_bytes(), 56)?;
+    }
+    put_padded(
+        script,
+        rest,
+        124usize.saturating_sub(names.len().saturating_mul(56)),
+    )
 }
 
 // Bytes, and zeros behind them up to a length.

@@ -1,8 +1,9 @@
 //! A directory and a script that are larger than the buffer.
 
+use crate::ends::ends_without_events;
 use crate::files::{LOADER, Line, PLACE_ANCHOR, PLACE_TABLES, POINT, SUM, items_of};
-use crate::plans::{ANCHOR, TABLES, plan_of};
-use crate::rig::{End, Read, ends};
+use crate::plans::{ANCHOR, TABLES};
+use crate::rig::{End, Read};
 use std::test::Fail;
 
 // 94 commands, which have 12,032 bytes.
@@ -32,11 +33,10 @@ static READS: [Read; 9] = [
 #[test]
 fn several_pieces(rt: HostRuntime) -> Result<(), Fail> {
     let items = items_of(rt.alloc(), 127, LOADER, &LINES)?;
-    let mut plan = plan_of(rt.alloc(), 0, 0, &[])?;
     let end = End {
         answer: Ok(()),
         reads: &READS,
         left: &[ANCHOR, TABLES],
     };
-    ends(&rt, rt.alloc(), items, &[], &mut plan, &end)
+    ends_without_events(&rt, rt.alloc(), items, &[], &end)
 }

@@ -38,12 +38,27 @@ pub(crate) fn begin_small(alloc: Global, world: &mut World) -> Result<(), Fail>
     Ok(())
 }
 
-/// Returns the transfers of the small load: the number of files, the entries of four files, five commands, and both files.
+// The transfers of the small load at its lowest places: the number of files, the entries of four files, five commands, and both files.
+static READS: [Read; 5] = [
+    Read(0x19, 0, 4, 0x8000),
+    Read(0x19, 4, 256, 0x8000),
+    Read(0x23, 0, 640, 0x8000),
+    Read(0x20, 0, 9, 0xF_0000),
+    Read(0x21, 0, 5, 0x300_0000),
+];
+
+/// Returns the first so many of them.
+pub(crate) fn first_reads(count: usize) -> &'static [Read] {
+    &READS[..count.min(5)]
+}
+
+/// Returns them where both files go elsewhere.
 pub(crate) fn reads_to(anchor: u64, tables: u64) -> [Read; 5] {
+    let [number, entries, script, ..] = READS;
     [
-        Read(0x19, 0, 4, 0x8000),
-        Read(0x19, 4, 256, 0x8000),
-        Read(0x23, 0, 640, 0x8000),
+        number,
+        entries,
+        script,
         Read(0x20, 0, 9, anchor),
         Read(0x21, 0, 5, tables),
     ]
@@ -133,8 +148,19 @@ fn plans(rt: HostRuntime) -> Result<(), Fail> {
 
 fn ends_within(rt: &impl Abort, alloc: Global, plan: &Plan) -> Result<(), Fail> {
     let mut schedule = plan_of(alloc, plan.count, plan.bytes, plan.addresses)?;
-    small_load_ends(rt, alloc, &mut schedule, plan.left)?;
-    assert_eq!(rt; count_left(&mut schedule), plan.events);
+    let done = ends_over(rt, alloc, &mut schedule, plan);
+    drop(schedule);
+    done
+}
+
+fn ends_over(
+    rt: &impl Abort,
+    alloc: Global,
+    schedule: &mut ListSchedule,
+    plan: &Plan,
+) -> Result<(), Fail> {
+    small_load_ends(rt, alloc, schedule, plan.left)?;
+    assert_eq!(rt; count_left(schedule), plan.events);
     Ok(())
 }
 
@@ -147,30 +173,55 @@ fn small_load_ends(
 ) -> Result<(), Fail> {
     let end = End {
         answer: Ok(()),
-        reads: &reads_to(0xF_0000, 0x300_0000),
+        reads: first_reads(5),
         left,
     };
     let items = small_items(alloc)?;
     ends(rt, alloc, items, &[], schedule, &end)
 }
 
-/// Makes a plan of so many rounds, all of which are left: a step of the firmware and a piece of so many bytes, and behind each of them
-/// the round's number, modulo 256, is written at these addresses.
-pub(crate) fn plan_of(
+/// Makes a plan of no events.
+pub(crate) fn no_events(alloc: Global) -> ListSchedule {
+    let mut plan = ListSchedule::new(List::new(alloc));
+    plan.begin(0);
+    plan
+}
+
+// Makes a plan of so many rounds, all of which are left: a step of the firmware and a piece of so many bytes, and behind each of them
+// the round's number, modulo 256, is written at these addresses.
+fn plan_of(
     alloc: Global,
     count: u16,
     bytes: u32,
     addresses: &[u64],
 ) -> Result<ListSchedule, OutOfMemory> {
     let mut events = List::new(alloc);
-    for round in 1..=count {
-        let byte = (round % 256) as u8;
-        put_event(&mut events, Event::Firmware, byte, addresses)?;
-        put_event(&mut events, Event::Device(bytes), byte, addresses)?;
-    }
+    put_rounds(&mut events, count, bytes, addresses)?;
     let mut plan = ListSchedule::new(events);
     plan.begin(0);
     Ok(plan)
+}
+
+fn put_rounds(
+    events: &mut List<Event>,
+    count: u16,
+    bytes: u32,
+    addresses: &[u64],
+) -> Result<(), OutOfMemory> {
+    for round in 1..=count {
+        put_round(events, (round % 256) as u8, bytes, addresses)?;
+    }
+    Ok(())
+}
+
+fn put_round(
+    events: &mut List<Event>,
+    byte: u8,
+    bytes: u32,
+    addresses: &[u64],
+) -> Result<(), OutOfMemory> {
+    put_event(events, Event::Firmware, byte, addresses)?;
+    put_event(events, Event::Device(bytes), byte, addresses)
 }
 
 // An event, and writes behind it.

@@ -79,8 +79,23 @@ pub(crate) fn ends<C: Schedule>(
     end: &End<'_>,
 ) -> Result<(), Fail> {
     let mut world = World::idle();
-    begin(alloc, &mut world, items)?;
-    begun_ends(rt, alloc, &mut world, fails, plan, end)
+    let done = ends_in(rt, alloc, &mut world, items, fails, plan, end);
+    drop(world);
+    done
+}
+
+// The load of `items` in a world ends so.
+fn ends_in<C: Schedule>(
+    rt: &impl Abort,
+    alloc: Global,
+    world: &mut World,
+    items: Items,
+    fails: &[u32],
+    plan: &mut C,
+    end: &End<'_>,
+) -> Result<(), Fail> {
+    begin(alloc, world, items)?;
+    begun_ends(rt, alloc, world, fails, plan, end)
 }
 
 // The load that was begun ends so, where these calls for a place are refused.
@@ -96,8 +111,26 @@ fn begun_ends<C: Schedule>(
     requires top { IfSome world.old (λ w. (memory_of w).top ≡ 0x4000000) }
 {
     let mut failing = failing_places(alloc, fails)?;
-    begin_zones(alloc, &mut failing, Policy::Low)?;
-    ends_as(rt, world, &mut failing, plan, end);
+    let done = ends_placed(rt, alloc, world, &mut failing, Policy::Low, plan, end);
+    drop(failing);
+    done
+}
+
+/// The load that was begun ends so, with the places that an allocator gives by a policy.
+pub(crate) fn ends_placed<A: ZoneAlloc, C: Schedule>(
+    rt: &impl Abort,
+    alloc: Global,
+    world: &mut World,
+    place: &mut A,
+    by: Policy,
+    plan: &mut C,
+    end: &End<'_>,
+) -> Result<(), Fail>
+    requires fresh { IsSomeAnd world.old (λ w. IsBegun w.attached.device.items (memory_of w).top (memory_of w).fill w) }
+    requires top { IfSome world.old (λ w. (memory_of w).top ≡ 0x4000000) }
+{
+    begin_zones(alloc, place, by)?;
+    ends_as(rt, world, place, plan, end);
     Ok(())
 }
 
@@ -107,8 +140,8 @@ fn failing_places(alloc: Global, fails: &[u32]) -> Result<FailingAlloc, OutOfMem
     Ok(FailingAlloc::new(list))
 }
 
-/// The load that was begun ends so, over the events of a plan.
-pub(crate) fn ends_as<A: ZoneAlloc, C: Schedule>(
+// The load that was begun ends so, over the events of a plan.
+fn ends_as<A: ZoneAlloc, C: Schedule>(
     rt: &impl Abort,
     world: &mut World,
     place: &mut A,

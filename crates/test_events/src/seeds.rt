@@ -6,7 +6,7 @@ ghost use Rattle.load_machine.specs.Loads.{IsBegun};
 ghost use Rattle.load_machine.specs.Machine.{memory_of};
 
 use crate::plans::{ANCHOR, TABLES, begin_small, reads_to};
-use crate::rig::{End, Held, begin_zones, ends_as};
+use crate::rig::{End, Held, ends_placed};
 use firmware_load::{Schedule, SeededSchedule, World};
 use std::alloc::Global;
 use std::ops::Range;
@@ -16,14 +16,14 @@ use zone_alloc::{Policy, ShelfAlloc};
 
 // Both files are at the last multiples of their aligns. 5 + 0x3FFFFC0 is 0x3FFFFC5, and 0x41 + 0x42 + 0xC5 + 0xFF + 0xFF + 3 + 0x77 + 0x88
 // + 0xB8 is 0x500.
-const AT_TOP: [Held; 2] = [
+static AT_TOP: [Held; 2] = [
     Held(0xF_FFF0, b"\x41\x42\xc5\xff\xff\x03\x77\x88\xb8"),
     Held(0x3FF_FFC0, b"\xc1\xc2\xc3\xc4\xc5"),
 ];
 
 // The words of seed 0 begin with 11cdd903 and fc843fd7, so that the goals are 0xFD903 and 0x3843FD7. 5 + 0x3844000 is 0x3844005, and
 // 0x41 + 0x42 + 5 + 0x40 + 0x84 + 3 + 0x77 + 0x88 + 0xB2 is 0x300.
-const SCATTERED: [Held; 2] = [
+static SCATTERED: [Held; 2] = [
     Held(0xF_D910, b"\x41\x42\x05\x40\x84\x03\x77\x88\xb2"),
     Held(0x384_4000, b"\xc1\xc2\xc3\xc4\xc5"),
 ];
@@ -80,8 +80,22 @@ fn ends_over(
     end: &End<'_>,
 ) -> Result<(), Fail> {
     let mut world = World::idle();
-    begin_small(alloc, &mut world)?;
-    begun_ends_over(rt, alloc, &mut world, by, seed, end)
+    let done = ends_over_in(rt, alloc, &mut world, by, seed, end);
+    drop(world);
+    done
+}
+
+// The load in this world.
+fn ends_over_in(
+    rt: &impl Abort,
+    alloc: Global,
+    world: &mut World,
+    by: Policy,
+    seed: u64,
+    end: &End<'_>,
+) -> Result<(), Fail> {
+    begin_small(alloc, world)?;
+    begun_ends_over(rt, alloc, world, by, seed, end)
 }
 
 fn begun_ends_over(
@@ -95,10 +109,10 @@ fn begun_ends_over(
     requires fresh { IsSomeAnd world.old (λ w. IsBegun w.attached.device.items (memory_of w).top (memory_of w).fill w) }
     requires top { IfSome world.old (λ w. (memory_of w).top ≡ 0x4000000) }
 {
-    let mut shelf = ShelfAlloc::new();
-    begin_zones(alloc, &mut shelf, by)?;
     let mut plan = SeededSchedule::new();
     plan.begin(seed);
-    ends_as(rt, world, &mut shelf, &mut plan, end);
-    Ok(())
+    let mut shelf = ShelfAlloc::new();
+    let done = ends_placed(rt, alloc, world, &mut shelf, by, &mut plan, end);
+    drop(shelf);
+    done
 }

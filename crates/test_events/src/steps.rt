@@ -6,7 +6,7 @@ ghost use Rattle.script_load.specs.FilesInMemory.{placed_ranges};
 ghost use Rattle.load_machine.specs.Loads.{IsBegun};
 ghost use Rattle.load_machine.specs.Machine.{memory_of};
 
-use crate::plans::{ANCHOR, TABLES, begin_small, reads_to};
+use crate::plans::{ANCHOR, TABLES, begin_small, first_reads};
 use crate::rig::{Held, NO_BUFFER, NO_DESCRIPTOR, TOP, are_held, begin_zones, has_read, is_in};
 use firmware_load::World;
 use load_machine::Event::{self, Device, Firmware, Other};
@@ -80,9 +80,15 @@ static TURNS: [Turns; 7] = [
 #[test]
 fn steps(rt: HostRuntime) -> Result<(), Fail> {
     let mut world = World::idle();
-    is_in(&rt, &world, State::Idle);
-    begin_small(rt.alloc(), &mut world)?;
-    goes_on(&rt, rt.alloc(), &mut world)
+    let done = begins_and_goes_on(&rt, rt.alloc(), &mut world);
+    drop(world);
+    done
+}
+
+fn begins_and_goes_on(rt: &impl Abort, alloc: Global, world: &mut World) -> Result<(), Fail> {
+    is_in(rt, world, State::Idle);
+    begin_small(alloc, world)?;
+    goes_on(rt, alloc, world)
 }
 
 // The world that was begun goes on as it should, with the least places.
@@ -91,8 +97,22 @@ fn goes_on(rt: &impl Abort, alloc: Global, world: &mut World) -> Result<(), Fail
     requires top { IfSome world.old (λ w. (memory_of w).top ≡ 0x4000000) }
 {
     let mut shelf = ShelfAlloc::new();
-    begin_zones(alloc, &mut shelf, Policy::Low)?;
-    goes(rt, world, &mut shelf);
+    let done = goes_on_with(rt, alloc, world, &mut shelf);
+    drop(shelf);
+    done
+}
+
+fn goes_on_with<A: ZoneAlloc>(
+    rt: &impl Abort,
+    alloc: Global,
+    world: &mut World,
+    place: &mut A,
+) -> Result<(), Fail>
+    requires fresh { IsSomeAnd world.old (λ w. IsBegun w.attached.device.items (memory_of w).top (memory_of w).fill w) }
+    requires top { IfSome world.old (λ w. (memory_of w).top ≡ 0x4000000) }
+{
+    begin_zones(alloc, place, Policy::Low)?;
+    goes(rt, world, place);
     Ok(())
 }
 
@@ -104,12 +124,45 @@ fn goes<A: ZoneAlloc>(rt: &impl Abort, world: &mut World, place: &mut A)
     requires handed { IfSome world.old (λ w. A.handed place.old ≡ placed_ranges w.placed) }
 {
     for Turns(count, events, seen) in &TURNS {
-        for _ in 0..*count {
-            for event in *events {
-                take(rt, world, place, *event);
-            }
-        }
+        take_turns(rt, world, place, *count, events);
         is_seen(rt, world, seen);
+    }
+}
+
+// The world takes the steps of events, so often in turn.
+fn take_turns<A: ZoneAlloc>(
+    rt: &impl Abort,
+    world: &mut World,
+    place: &mut A,
+    count: u8,
+    events: &[Event],
+)
+    requires some { IsSome world.old }
+    requires begun { A.begun place.old ≡ true }
+    requires zones { AreZonesOf 0x4000000 (A.zones place.old) }
+    requires handed { IfSome world.old (λ w. A.handed place.old ≡ placed_ranges w.placed) }
+    ensures some { IsSome world.new }
+    ensures begun { A.begun place.new ≡ true }
+    ensures zones { AreZonesOf 0x4000000 (A.zones place.new) }
+    ensures handed { IfSome world.new (λ w. A.handed place.new ≡ placed_ranges w.placed) }
+{
+    for _ in 0..count {
+        take_all(rt, world, place, events);
+    }
+}
+
+fn take_all<A: ZoneAlloc>(rt: &impl Abort, world: &mut World, place: &mut A, events: &[Event])
+    requires some { IsSome world.old }
+    requires begun { A.begun place.old ≡ true }
+    requires zones { AreZonesOf 0x4000000 (A.zones place.old) }
+    requires handed { IfSome world.old (λ w. A.handed place.old ≡ placed_ranges w.placed) }
+    ensures some { IsSome world.new }
+    ensures begun { A.begun place.new ≡ true }
+    ensures zones { AreZonesOf 0x4000000 (A.zones place.new) }
+    ensures handed { IfSome world.new (λ w. A.handed place.new ≡ placed_ranges w.placed) }
+{
+    for event in events {
+        take(rt, world, place, *event);
     }
 }
 
@@ -134,10 +187,6 @@ fn is_seen(rt: &impl Abort, world: &World, seen: &Seen)
     let Seen(state, busy, count, held) = *seen;
     is_in(rt, world, state);
     assert_eq!(rt; world.device().busy(), busy);
-    has_read(
-        rt,
-        world.device(),
-        &reads_to(0xF_0000, 0x300_0000)[..count.min(5)],
-    );
+    has_read(rt, world.device(), first_reads(count));
     are_held(rt, world.memory(), held);
 }

@@ -1,8 +1,10 @@
 //! How files are linked.
 
-ghost use Rattle.std.specs.Prelude.{◌≡◌, [], ◌∷◌, codes, IfOk};
+ghost use Rattle.std.specs.Prelude.{◌≡◌, ◌<◌, [], ◌∷◌, ◌++◌, length, codes, IfOk, OnOk};
 ghost use Rattle.std.specs.List.{AllByRecursion};
 ghost use Rattle.loader_script.specs.Spelling.{CanBeWritten};
+ghost use Rattle.image_files.specs.Items.{loader_name};
+ghost use Rattle.image_files.specs.Linkable.{HasNoName, AreDistinct};
 
 use crate::told::is_image;
 use blob_holes::{Parts, PointerHole, SumHole};
@@ -21,7 +23,7 @@ fn as_many_bytes_as_an_image_may_have(rt: HostRuntime) -> Result<(), Fail> {
     is_image(
         rt.alloc(),
         "a file of 409,600 bytes",
-        &image,
+        image,
         &["20 a read 409600", "21 etc/table-loader read 0"],
         &[],
     )
@@ -74,21 +76,21 @@ fn no_files(rt: HostRuntime) -> Result<(), Fail> {
     is_image(
         rt.alloc(),
         "no files",
-        &image,
+        image,
         &["20 etc/table-loader read 0"],
         &[],
     )
 }
 
 // The files are linked in the order "c", "a", "b".
-const THREE_ITEMS: [&str; 4] = [
+static THREE_ITEMS: [&str; 4] = [
     "20 a read 5",
     "21 b written 3",
     "22 c read 16",
     "23 etc/table-loader read 1024",
 ];
 
-const THREE_COMMANDS: [&str; 8] = [
+static THREE_COMMANDS: [&str; 8] = [
     "place c 64 1",
     "place a 16 2",
     "point a 1 4 to c",
@@ -105,44 +107,32 @@ fn files_in_another_order(rt: HostRuntime) -> Result<(), Fail> {
     is_image(
         rt.alloc(),
         "three files",
-        &image,
+        image,
         &THREE_ITEMS,
         &THREE_COMMANDS,
     )
 }
 
 fn image_of_three(alloc: Global) -> Result<Image, ImageBuildFault> {
-    let first = first(alloc)?;
-    let second = second(alloc)?;
-    link_three(alloc, first, second, third(alloc)?)
-}
-
-fn link_three(
-    alloc: Global,
-    first: ImageFile,
-    second: ImageFile,
-    third: ImageFile,
-) -> Result<Image, ImageBuildFault>
-    requires first { first.name ≡ codes "c" }
-    requires second { second.name ≡ codes "a" }
-    requires third { third.name ≡ codes "b" }
-{
-    let files = three_files(alloc, first, second, third)?;
+    let files = three_files(alloc)?;
     link(alloc, files, &later())
 }
 
-fn three_files(
-    alloc: Global,
-    first: ImageFile,
-    second: ImageFile,
-    third: ImageFile,
-) -> Result<Vec<ImageFile>, OutOfMemory>
-    ensures { IfOk result (λ files. files.items ≡ first ∷ second ∷ third ∷ []) }
+fn three_files(alloc: Global) -> Result<Vec<ImageFile>, OutOfMemory>
+    ensures distinct { IfOk result (λ files. AreDistinct files.items) }
+    ensures others { IfOk result (λ files. HasNoName files.items loader_name) }
+    ensures few { IfOk result (λ files. length files.items < 1024) }
 {
-    let mut files = one_file(alloc, first)?;
-    files.push(second)?;
-    files.push(third)?;
+    let mut files = one_file(alloc, first(alloc)?)?;
+    push(&mut files, second(alloc)?)?;
+    push(&mut files, third(alloc)?)?;
     Ok(files)
+}
+
+fn push(files: &mut Vec<ImageFile>, file: ImageFile) -> Result<(), OutOfMemory>
+    ensures { OnOk result (files.new.items ≡ files.old.items ++ file ∷ []) }
+{
+    Ok(files.push(file)?)
 }
 
 // The address of "a" is added to a number in "b", and the other command changes nothing.
@@ -225,9 +215,13 @@ fn with_holes(
     sum: SumHole,
 ) -> Result<Parts, OutOfMemory> {
     let mut parts = whole(alloc, zeros(alloc, size)?);
-    parts.pointers.push(pointer)?;
-    parts.sums.push(sum)?;
+    push_holes(&mut parts, pointer, sum)?;
     Ok(parts)
+}
+
+fn push_holes(parts: &mut Parts, pointer: PointerHole, sum: SumHole) -> Result<(), OutOfMemory> {
+    parts.pointers.push(pointer)?;
+    parts.sums.push(sum)
 }
 
 fn a() -> Name

@@ -1,6 +1,6 @@
 //! Commands that are refused, each for its first cause, and what the commands before them left.
 
-use crate::containers::{ANCHOR, Command, EMPTY_FILE, FILES, TARGET, container_ends, container_of};
+use crate::containers::{ANCHOR, Command, EMPTY_FILE, TARGET, container_of_files, files_end};
 use crate::endings::refused_at;
 use fixtures::{Ending, Run, ends_in, is_same, load};
 use loader_script::Cause;
@@ -105,10 +105,9 @@ fn are_refused(alloc: Global, cause: Cause, say: &[u8], commands: &[Command]) ->
 // The command is refused at index 2, whatever follows it.
 fn is_refused(alloc: Global, cause: Cause, say: &[u8], command: Command) -> Result<(), Fail> {
     let [first, second] = PLACED;
-    container_ends(
+    files_end(
         alloc,
         &load("behind two that place files", &[]),
-        &FILES,
         &[first, second, command, command],
         &refused_at(2, cause, say),
     )
@@ -168,10 +167,9 @@ fn is_refused_at_once(
     say: &[u8],
     command: Command,
 ) -> Result<(), Fail> {
-    container_ends(
+    files_end(
         alloc,
         &load("alone", &[]),
-        &FILES,
         &[command],
         &refused_at(0, cause, say),
     )
@@ -222,13 +220,20 @@ fn leaves(
     say: &[u8],
     bytes: &[u8; 16],
 ) -> Result<(), Fail> {
-    let container = container_of(alloc, &FILES, commands)?;
+    let container = container_of_files(alloc, commands)?;
     let ending = refused_at(index, Cause::NoFile, say);
     let run = load("a missing file", container.as_slice());
-    run_leaves(alloc, &run, &mut World::idle(), &ending, bytes)
+    run_leaves(alloc, &run, &ending, bytes)
 }
 
-fn run_leaves(
+fn run_leaves(alloc: Global, run: &Run, ending: &Ending, bytes: &[u8; 16]) -> Result<(), Fail> {
+    let mut world = World::idle();
+    let done = run_leaves_in(alloc, run, &mut world, ending, bytes);
+    drop(world);
+    done
+}
+
+fn run_leaves_in(
     alloc: Global,
     run: &Run,
     world: &mut World,

@@ -54,8 +54,26 @@ pub(crate) fn container_ends(
     ends(alloc, &run, ending)
 }
 
+// The same with the files above.
+pub(crate) fn files_end(
+    alloc: Global,
+    run: &Run,
+    commands: &[Command],
+    ending: &Ending,
+) -> Result<(), Fail> {
+    container_ends(alloc, run, &FILES, commands, ending)
+}
+
+// The container of the files above.
+pub(crate) fn container_of_files(
+    alloc: Global,
+    commands: &[Command],
+) -> Result<Bytes, OutOfMemory> {
+    container_of(alloc, &FILES, commands)
+}
+
 // The container of these files and the script of these commands, its last file. A guest may write none of them.
-pub(crate) fn container_of(
+fn container_of(
     alloc: Global,
     files: &[FileOf],
     commands: &[Command],

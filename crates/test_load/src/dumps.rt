@@ -3,7 +3,7 @@
 //! The bytes 41 to 44 of the anchor sum to 0A. At a top of 64 MiB high memory begins at 0x03000000, so that the pointer is 0x03000004, whose
 //! bytes sum to 07, and the checksum is EF. At 128 MiB it begins at 0x07000000, the pointer's bytes sum to 0B, and the checksum is EB.
 
-use crate::containers::{ANCHOR, Command, FILES, TARGET, container_ends};
+use crate::containers::{ANCHOR, Command, TARGET, container_ends, files_end};
 use fixtures::{BOOTED, Run, SEEDED_ROOM, booted, load};
 use std::alloc::Global;
 use std::test::Fail;
@@ -131,7 +131,7 @@ fn is_loaded(alloc: Global, words: &[&str]) -> Result<(), Fail> {
         room: SEEDED_ROOM,
         ..load("a seed", &[])
     };
-    container_ends(alloc, &run, &FILES, &LINKED, &BOOTED)
+    files_end(alloc, &run, &LINKED, &BOOTED)
 }
 
 fn is_dumped<'a>(
@@ -145,7 +145,7 @@ fn is_dumped<'a>(
         words,
         ..load(case, &[])
     };
-    container_ends(alloc, &run, &FILES, commands, &booted(dump))
+    files_end(alloc, &run, commands, &booted(dump))
 }
 
 // The container of a script alone, of no bytes.

@@ -65,19 +65,43 @@ fn ends_built<'a>(
     ending: &Ending,
 ) -> Result<(), Fail> {
     let mut container = sink(alloc, ROOM, &[])?;
-    build(alloc, description, &mut container)?;
+    let done = ends_built_in(alloc, case, description, words, ending, &mut container);
+    drop(container);
+    done
+}
+
+fn ends_built_in<'a>(
+    alloc: Global,
+    case: &'a str,
+    description: &[u8],
+    words: &'a [&'a str],
+    ending: &Ending,
+    container: &mut ListSink,
+) -> Result<(), Fail> {
+    build(alloc, description, container)?;
+    loaded_ends(alloc, case, words, container.taken(), ending)
+}
+
+fn loaded_ends<'a>(
+    alloc: Global,
+    case: &'a str,
+    words: &'a [&'a str],
+    container: &'a [u8],
+    ending: &Ending,
+) -> Result<(), Fail> {
     let run = Run {
         words,
         room: SEEDED_ROOM,
-        ..load(case, container.taken())
+        ..load(case, container)
     };
     ends(alloc, &run, ending)
 }
 
 fn build(alloc: Global, description: &[u8], container: &mut ListSink) -> Result<(), Fail> {
     let mut source = source(alloc, description, ROOM, &[])?;
-    let status = status_of_build(alloc, &mut source, container)?;
-    is_same("build", "status", &status, &Status::Ok)
+    let status = status_of_build(alloc, &mut source, container);
+    drop(source);
+    is_same("build", "status", &status?, &Status::Ok)
 }
 
 fn status_of_build(
@@ -86,12 +110,14 @@ fn status_of_build(
     container: &mut ListSink,
 ) -> Result<Status, OutOfMemory> {
     let mut world = World::idle();
-    status_of(
+    let status = status_of(
         alloc,
         &["build"],
         source,
         container,
         &mut SureSink::new(),
         &mut world,
-    )
+    );
+    drop(world);
+    status
 }

@@ -1,7 +1,7 @@
 //! Files for which the allocator gives no place, and files that fill their zone.
 
 use crate::containers::{
-    ANCHOR, Command, FILES, FileOf, SCRIPT, TARGET, container_ends, container_of,
+    ANCHOR, Command, FileOf, SCRIPT, TARGET, container_ends, container_of_files,
 };
 use crate::endings::no_room_at;
 use fixtures::{Ending, Run, booted, ends_with, failing_places, load};
@@ -61,13 +61,15 @@ end
 }
 
 fn ends_placed(alloc: Global, case: &str, fails: &[u32], ending: &Ending) -> Result<(), Fail> {
-    let container = container_of(alloc, &FILES, &COMMANDS)?;
+    let container = container_of_files(alloc, &COMMANDS)?;
     run_ends_placed(alloc, &load(case, container.as_slice()), fails, ending)
 }
 
 fn run_ends_placed(alloc: Global, run: &Run, fails: &[u32], ending: &Ending) -> Result<(), Fail> {
     let mut place = failing_places(alloc, fails)?;
-    ends_with_places(alloc, run, &mut place, ending)
+    let done = ends_with_places(alloc, run, &mut place, ending);
+    drop(place);
+    done
 }
 
 fn ends_with_places(
@@ -76,7 +78,10 @@ fn ends_with_places(
     place: &mut FailingAlloc,
     ending: &Ending,
 ) -> Result<(), Fail> {
-    ends_with(alloc, run, place, &mut World::idle(), ending)
+    let mut world = World::idle();
+    let done = ends_with(alloc, run, place, &mut world, ending);
+    drop(world);
+    done
 }
 
 // Files of zeros and their commands, by the size of the first and the second file. Each zone is too small for the last of them.

@@ -1,6 +1,6 @@
 //! Streams that fail, and what becomes of a world over many runs.
 
-use crate::containers::{ANCHOR, Command, FILES, container_ends, container_of};
+use crate::containers::{ANCHOR, Command, container_of_files, files_end};
 use crate::endings::{no_container, no_room_at};
 use fixtures::{
     Ending, READ_FAULT, ROOM, Run, booted, ends, ends_in, ends_with, failing_places, load,
@@ -17,6 +17,11 @@ end
 ";
 
 static COMMANDS: [Command; 1] = [Command::Allocate(ANCHOR, 16, 2)];
+
+// The container that places the anchor.
+fn anchor_ends(alloc: Global, run: &Run, ending: &Ending) -> Result<(), Fail> {
+    files_end(alloc, run, &COMMANDS, ending)
+}
 
 #[test]
 fn streams_that_fail(rt: HostRuntime) -> Result<(), Fail> {
@@ -38,7 +43,7 @@ fn read_fails(alloc: Global, failing_reads: &[u32]) -> Result<(), Fail> {
         failing_reads,
         ..load("a read that fails", &[])
     };
-    container_ends(alloc, &run, &FILES, &COMMANDS, &READ_FAULT)
+    anchor_ends(alloc, &run, &READ_FAULT)
 }
 
 // Room for so many bytes, and the writes that fail.
@@ -58,16 +63,24 @@ fn write_fails(alloc: Global, room: usize, failing_writes: &[u32]) -> Result<(),
         ..load("a write that fails", &[])
     };
     let count = if failing_writes.is_empty() { room } else { 0 };
-    container_ends(alloc, &run, &FILES, &COMMANDS, &write_fault(DUMP, count))
+    anchor_ends(alloc, &run, &write_fault(DUMP, count))
 }
 
 // The status is that of the fault, whatever becomes of its line.
 fn says_fail(alloc: Global) -> Result<(), Fail> {
+    no_byte_is_said(alloc)?;
+    nine_bytes_are_said(alloc)
+}
+
+fn no_byte_is_said(alloc: Global) -> Result<(), Fail> {
     let run = Run {
         failing_says: &[0],
         ..load("a line that fails", b"")
     };
-    ends(alloc, &run, &no_container(b""))?;
+    ends(alloc, &run, &no_container(b""))
+}
+
+fn nine_bytes_are_said(alloc: Global) -> Result<(), Fail> {
     let run = Run {
         say_room: 9,
         ..load("room for a part of a line", b"")
@@ -89,41 +102,66 @@ fn is_read(alloc: Global, piece: usize) -> Result<(), Fail> {
         piece,
         ..load("in pieces", &[])
     };
-    container_ends(alloc, &run, &FILES, &COMMANDS, &booted(DUMP))
+    anchor_ends(alloc, &run, &booted(DUMP))
 }
 
 // A world and an allocator go from one load to the next, whatever became of the one before.
 #[test]
 fn loads_in_one_world(rt: HostRuntime) -> Result<(), Fail> {
-    all_load(rt.alloc(), &mut World::idle())
+    let mut world = World::idle();
+    let done = all_load(rt.alloc(), &mut world);
+    drop(world);
+    done
 }
 
 fn all_load(alloc: Global, world: &mut World) -> Result<(), Fail> {
-    let container = container_of(alloc, &FILES, &COMMANDS)?;
-    let mut place = failing_places(alloc, &[1])?;
-    all_load_placed(
-        alloc,
-        &load("a container", container.as_slice()),
-        &mut place,
-        world,
-    )
+    let container = container_of_files(alloc, &COMMANDS)?;
+    container_loads(alloc, &load("a container", container.as_slice()), world)
 }
 
 // The allocator refuses its second place.
+fn container_loads(alloc: Global, whole: &Run, world: &mut World) -> Result<(), Fail> {
+    let mut place = failing_places(alloc, &[1])?;
+    let done = all_load_placed(alloc, whole, &mut place, world);
+    drop(place);
+    done
+}
+
 fn all_load_placed(
     alloc: Global,
     whole: &Run,
     place: &mut FailingAlloc,
     world: &mut World,
 ) -> Result<(), Fail> {
-    let done = booted(DUMP);
-    ends_with(alloc, whole, place, world, &done)?;
+    is_done(alloc, whole, place, world)?;
+    is_refused(alloc, world)?;
+    has_no_room(alloc, whole, place, world)?;
+    is_done(alloc, whole, place, world)
+}
+
+fn is_done(
+    alloc: Global,
+    whole: &Run,
+    place: &mut FailingAlloc,
+    world: &mut World,
+) -> Result<(), Fail> {
+    ends_with(alloc, whole, place, world, &booted(DUMP))
+}
+
+fn is_refused(alloc: Global, world: &mut World) -> Result<(), Fail> {
     let refused = Ending {
         state: State::Done,
         ..no_container(b"container: fault 1\n")
     };
-    ends_in(alloc, &load("no container", b""), world, &refused)?;
+    ends_in(alloc, &load("no container", b""), world, &refused)
+}
+
+fn has_no_room(
+    alloc: Global,
+    whole: &Run,
+    place: &mut FailingAlloc,
+    world: &mut World,
+) -> Result<(), Fail> {
     let no_room = no_room_at(0, b"no room at command 0\n");
-    ends_with(alloc, whole, place, world, &no_room)?;
-    ends_with(alloc, whole, place, world, &done)
+    ends_with(alloc, whole, place, world, &no_room)
 }

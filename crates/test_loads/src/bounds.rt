@@ -7,7 +7,7 @@ use loader_script::Cause;
 use script_load::LoadFault;
 use std::test::Fail;
 
-const POINTERS: [Case<'static>; 4] = [
+static POINTERS: [Case<'static>; 4] = [
     // The last four bytes, and then the last eight: 0x55443300 + 0x3000009 is 0x58443309, and 0x822 + 0x3000000 is 0x3000822.
     Case {
         script: &[
@@ -65,7 +65,7 @@ const POINTERS: [Case<'static>; 4] = [
     },
 ];
 
-const TOO_FAR: [Case<'static>; 4] = [
+static TOO_FAR: [Case<'static>; 4] = [
     Case {
         script: &[
             Allocate("etc/holder", 1, HIGH),
@@ -115,7 +115,7 @@ const TOO_FAR: [Case<'static>; 4] = [
     },
 ];
 
-const SUMS: [Case<'static>; 6] = [
+static SUMS: [Case<'static>; 6] = [
     // A range up to the end of its file, with its byte there: 0x33 + 0x44 + 0x89 is 0x100. A whole file: 9 + 0xFF + 0xFF + 0xFC + 0xFD
     // is 0x400. No byte, from the end of a file on.
     Case {

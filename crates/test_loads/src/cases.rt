@@ -11,6 +11,7 @@ use cfg_directory::Items;
 use guest_memory::GuestMemory;
 use script_load::{LoadFault, State, World};
 use std::alloc::Global;
+use std::fmt::Debug;
 use std::process::Abort;
 use std::test::Fail;
 use vt_outside::OutOfMemory;
@@ -75,12 +76,47 @@ pub(crate) fn all_end(rt: &impl Abort, alloc: Global, cases: &[Case<'_>]) -> Res
 /// The load of a case, with places from a shelf, ends as it says.
 pub(crate) fn ends(rt: &impl Abort, alloc: Global, case: &Case<'_>) -> Result<(), Fail> {
     let items = items_of(alloc, case.script)?;
-    let mut shelf = ShelfAlloc::new();
-    begin_zones(alloc, &mut shelf)?;
+    loads(rt, alloc, items, &mut ShelfAlloc::new(), case)
+}
+
+/// The load of a device's files, with places from an allocator, ends as a case says.
+pub(crate) fn loads<A: ZoneAlloc>(
+    rt: &impl Abort,
+    alloc: Global,
+    items: Items,
+    place: &mut A,
+    case: &Case<'_>,
+) -> Result<(), Fail> {
     let mut world = World::idle();
-    begin(alloc, &mut world, items)?;
-    ends_as(rt, &mut world, &mut shelf, case);
+    loads_in(rt, alloc, &mut world, items, place, case)
+}
+
+// Apart from the function that owns the world, since each step that may fail costs more to prove beside it.
+fn loads_in<A: ZoneAlloc>(
+    rt: &impl Abort,
+    alloc: Global,
+    world: &mut World,
+    items: Items,
+    place: &mut A,
+    case: &Case<'_>,
+) -> Result<(), Fail> {
+    let answer = answer_in(alloc, world, items, place)?;
+    is_ended(rt, world, answer, case);
     Ok(())
+}
+
+/// Loads a device's files in a world, with places from an allocator, and returns the load's answer.
+pub(crate) fn answer_in<A: ZoneAlloc>(
+    alloc: Global,
+    world: &mut World,
+    items: Items,
+    place: &mut A,
+) -> Result<Result<(), LoadFault>, OutOfMemory>
+    ensures { OnOk result (IsSome world.new) }
+{
+    begin(alloc, world, items)?;
+    begin_zones(alloc, place)?;
+    Ok(world.load(place))
 }
 
 /// The load of a case that was begun ends as the case says, and leaves that.
@@ -104,8 +140,8 @@ pub(crate) fn ends_as<A: ZoneAlloc>(
 fn is_ended(rt: &impl Abort, world: &World, answer: Result<(), LoadFault>, case: &Case<'_>)
     requires { IsSome world.now }
 {
-    assert_eq!(rt; answer, case.answer);
-    is_in(rt, world, ended(answer));
+    is(rt, &answer, &case.answer);
+    is(rt, &world.state(), &ended(answer));
     is_left(rt, world.memory(), case.left);
 }
 
@@ -116,9 +152,9 @@ fn ended(answer: Result<(), LoadFault>) -> State {
     }
 }
 
-/// The world is in a state.
-pub(crate) fn is_in(rt: &impl Abort, world: &World, state: State) {
-    assert_eq!(rt; world.state(), state);
+/// What is found is what is wanted.
+pub(crate) fn is<T: Debug + PartialEq>(rt: &impl Abort, found: &T, wanted: &T) {
+    assert_eq!(rt; *found, *wanted);
 }
 
 /// Memory holds the fill byte, but for these bytes, none of which is the fill byte.
@@ -128,19 +164,27 @@ pub(crate) fn is_left(rt: &impl Abort, memory: &GuestMemory, left: &[Held]) {
         holds(rt, memory, held);
         count = count.saturating_add(held.1.len() as u64);
     }
-    assert_eq!(rt; count_others(memory), count);
+    is(rt, &count_others(memory), &count);
 }
 
 // All of its bytes are in one frame.
 fn holds(rt: &impl Abort, memory: &GuestMemory, held: &Held) {
     let Held(address, bytes) = held;
-    assert!(rt; bytes.len() <= 16);
-    assert!(rt; memory.is_ram(*address) && *address % 4096 <= 4080);
-    assert_eq!(rt;
-        memory.window(*address, bytes.len() as u32),
-        *bytes,
+    assert!(rt;
+        bytes.len() <= 16 && memory.is_ram(*address) && *address % 4096 <= 4080,
         "at {address}"
     );
+    are_bytes(
+        rt,
+        memory.window(*address, bytes.len() as u32),
+        bytes,
+        *address,
+    );
+}
+
+/// What memory holds at an address is `wanted`.
+pub(crate) fn are_bytes(rt: &impl Abort, bytes: &[u8], wanted: &[u8], address: u64) {
+    assert_eq!(rt; bytes, wanted, "at {address}");
 }
 
 /// How many bytes of RAM aren't the fill byte.

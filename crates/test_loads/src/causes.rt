@@ -10,19 +10,19 @@ use std::process::Abort;
 use std::test::Fail;
 
 // The command has the index 2, behind two files that are placed and stay. The one behind it isn't carried out.
-const BEFORE: [Line; 2] = [
+static BEFORE: [Line; 2] = [
     Allocate("etc/holder", 16, HIGH),
     Allocate("etc/edge", 16, HIGH),
 ];
 
-const BEHIND: Line = Allocate("etc/ones", 16, HIGH);
+static BEHIND: Line = Allocate("etc/ones", 16, HIGH);
 
-const LEFT: &[Held] = &[
+static LEFT: [Held; 2] = [
     Held(0x300_0000, b"\x11\x22\x08\0\0\0\x33\x44\x55"),
     Held(0x300_0010, b"\xff\xff\xff\xfc\0\0\0\xfd"),
 ];
 
-const OF_ALLOCATES: [(Line, Cause); 11] = [
+static OF_ALLOCATES: [(Line, Cause); 11] = [
     (Number(1), Cause::BadName),
     (Allocate("etc/none", 1, HIGH), Cause::NoFile),
     (Allocate("etc/holder", 16, HIGH), Cause::AlreadyPlaced),
@@ -36,7 +36,7 @@ const OF_ALLOCATES: [(Line, Cause); 11] = [
     (Allocate("etc/target", 1, 0xFF), Cause::BadZone),
 ];
 
-const OF_POINTERS: [(Line, Cause); 9] = [
+static OF_POINTERS: [(Line, Cause); 9] = [
     (Number(2), Cause::BadName),
     (AddPointer("etc/none", "etc/holder", 0, 4), Cause::NoFile),
     (AddPointer("etc/holder", "etc/none", 0, 4), Cause::NoFile),
@@ -57,7 +57,7 @@ const OF_POINTERS: [(Line, Cause); 9] = [
     (AddPointer("etc/holder", "etc/edge", 0, 1), Cause::TooFar),
 ];
 
-const OF_CHECKSUMS: [(Line, Cause); 4] = [
+static OF_CHECKSUMS: [(Line, Cause); 4] = [
     (Number(3), Cause::BadName),
     (AddChecksum("etc/none", 0, 0, 1), Cause::NoFile),
     (AddChecksum("etc/target", 0, 0, 1), Cause::NotPlaced),
@@ -65,7 +65,7 @@ const OF_CHECKSUMS: [(Line, Cause); 4] = [
 ];
 
 // The first cause of several.
-const OF_SEVERAL: [(Line, Cause); 9] = [
+static OF_SEVERAL: [(Line, Cause); 9] = [
     (Allocate("etc/none", 3, 9), Cause::NoFile),
     (Allocate("etc/holder", 0, 0), Cause::AlreadyPlaced),
     (Allocate("etc/empty", 3, 9), Cause::Empty),
@@ -107,13 +107,13 @@ fn is_refused(rt: &impl Abort, alloc: Global, line: &Line, cause: Cause) -> Resu
     let case = Case {
         script: &script,
         answer: Err(LoadFault::Command { index: 2, cause }),
-        left: LEFT,
+        left: &LEFT,
     };
     ends(rt, alloc, &case)
 }
 
 // A pointer into no file behind one that was added, in which the sum that would be next isn't taken either.
-const CUT_SHORT: Case<'static> = Case {
+static CUT_SHORT: Case<'static> = Case {
     script: &[
         Allocate("etc/holder", 16, HIGH),
         Allocate("etc/target", 64, HIGH),

@@ -24,7 +24,7 @@ const SMALL_LEFT: &[Held] = &[
     Held(0x300_0040, b"\xa1\xa2\xa3"),
 ];
 
-const CASES: [Case<'static>; 4] = [
+static CASES: [Case<'static>; 4] = [
     SMALL,
     // The same in 32 commands, to which QEMU pads a script.
     Case {
@@ -51,7 +51,7 @@ const CASES: [Case<'static>; 4] = [
     },
 ];
 
-const PLACES: [Case<'static>; 2] = [
+static PLACES: [Case<'static>; 2] = [
     // The third file fits between the two others.
     Case {
         script: &[

@@ -14,7 +14,7 @@ pub(crate) struct File<'a> {
 
 /// The files that scripts place: one that holds numbers, one that they point to, one of numbers that are nearly too large, and
 /// one of no bytes.
-pub(crate) const FILES: [File<'static>; 5] = [
+pub(crate) static FILES: [File<'static>; 5] = [
     File {
         name: "etc/holder",
         bytes: b"\x11\x22\x08\0\0\0\x33\x44\x55",
@@ -39,15 +39,29 @@ pub(crate) const FILES: [File<'static>; 5] = [
 
 /// Makes a device of these files, and those of [`FILES`].
 pub(crate) fn items_with(alloc: Global, files: &[File<'_>]) -> Result<Items, Fail> {
+    let container = container_with(alloc, files)?;
+    Ok(read_image(alloc, container.as_slice())?)
+}
+
+fn container_with(alloc: Global, files: &[File<'_>]) -> Result<Bytes, Fail> {
     let mut container = Bytes::new(alloc);
+    put_files(&mut container, files)?;
+    Ok(container)
+}
+
+fn put_files(container: &mut Bytes, files: &[File<'_>]) -> Result<(), Fail> {
     let count = u32::try_from(files.len())?.wrapping_add(5);
     container.extend(&count.to_be_bytes())?;
-    put_entries(&mut container, &FILES, 0x20)?;
-    put_entries(&mut container, files, 0x30)?;
-    put_flags(&mut container, count)?;
-    put_contents(&mut container, &FILES)?;
-    put_contents(&mut container, files)?;
-    Ok(read_image(alloc, container.as_slice())?)
+    put_entries(container, &FILES, 0x20)?;
+    put_entries(container, files, 0x30)?;
+    put_flags(container, count)?;
+    put_all_contents(container, files)?;
+    Ok(())
+}
+
+fn put_all_contents(container: &mut Bytes, files: &[File<'_>]) -> Result<(), OutOfMemory> {
+    put_contents(container, &FILES)?;
+    put_contents(container, files)
 }
 
 // The entries of files, with selectors from one on: the size, the selector, two bytes without a meaning, and the name.
@@ -62,11 +76,18 @@ fn put_entries(container: &mut Bytes, files: &[File<'_>], first: u16) -> Result<
 
 fn put_entry(container: &mut Bytes, file: &File<'_>, select: u16) -> Result<(), Fail> {
     let size = u32::try_from(file.bytes.len())?;
-    let name = Name::of(file.name)?;
+    put_numbers(container, size, select)?;
+    put_name(container, file.name)
+}
+
+fn put_numbers(container: &mut Bytes, size: u32, select: u16) -> Result<(), OutOfMemory> {
     container.extend(&size.to_be_bytes())?;
     container.extend(&select.to_be_bytes())?;
-    container.extend(&[0; 2])?;
-    container.extend(&name.bytes())?;
+    container.extend(&[0; 2])
+}
+
+fn put_name(container: &mut Bytes, name: &str) -> Result<(), Fail> {
+    container.extend(&Name::of(name)?.bytes())?;
     Ok(())
 }
 

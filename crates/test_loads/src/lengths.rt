@@ -1,10 +1,10 @@
 //! Scripts of zeros by their length, and no script.
 
-use crate::cases::{Case, LOADER, begin, begin_zones, ends_as};
+use crate::cases::{Case, LOADER, loads};
 use crate::files::{File, items_with};
 use cfg_directory::Items;
+use script_load::LoadFault;
 use script_load::LoadFault::{NoScript, ScriptLength};
-use script_load::{LoadFault, World};
 use std::alloc::Global;
 use std::process::Abort;
 use std::test::Fail;
@@ -12,7 +12,7 @@ use vt_outside::{Bytes, OutOfMemory};
 use zone_alloc::ShelfAlloc;
 
 // A command has 128 bytes, and a script at most 1,048,576.
-const LENGTHS: [(Option<u32>, Result<(), LoadFault>); 7] = [
+static LENGTHS: [(Option<u32>, Result<(), LoadFault>); 7] = [
     (None, Err(NoScript)),
     (Some(0), Ok(())),
     (Some(127), Err(ScriptLength)),
@@ -24,30 +24,25 @@ const LENGTHS: [(Option<u32>, Result<(), LoadFault>); 7] = [
 
 #[test]
 fn lengths(rt: HostRuntime) -> Result<(), Fail> {
-    for (length, answer) in LENGTHS {
-        answers(&rt, rt.alloc(), length, answer)?;
+    for (length, answer) in &LENGTHS {
+        is_answered(&rt, rt.alloc(), *length, *answer)?;
     }
     Ok(())
 }
 
-fn answers(
+fn is_answered(
     rt: &impl Abort,
     alloc: Global,
     length: Option<u32>,
     answer: Result<(), LoadFault>,
 ) -> Result<(), Fail> {
     let items = items_of_length(alloc, length)?;
-    let mut shelf = ShelfAlloc::new();
-    begin_zones(alloc, &mut shelf)?;
-    let mut world = World::idle();
-    begin(alloc, &mut world, items)?;
     let case = Case {
         script: &[],
         answer,
         left: &[],
     };
-    ends_as(rt, &mut world, &mut shelf, &case);
-    Ok(())
+    loads(rt, alloc, items, &mut ShelfAlloc::new(), &case)
 }
 
 // A device with a script of so many zeros, or with none.

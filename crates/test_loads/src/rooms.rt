@@ -1,7 +1,9 @@
 //! Files that have no place, and an allocator that refuses some.
 
+ghost use Rattle.std.specs.Prelude.{IsSome};
+
 use crate::cases::{
-    Case, FILL, Held, LOADER, all_end, begin, begin_zones, count_others, ends_as, items_of,
+    Case, FILL, Held, LOADER, all_end, answer_in, are_bytes, count_others, is, items_of, loads,
 };
 use crate::done::SMALL;
 use crate::files::{File, items_with};
@@ -17,7 +19,7 @@ use std::test::Fail;
 use vt_outside::{Bytes, List, OutOfMemory};
 use zone_alloc::{FailingAlloc, ShelfAlloc};
 
-const NO_ROOM: [Case<'static>; 3] = [
+static NO_ROOM: [Case<'static>; 3] = [
     // No multiple of 2^31 is in high memory, and none of 0x20000 in the F segment.
     Case {
         script: &[Allocate("etc/target", 0x8000_0000, HIGH)],
@@ -48,7 +50,7 @@ fn no_multiple_of_the_align(rt: HostRuntime) -> Result<(), Fail> {
 }
 
 // The requests that are refused, and a load.
-const FAILING: [(&[u32], Case<'static>); 4] = [
+static FAILING: [(&[u32], Case<'static>); 4] = [
     (
         &[1],
         Case {
@@ -95,13 +97,18 @@ fn refused_requests(rt: HostRuntime) -> Result<(), Fail> {
 }
 
 fn ends(rt: &impl Abort, alloc: Global, fails: &[u32], case: &Case<'_>) -> Result<(), Fail> {
-    let items = items_of(alloc, case.script)?;
     let mut failing = FailingAlloc::new(listed(alloc, fails)?);
-    begin_zones(alloc, &mut failing)?;
-    let mut world = World::idle();
-    begin(alloc, &mut world, items)?;
-    ends_as(rt, &mut world, &mut failing, case);
-    Ok(())
+    ends_with(rt, alloc, &mut failing, case)
+}
+
+fn ends_with(
+    rt: &impl Abort,
+    alloc: Global,
+    failing: &mut FailingAlloc,
+    case: &Case<'_>,
+) -> Result<(), Fail> {
+    let items = items_of(alloc, case.script)?;
+    loads(rt, alloc, items, failing, case)
 }
 
 fn listed(alloc: Global, numbers: &[u32]) -> Result<List<u32>, OutOfMemory> {
@@ -111,44 +118,54 @@ fn listed(alloc: Global, numbers: &[u32]) -> Result<List<u32>, OutOfMemory> {
 }
 
 // Bytes of a file past 16 MiB, how its load ends, and how many bytes of RAM are changed.
-const LARGE: [(u8, Result<(), LoadFault>, u64); 2] = [
+type Large = (u8, Result<(), LoadFault>, u64);
+
+static LARGE: [Large; 2] = [
     (0, Ok(()), 16_777_216),
     (1, Err(LoadFault::NoRoom { index: 0 }), 0),
 ];
 
 #[test]
 fn files_as_large_as_a_zone(rt: HostRuntime) -> Result<(), Fail> {
-    for (more, answer, count) in LARGE {
-        changes(&rt, rt.alloc(), more, answer, count)?;
+    for row in &LARGE {
+        changes(&rt, rt.alloc(), row)?;
     }
     Ok(())
 }
 
-fn changes(
-    rt: &impl Abort,
-    alloc: Global,
-    more: u8,
-    answer: Result<(), LoadFault>,
-    count: u64,
-) -> Result<(), Fail> {
-    let items = large_items(alloc, more)?;
-    let mut shelf = ShelfAlloc::new();
-    begin_zones(alloc, &mut shelf)?;
+fn changes(rt: &impl Abort, alloc: Global, row: &Large) -> Result<(), Fail> {
     let mut world = World::idle();
-    begin(alloc, &mut world, items)?;
-    let given = world.load(&mut shelf);
-    assert_eq!(rt; given, answer, "{more} more");
-    are_changed(rt, world.memory(), count);
+    changes_in(rt, alloc, &mut world, row)
+}
+
+// Apart from the function that owns the world, since each step that may fail costs more to prove beside it.
+fn changes_in(rt: &impl Abort, alloc: Global, world: &mut World, row: &Large) -> Result<(), Fail> {
+    let items = large_items(alloc, row.0)?;
+    let answer = answer_in(alloc, world, items, &mut ShelfAlloc::new())?;
+    is_large(rt, world, answer, row);
     Ok(())
+}
+
+fn is_large(rt: &impl Abort, world: &World, given: Result<(), LoadFault>, row: &Large)
+    requires { IsSome world.now }
+{
+    let (_, answer, count) = row;
+    is(rt, &given, answer);
+    are_changed(rt, world.memory(), *count);
 }
 
 // So many bytes are changed, and all are in high memory or none is.
 fn are_changed(rt: &impl Abort, memory: &GuestMemory, count: u64) {
-    assert_eq!(rt; count_others(memory), count);
+    is(rt, &count_others(memory), &count);
     let byte = if count == 0 { FILL } else { BYTE };
-    assert!(rt; memory.is_ram(0x300_0000) && memory.is_ram(0x3FF_FFF0));
-    assert_eq!(rt; memory.window(0x300_0000, 16), [byte; 16].as_slice());
-    assert_eq!(rt; memory.window(0x3FF_FFF0, 16), [byte; 16].as_slice());
+    is_filled_at(rt, memory, 0x300_0000, byte);
+    is_filled_at(rt, memory, 0x3FF_FFF0, byte);
+}
+
+// Sixteen bytes of one frame are all `byte`.
+fn is_filled_at(rt: &impl Abort, memory: &GuestMemory, address: u64, byte: u8) {
+    assert!(rt; memory.is_ram(address) && address % 4096 <= 4080);
+    are_bytes(rt, memory.window(address, 16), &[byte; 16], address);
 }
 
 // What the large file holds.
@@ -157,28 +174,34 @@ const BYTE: u8 = 0x5C;
 // A device with a file of 16 MiB and some bytes more, and a script that places it.
 fn large_items(alloc: Global, more: u8) -> Result<Items, Fail> {
     let large = large_bytes(alloc, more)?;
+    items_with_large(alloc, large.as_slice())
+}
+
+fn items_with_large(alloc: Global, large: &[u8]) -> Result<Items, Fail> {
     let script = script_of(alloc, &[Allocate("etc/large", 1, HIGH)])?;
-    let (loader, file) = (script.as_slice(), large.as_slice());
-    let files = [
-        File {
-            name: LOADER,
-            bytes: loader,
-        },
-        File {
-            name: "etc/large",
-            bytes: file,
-        },
-    ];
-    items_with(alloc, &files)
+    let loader = File {
+        name: LOADER,
+        bytes: script.as_slice(),
+    };
+    let file = File {
+        name: "etc/large",
+        bytes: large,
+    };
+    items_with(alloc, &[loader, file])
 }
 
 fn large_bytes(alloc: Global, more: u8) -> Result<Bytes, OutOfMemory> {
     let mut bytes = Bytes::new(alloc);
+    put_large(&mut bytes, more)?;
+    Ok(bytes)
+}
+
+fn put_large(bytes: &mut Bytes, more: u8) -> Result<(), OutOfMemory> {
     for _ in 0..256 {
         bytes.extend(&[BYTE; 65_536])?;
     }
     for _ in 0..more {
         bytes.push(BYTE)?;
     }
-    Ok(bytes)
+    Ok(())
 }

@@ -1,11 +1,12 @@
 //! Scripts as tables of lines.
 
+ghost use Rattle.std.specs.Prelude.{IfOk};
 ghost use Rattle.loader_script.specs.Spelling.{CanBeWritten};
 
 use loader_script::{Entry, encode_script};
 use std::alloc::Global;
 use std::test::Fail;
-use vt_outside::{Bytes, Name, OutOfMemory};
+use vt_outside::{Bytes, Name, NameFault};
 
 /// The zone of high memory, and the F segment.
 pub(crate) const HIGH: u8 = 1;
@@ -13,7 +14,7 @@ pub(crate) const HIGH: u8 = 1;
 pub(crate) const FSEG: u8 = 2;
 
 /// A command of a script, with its files as text.
-#[derive(Clone, Copy, Debug)]
+#[derive(Clone, Copy)]
 pub(crate) enum Line {
     /// A file, its align and its zone.
     Allocate(&'static str, u32, u8),
@@ -38,65 +39,67 @@ pub(crate) fn script_of(alloc: Global, lines: &[Line]) -> Result<Bytes, Fail> {
 
 fn put_line(alloc: Global, script: &mut Bytes, line: &Line) -> Result<(), Fail> {
     match line {
-        Line::Number(number) => put_number(script, *number)?,
-        Line::Padding(count) => put_padding(script, *count)?,
+        Line::Number(number) => put_number(script, *number),
+        Line::Padding(count) => put_padding(script, *count),
         Line::Allocate(file, align, zone) => {
-            let file = Name::of(file)?;
-            put_entry(alloc, script, &allocate(file, *align, *zone))?;
+            put_entry(alloc, script, allocate(file, *align, *zone))
         }
         Line::AddPointer(dest, src, offset, size) => {
-            let (dest, src) = (Name::of(dest)?, Name::of(src)?);
-            put_entry(alloc, script, &add_pointer(dest, src, *offset, *size))?;
+            put_entry(alloc, script, add_pointer(dest, src, *offset, *size))
         }
         Line::AddChecksum(file, offset, start, length) => {
-            let file = Name::of(file)?;
-            put_entry(alloc, script, &add_checksum(file, *offset, *start, *length))?;
+            put_entry(alloc, script, add_checksum(file, *offset, *start, *length))
         }
     }
-    Ok(())
 }
 
-fn allocate(file: Name, align: u32, zone: u8) -> Entry
-    ensures { CanBeWritten result }
+fn allocate(file: &str, align: u32, zone: u8) -> Result<Entry, NameFault>
+    ensures { IfOk result CanBeWritten }
 {
-    Entry::Allocate { file, align, zone }
+    let file = Name::of(file)?;
+    Ok(Entry::Allocate { file, align, zone })
 }
 
-fn add_pointer(dest: Name, src: Name, offset: u32, size: u8) -> Entry
-    ensures { CanBeWritten result }
+fn add_pointer(dest: &str, src: &str, offset: u32, size: u8) -> Result<Entry, NameFault>
+    ensures { IfOk result CanBeWritten }
 {
-    Entry::AddPointer {
+    let dest = Name::of(dest)?;
+    let src = Name::of(src)?;
+    Ok(Entry::AddPointer {
         dest,
         src,
         offset,
         size,
-    }
+    })
 }
 
-fn add_checksum(file: Name, offset: u32, start: u32, length: u32) -> Entry
-    ensures { CanBeWritten result }
+fn add_checksum(file: &str, offset: u32, start: u32, length: u32) -> Result<Entry, NameFault>
+    ensures { IfOk result CanBeWritten }
 {
-    Entry::AddChecksum {
+    let file = Name::of(file)?;
+    Ok(Entry::AddChecksum {
         file,
         offset,
         start,
         length,
-    }
+    })
 }
 
-fn put_entry(alloc: Global, script: &mut Bytes, entry: &Entry) -> Result<(), OutOfMemory>
-    requires { CanBeWritten entry.now }
+fn put_entry(alloc: Global, script: &mut Bytes, entry: Result<Entry, NameFault>) -> Result<(), Fail>
+    requires { IfOk entry CanBeWritten }
 {
-    let bytes = encode_script(alloc, &[*entry])?;
-    script.extend(bytes.as_slice())
+    let bytes = encode_script(alloc, &[entry?])?;
+    script.extend(bytes.as_slice())?;
+    Ok(())
 }
 
-fn put_number(script: &mut Bytes, number: u32) -> Result<(), OutOfMemory> {
+fn put_number(script: &mut Bytes, number: u32) -> Result<(), Fail> {
     script.extend(&number.to_le_bytes())?;
-    script.extend(&[0; 124])
+    script.extend(&[0; 124])?;
+    Ok(())
 }
 
-fn put_padding(script: &mut Bytes, count: u16) -> Result<(), OutOfMemory> {
+fn put_padding(script: &mut Bytes, count: u16) -> Result<(), Fail> {
     for _ in 0..count {
         script.extend(&[0; 128])?;
     }

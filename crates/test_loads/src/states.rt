@@ -1,8 +1,10 @@
 //! States of a world from one load to the next, and memories below other tops.
 
-ghost use Rattle.std.specs.Prelude.{IsSome};
+ghost use Rattle.std.specs.Prelude.{◌≡◌, IfSome, IsSome, IsSomeAnd};
+ghost use Rattle.vt_bytes.specs.Memory.{IsTop};
+ghost use Rattle.script_load.specs.declared.state.State.TheVariants.{Running};
 
-use crate::cases::{Case, FILL, Held, TOP, begin, begin_zones, ends_as, is_in, is_left, items_of};
+use crate::cases::{Case, FILL, Held, TOP, begin, begin_zones, ends_as, is, is_left, items_of};
 use crate::done::SMALL;
 use crate::scripts::HIGH;
 use crate::scripts::Line::Allocate;
@@ -15,7 +17,7 @@ use std::test::Fail;
 use zone_alloc::{Policy, ShelfAlloc, ZoneAlloc, zones_of};
 
 // Loads in one world, one after the other.
-const LOADS: [Case<'static>; 4] = [
+static LOADS: [Case<'static>; 4] = [
     SMALL,
     SMALL,
     Case {
@@ -35,10 +37,14 @@ const LOADS: [Case<'static>; 4] = [
 #[test]
 fn loads_in_one_world(rt: HostRuntime) -> Result<(), Fail> {
     let mut world = World::idle();
-    is_in(&rt, &world, State::Idle);
+    is(&rt, &world.state(), &State::Idle);
+    are_loaded(&rt, rt.alloc(), &mut world)
+}
+
+fn are_loaded(rt: &impl Abort, alloc: Global, world: &mut World) -> Result<(), Fail> {
     let mut shelf = ShelfAlloc::new();
     for case in &LOADS {
-        is_loaded(&rt, rt.alloc(), &mut world, &mut shelf, case)?;
+        is_loaded(rt, alloc, world, &mut shelf, case)?;
     }
     Ok(())
 }
@@ -51,8 +57,8 @@ fn is_loaded(
     shelf: &mut ShelfAlloc,
     case: &Case<'_>,
 ) -> Result<(), Fail> {
-    let items = items_of(alloc, case.script)?;
     begin_zones(alloc, shelf)?;
+    let items = items_of(alloc, case.script)?;
     begin(alloc, world, items)?;
     is_begun(rt, world);
     ends_as(rt, world, shelf, case);
@@ -62,18 +68,18 @@ fn is_loaded(
 fn is_begun(rt: &impl Abort, world: &World)
     requires { IsSome world.now }
 {
-    is_in(rt, world, State::Running);
+    is(rt, &world.state(), &State::Running);
     is_filled(rt, world.memory(), TOP, FILL);
 }
 
 fn is_filled(rt: &impl Abort, memory: &GuestMemory, top: u32, fill: u8) {
-    assert_eq!(rt; memory.top(), top);
-    assert_eq!(rt; memory.fill(), fill);
+    is(rt, &memory.top(), &top);
+    is(rt, &memory.fill(), &fill);
     is_left(rt, memory, &[]);
 }
 
 // A top, an align, and the place of a file. The second align has a multiple in high memory only below the third top.
-const TOPS: [(u32, u32, u64); 3] = [
+static TOPS: [(u32, u32, u64); 3] = [
     (0x400_0000, 1, 0x300_0000),
     (0xC000_0000, 1, 0xBF00_0000),
     (0x8010_0000, 0x8000_0000, 0x8000_0000),
@@ -81,25 +87,49 @@ const TOPS: [(u32, u32, u64); 3] = [
 
 #[test]
 fn other_tops(rt: HostRuntime) -> Result<(), Fail> {
-    for (top, align, place) in TOPS {
-        is_placed(&rt, rt.alloc(), top, align, place)?;
+    for (top, align, place) in &TOPS {
+        is_placed(&rt, rt.alloc(), *top, *align, *place)?;
     }
     Ok(())
 }
 
 fn is_placed(rt: &impl Abort, alloc: Global, top: u32, align: u32, place: u64) -> Result<(), Fail> {
     let script = [Allocate("etc/target", align, HIGH)];
-    let items = items_of(alloc, &script)?;
-    let mut shelf = ShelfAlloc::new();
-    let mut world = World::idle();
-    assert!(rt; (0x400_0000..=0xC000_0000).contains(&top) && top % 0x10_0000 == 0);
-    shelf.begin(alloc, zones_of(top), Policy::Low)?;
-    world.begin(alloc, items, top, 0)?;
     let case = Case {
         script: &script,
         answer: Ok(()),
         left: &[Held(place, b"\xa1\xa2\xa3")],
     };
-    ends_as(rt, &mut world, &mut shelf, &case);
+    loads_below(rt, alloc, top, &mut World::idle(), &case)
+}
+
+// Apart from the function that owns the world, since each step that may fail costs more to prove beside it.
+fn loads_below(
+    rt: &impl Abort,
+    alloc: Global,
+    top: u32,
+    world: &mut World,
+    case: &Case<'_>,
+) -> Result<(), Fail> {
+    assert!(rt; top >= 0x400_0000 && top <= 0xC000_0000 && top % 0x10_0000 == 0);
+    let items = items_of(alloc, case.script)?;
+    world.begin(alloc, items, top, 0)?;
+    loads_begun(rt, alloc, top, world, case)
+}
+
+fn loads_begun(
+    rt: &impl Abort,
+    alloc: Global,
+    top: u32,
+    world: &mut World,
+    case: &Case<'_>,
+) -> Result<(), Fail>
+    requires lawful { IsTop top }
+    requires running { IsSomeAnd world.old (λ w. w.state ≡ Running) }
+    requires top { IfSome world.old (λ w. w.memory.top ≡ top) }
+{
+    let mut shelf = ShelfAlloc::new();
+    shelf.begin(alloc, zones_of(top), Policy::Low)?;
+    ends_as(rt, world, &mut shelf, case);
     Ok(())
 }

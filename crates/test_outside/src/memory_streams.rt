@@ -1,54 +1,65 @@
 //! Sources and sinks in memory.
 
-use crate::asserts::{flushes, reads, writes};
+use crate::asserts::{Call, Reading, answers_all, are_bytes, reads_all};
 use std::alloc::Global;
 use std::test::Fail;
 use vt_outside::{Bytes, Failed, List, ListSink, ListSource, OutOfMemory, SureSink, SureSource};
 
+static SIX: [Reading; 3] = [(Ok(4), b"abcd"), (Ok(2), b"efcd"), (Ok(0), b"efcd")];
+
 #[test]
 fn sources_in_memory(rt: HostRuntime) -> Result<(), Fail> {
     let mut source = SureSource::new(six_bytes(rt.alloc())?);
-    let mut into = [0; 4];
-    reads(&rt, &mut source, &mut into, Ok(4), b"abcd");
-    reads(&rt, &mut source, &mut into, Ok(2), b"efcd");
-    reads(&rt, &mut source, &mut into, Ok(0), b"efcd");
+    reads_all(&rt, &mut source, &[0; 4], &SIX);
     Ok(())
 }
+
+static THREES: [Reading; 4] = [
+    (Ok(3), b"abc\0"),
+    (Err(Failed), b"abc\0"),
+    (Ok(3), b"def\0"),
+    (Ok(0), b"def\0"),
+];
 
 #[test]
 fn sources_that_fail(rt: HostRuntime) -> Result<(), Fail> {
     let mut source = failing_source(rt.alloc())?;
-    let mut into = [0; 4];
-    reads(&rt, &mut source, &mut into, Ok(3), b"abc\0");
-    reads(&rt, &mut source, &mut into, Err(Failed), b"abc\0");
-    reads(&rt, &mut source, &mut into, Ok(3), b"def\0");
-    reads(&rt, &mut source, &mut into, Ok(0), b"def\0");
+    reads_all(&rt, &mut source, &[0; 4], &THREES);
     Ok(())
 }
+
+static FIVE: [Call; 5] = [
+    Call::Write(b"abc", Ok(3)),
+    Call::Write(b"def", Err(Failed)),
+    Call::Write(b"def", Ok(2)),
+    Call::Write(b"g", Err(Failed)),
+    Call::Flush(Ok(())),
+];
 
 #[test]
 fn sinks_in_memory(rt: HostRuntime) -> Result<(), Fail> {
-    let mut sink = ListSink::new(rt.alloc(), 5, second_call(rt.alloc())?)?;
-    writes(&rt, &mut sink, b"abc", Ok(3));
-    writes(&rt, &mut sink, b"def", Err(Failed));
-    writes(&rt, &mut sink, b"def", Ok(2));
-    writes(&rt, &mut sink, b"g", Err(Failed));
-    flushes(&rt, &mut sink, Ok(()));
-    assert_eq!(rt; sink.taken(), b"abcde".as_slice());
+    let mut sink = failing_sink(rt.alloc())?;
+    answers_all(&rt, &mut sink, &FIVE);
+    are_bytes(&rt, sink.taken(), b"abcde");
     Ok(())
 }
 
+static SURE: [Call; 2] = [Call::Write(b"abc", Ok(3)), Call::Flush(Ok(()))];
+
 #[test]
 fn a_sink_that_never_fails(rt: HostRuntime) {
-    let mut sink = SureSink::new();
-    writes(&rt, &mut sink, b"abc", Ok(3));
-    flushes(&rt, &mut sink, Ok(()));
+    answers_all(&rt, &mut SureSink::new(), &SURE);
+}
+
+// A sink with room for five bytes, whose second call fails.
+fn failing_sink(alloc: Global) -> Result<ListSink, OutOfMemory> {
+    ListSink::new(alloc, 5, second_call(alloc)?)
 }
 
 // A source of six bytes that gives at most three a call, and whose second call fails.
 fn failing_source(alloc: Global) -> Result<ListSource, OutOfMemory> {
-    let bytes = six_bytes(alloc)?;
-    Ok(ListSource::new(bytes, 3, second_call(alloc)?))
+    let fails = second_call(alloc)?;
+    Ok(ListSource::new(six_bytes(alloc)?, 3, fails))
 }
 
 fn six_bytes(alloc: Global) -> Result<Bytes, OutOfMemory> {

@@ -2,13 +2,13 @@
 
 ghost use Rattle.std.specs.Prelude.{◌≡◌, ◌<◌, length, Err, OnErr, OnOk};
 
-use crate::asserts::{flushes, reads, writes};
+use crate::asserts::{Call, Reading, answers_all, reads_all};
 use std::io::{self, ErrorKind, Read, Write};
 use std::process::Abort;
 use vt_outside::{Failed, ReadSource, Sink, Source, WriteSink};
 
 // Each kind of error but Interrupted, which is no fault.
-const KINDS: [ErrorKind; 41] = [
+static KINDS: [ErrorKind; 41] = [
     ErrorKind::NotFound,
     ErrorKind::PermissionDenied,
     ErrorKind::ConnectionRefused,
@@ -101,11 +101,11 @@ fn each_error_of_a_reader(rt: HostRuntime) {
 }
 
 fn read_fails(rt: &impl Abort, kind: ErrorKind) {
-    let mut into = *b"wxyz";
     let mut source = ReadSource::new(failing_with(kind));
-    reads(rt, &mut source, &mut into, Err(Failed), b"wxyz");
-    reads(rt, &mut source, &mut into, Ok(2), b"abyz");
+    reads_all(rt, &mut source, b"wxyz", &READINGS);
 }
+
+static READINGS: [Reading; 2] = [(Err(Failed), b"wxyz"), (Ok(2), b"abyz")];
 
 #[test]
 fn each_error_of_a_writer(rt: HostRuntime) {
@@ -117,15 +117,17 @@ fn each_error_of_a_writer(rt: HostRuntime) {
 
 fn write_fails(rt: &impl Abort, kind: ErrorKind) {
     let mut sink = WriteSink::new(failing_with(kind));
-    writes(rt, &mut sink, b"abc", Err(Failed));
-    writes(rt, &mut sink, b"abc", Ok(2));
+    answers_all(rt, &mut sink, &WRITES);
 }
+
+static WRITES: [Call; 2] = [Call::Write(b"abc", Err(Failed)), Call::Write(b"abc", Ok(2))];
 
 fn flush_fails(rt: &impl Abort, kind: ErrorKind) {
     let mut sink = WriteSink::new(failing_with(kind));
-    flushes(rt, &mut sink, Err(Failed));
-    flushes(rt, &mut sink, Ok(()));
+    answers_all(rt, &mut sink, &FLUSHES);
 }
+
+static FLUSHES: [Call; 2] = [Call::Flush(Err(Failed)), Call::Flush(Ok(()))];
 
 // The first read of a source counts one fault where it fails, and else none: what `new` and `read` say together.
 fn first_read<R: Read>(reader: R, into: &mut [u8]) -> (ReadSource<R>, Result<usize, Failed>)
@@ -151,13 +153,21 @@ fn first_write<W: Write>(writer: W, piece: &[u8]) -> (WriteSink<W>, Result<usize
 
 #[test]
 fn counts_begin_at_none(rt: HostRuntime) {
+    first_read_fails(&rt);
+    first_write_fails(&rt);
+}
+
+fn first_read_fails(rt: &impl Abort) {
     let mut into = [0; 4];
-    assert_eq!(rt;
-        first_read(failing_with(ErrorKind::Other), &mut into).1,
-        Err(Failed)
-    );
-    assert_eq!(rt;
-        first_write(failing_with(ErrorKind::Other), b"ab").1,
-        Err(Failed)
-    );
+    let (_, answer) = first_read(failing_with(ErrorKind::Other), &mut into);
+    is_failed(rt, answer);
+}
+
+fn first_write_fails(rt: &impl Abort) {
+    let (_, answer) = first_write(failing_with(ErrorKind::Other), b"ab");
+    is_failed(rt, answer);
+}
+
+fn is_failed(rt: &impl Abort, answer: Result<usize, Failed>) {
+    assert_eq!(rt; answer, Err(Failed));
 }

@@ -1,8 +1,8 @@
 //! A reader and a writer of std as a source and a sink.
 
-use crate::asserts::{flushes, reads, writes};
+use crate::asserts::{Call, Reading, answers_all, are_bytes, reads_all};
 use std::io::{self, ErrorKind, Read, Write};
-use std::test::Fail;
+use std::process::Abort;
 use vt_outside::{Failed, ReadSource, WriteSink};
 
 // A reader whose first call is interrupted, and whose third fails.
@@ -72,36 +72,47 @@ impl Write for ShortWriter {
     }
 }
 
+static SIX: [Reading; 3] = [(Ok(4), b"abcd"), (Ok(2), b"efcd"), (Ok(0), b"efcd")];
+
 #[test]
 fn readers_of_std(rt: HostRuntime) {
-    let mut into = [0; 4];
     let mut source = ReadSource::new(b"abcdef".as_slice());
-    reads(&rt, &mut source, &mut into, Ok(4), b"abcd");
-    reads(&rt, &mut source, &mut into, Ok(2), b"efcd");
-    reads(&rt, &mut source, &mut into, Ok(0), b"efcd");
+    reads_all(&rt, &mut source, &[0; 4], &SIX);
 }
+
+static SHAKY: [Reading; 3] = [(Ok(4), b"abcd"), (Err(Failed), b"abcd"), (Ok(2), b"efcd")];
 
 #[test]
 fn readers_of_std_that_fail(rt: HostRuntime) {
-    let mut into = [0; 4];
     let mut source = ReadSource::new(ShakyReader {
         calls: 0,
         text: b"abcdef",
     });
-    reads(&rt, &mut source, &mut into, Ok(4), b"abcd");
-    reads(&rt, &mut source, &mut into, Err(Failed), b"abcd");
-    reads(&rt, &mut source, &mut into, Ok(2), b"efcd");
+    reads_all(&rt, &mut source, &[0; 4], &SHAKY);
 }
 
+static ONCE: [Call; 2] = [Call::Write(b"abc", Ok(3)), Call::Flush(Ok(()))];
+
 #[test]
-fn writers_of_std(rt: HostRuntime) -> Result<(), Fail> {
+fn writers_of_std(rt: HostRuntime) {
     let mut taken = Vec::new(rt.alloc());
-    let mut sink = WriteSink::new(&mut taken);
-    writes(&rt, &mut sink, b"abc", Ok(3));
-    flushes(&rt, &mut sink, Ok(()));
-    assert_eq!(rt; taken.as_slice(), b"abc".as_slice());
-    Ok(())
+    takes(&rt, &mut taken, &ONCE);
+    are_bytes(&rt, taken.as_slice(), b"abc");
 }
+
+// A writer as a sink answers each call as the call says.
+fn takes(rt: &impl Abort, writer: &mut impl Write, calls: &[Call]) {
+    answers_all(rt, &mut WriteSink::new(writer), calls);
+}
+
+static FAILING: [Call; 6] = [
+    Call::Write(b"ab", Ok(2)),
+    Call::Write(b"cd", Err(Failed)),
+    Call::Write(b"ef", Ok(2)),
+    Call::Write(b"gh", Err(Failed)),
+    Call::Flush(Ok(())),
+    Call::Flush(Err(Failed)),
+];
 
 #[test]
 fn writers_of_std_that_fail(rt: HostRuntime) {
@@ -109,24 +120,21 @@ fn writers_of_std_that_fail(rt: HostRuntime) {
         calls: 0,
         taken: Vec::new(rt.alloc()),
     };
-    let mut sink = WriteSink::new(&mut writer);
-    writes(&rt, &mut sink, b"ab", Ok(2));
-    writes(&rt, &mut sink, b"cd", Err(Failed));
-    writes(&rt, &mut sink, b"ef", Ok(2));
-    writes(&rt, &mut sink, b"gh", Err(Failed));
-    flushes(&rt, &mut sink, Ok(()));
-    flushes(&rt, &mut sink, Err(Failed));
-    assert_eq!(rt; writer.taken.as_slice(), b"abef".as_slice());
+    takes(&rt, &mut writer, &FAILING);
+    are_bytes(&rt, writer.taken.as_slice(), b"abef");
 }
+
+static BY_TWO: [Call; 3] = [
+    Call::Write(b"abcde", Ok(2)),
+    Call::Write(b"cde", Ok(2)),
+    Call::Write(b"e", Ok(1)),
+];
 
 #[test]
 fn writers_of_std_that_take_two_bytes(rt: HostRuntime) {
     let mut writer = ShortWriter {
         taken: Vec::new(rt.alloc()),
     };
-    let mut sink = WriteSink::new(&mut writer);
-    writes(&rt, &mut sink, b"abcde", Ok(2));
-    writes(&rt, &mut sink, b"cde", Ok(2));
-    writes(&rt, &mut sink, b"e", Ok(1));
-    assert_eq!(rt; writer.taken.as_slice(), b"abcde".as_slice());
+    takes(&rt, &mut writer, &BY_TWO);
+    are_bytes(&rt, writer.taken.as_slice(), b"abcde");
 }

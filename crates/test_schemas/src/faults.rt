@@ -1,8 +1,8 @@
-use crate::told::told;
+use crate::told::are_told;
 use std::test::Fail;
 
 // Faults at the root, of each kind of value.
-const AT_THE_ROOT: [(&str, &str); 23] = [
+static AT_THE_ROOT: [(&str, &str); 23] = [
     ("", "missing 0 0 0"),
     ("zz = 1\nversio = 2\nabc = 3", "unknown 0 0 abc"),
     ("b = 1\nB = 2\n\"\" = 3\nversion = 1", "unknown 0 0 "),
@@ -29,7 +29,7 @@ const AT_THE_ROOT: [(&str, &str); 23] = [
 ];
 
 // Faults in a table, in an element of an array, and in an array inside one, whose positions count through all of them.
-const INSIDE: [(&str, &str); 16] = [
+static INSIDE: [(&str, &str); 16] = [
     ("version = 1\n[system]", "missing 1 0 1"),
     ("version = 1\n[system]\nz = 1\nd = 1", "unknown 1 0 d"),
     ("version = 1\n[system]\nserial = 1", "wrong kind 1 0 0"),
@@ -86,18 +86,10 @@ const INSIDE: [(&str, &str); 16] = [
 
 #[test]
 fn faults_at_the_root(rt: HostRuntime) -> Result<(), Fail> {
-    for (text, fault) in AT_THE_ROOT {
-        let told = told(rt.alloc(), text)?;
-        assert_eq!(rt; told.as_str(), fault, "of {text}");
-    }
-    Ok(())
+    are_told(&rt, rt.alloc(), &AT_THE_ROOT)
 }
 
 #[test]
 fn faults_inside(rt: HostRuntime) -> Result<(), Fail> {
-    for (text, fault) in INSIDE {
-        let told = told(rt.alloc(), text)?;
-        assert_eq!(rt; told.as_str(), fault, "of {text}");
-    }
-    Ok(())
+    are_told(&rt, rt.alloc(), &INSIDE)
 }

@@ -1,7 +1,7 @@
 use desc_schema::{Key, Kind, Otherwise, Scalar, TableSchema};
 
 // A schema with each kind of value at the root, a table, an array of tables, and arrays of tables inside one another.
-pub(crate) const SCHEMA: [TableSchema; 4] = [
+pub(crate) static SCHEMA: [TableSchema; 4] = [
     TableSchema { keys: &ROOT },
     TableSchema { keys: &SYSTEM },
     TableSchema { keys: &BRIDGE },

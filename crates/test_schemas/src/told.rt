@@ -1,42 +1,92 @@
 use crate::schema::SCHEMA;
 use desc_schema::{Item, Items, KeyPlace, Place, WalkError, WalkFault, walk_document};
 use std::alloc::Global;
+use std::process::Abort;
 use std::test::Fail;
 use toml::table_from_str;
 
+// A walk of each text gives what stands beside it.
+pub(crate) fn are_told(rt: &impl Abort, alloc: Global, rows: &[(&str, &str)]) -> Result<(), Fail> {
+    for (text, wanted) in rows {
+        is_told(rt, alloc, text, wanted)?;
+    }
+    Ok(())
+}
+
+fn is_told(rt: &impl Abort, alloc: Global, text: &str, wanted: &str) -> Result<(), Fail> {
+    let told = told(alloc, text)?;
+    are_words(rt, told.as_str(), wanted, text);
+    Ok(())
+}
+
+fn are_words(rt: &impl Abort, told: &str, wanted: &str, text: &str) {
+    assert_eq!(rt; told, wanted, "of {text}");
+}
+
 // What a walk gives of a text, in words: its values, or its fault.
-pub(crate) fn told(alloc: Global, text: &str) -> Result<String, Fail> {
-    let root = table_from_str(alloc, text)?;
-    match walk_document(alloc, &SCHEMA, &root) {
+fn told(alloc: Global, text: &str) -> Result<String, Fail> {
+    match walked(alloc, text)? {
         Ok(mut items) => told_items(alloc, &mut items),
         Err(WalkError::Fault(fault)) => told_fault(alloc, &fault),
-        Err(WalkError::OutOfMemory) => Ok(format!(in alloc; "no memory")?),
+        Err(WalkError::OutOfMemory) => told_words(alloc, "no memory"),
     }
+}
+
+fn told_words(alloc: Global, words: &str) -> Result<String, Fail> {
+    Ok(format!(in alloc; "{words}")?)
+}
+
+/// What a walk gives of a text.
+pub(crate) fn walked(alloc: Global, text: &str) -> Result<Result<Items, WalkError>, Fail> {
+    let root = table_from_str(alloc, text)?;
+    Ok(walk_document(alloc, &SCHEMA, &root))
 }
 
 fn told_items(alloc: Global, items: &mut Items) -> Result<String, Fail> {
     let mut told = String::new(alloc);
-    for _ in 0..items.len() {
-        let item = told_item(alloc, &items.take_first())?;
-        told.push_str(item.as_str())?;
-        told.push_str(";")?;
-    }
+    push_items(alloc, &mut told, items)?;
     Ok(told)
 }
 
+fn push_items(alloc: Global, told: &mut String, items: &mut Items) -> Result<(), Fail> {
+    for _ in 0..items.len() {
+        push_item(alloc, told, &items.take_first())?;
+    }
+    Ok(())
+}
+
+fn push_item(alloc: Global, told: &mut String, item: &Item) -> Result<(), Fail> {
+    let item = told_item(alloc, item)?;
+    told.push_str(item.as_str())?;
+    told.push_str(";")?;
+    Ok(())
+}
+
 fn told_item(alloc: Global, item: &Item) -> Result<String, Fail> {
-    Ok(match item {
-        Item::Text(text) => match str::from_utf8(text.as_slice()) {
-            Ok(text) => format!(in alloc; "{text:?}")?,
-            Err(_) => format!(in alloc; "not UTF-8")?,
-        },
-        Item::Number(number) => format!(in alloc; "{number}")?,
-        Item::Flag(flag) => format!(in alloc; "{flag}")?,
-        Item::Uuid(uuid) => format!(in alloc; "uuid {uuid:x}")?,
-        Item::Word(place) => format!(in alloc; "word {place}")?,
-        Item::Nothing => format!(in alloc; "nothing")?,
-        Item::Count(count) => format!(in alloc; "count {count}")?,
-    })
+    match item {
+        Item::Text(text) => told_text(alloc, text.as_slice()),
+        Item::Number(number) => Ok(format!(in alloc; "{number}")?),
+        Item::Flag(flag) => told_words(alloc, if *flag { "true" } else { "false" }),
+        Item::Uuid(uuid) => told_uuid(alloc, *uuid),
+        Item::Word(place) => told_count(alloc, "word", *place),
+        Item::Nothing => told_words(alloc, "nothing"),
+        Item::Count(count) => told_count(alloc, "count", *count),
+    }
+}
+
+fn told_text(alloc: Global, text: &[u8]) -> Result<String, Fail> {
+    match str::from_utf8(text) {
+        Ok(text) => Ok(format!(in alloc; "{text:?}")?),
+        Err(_) => told_words(alloc, "not UTF-8"),
+    }
+}
+
+fn told_uuid(alloc: Global, uuid: u128) -> Result<String, Fail> {
+    Ok(format!(in alloc; "uuid {uuid:x}")?)
+}
+
+fn told_count(alloc: Global, name: &str, count: usize) -> Result<String, Fail> {
+    Ok(format!(in alloc; "{name} {count}")?)
 }
 
 fn told_fault(alloc: Global, fault: &WalkFault) -> Result<String, Fail> {

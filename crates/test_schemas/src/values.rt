@@ -1,8 +1,8 @@
-use crate::told::told;
+use crate::told::are_told;
 use std::test::Fail;
 
 // Documents, and their values in the schema's order.
-const VALUES: [(&str, &str); 9] = [
+static VALUES: [(&str, &str); 9] = [
     (
         "version = 1",
         "1;\"vm\";nothing;true;word 1;nothing;count 0;count 0;count 0;count 0;",
@@ -43,9 +43,5 @@ const VALUES: [(&str, &str); 9] = [
 
 #[test]
 fn values_come_in_the_schemas_order(rt: HostRuntime) -> Result<(), Fail> {
-    for (text, values) in VALUES {
-        let told = told(rt.alloc(), text)?;
-        assert_eq!(rt; told.as_str(), values);
-    }
-    Ok(())
+    are_told(&rt, rt.alloc(), &VALUES)
 }

@@ -107,18 +107,26 @@ static DESCRIPTIONS: [&str; 3] = [LEAST, SYSTEM, PARTS];
 #[test]
 fn structures_are_read_again(rt: HostRuntime) -> Result<(), Fail> {
     for description in &DESCRIPTIONS {
-        let structures = structures(rt.alloc(), description)?;
-        are_read_again(&rt, rt.alloc(), structures.as_slice())?;
+        is_read_again(&rt, rt.alloc(), description)?;
     }
     Ok(())
+}
+
+fn is_read_again(rt: &impl Abort, alloc: Global, description: &str) -> Result<(), Fail> {
+    let structures = structures(alloc, description)?;
+    are_read_again(rt, alloc, structures.as_slice())
 }
 
 // The structures of the machine that a text describes.
 fn structures(alloc: Global, description: &str) -> Result<List<Structure>, Fail>
     ensures { IfOk result (λ structures. AreBuildable structures) }
 {
-    let machine = read_machine(alloc, description.as_bytes())?;
+    let machine = machine(alloc, description)?;
     accepted_structures(alloc, &machine)
+}
+
+fn machine(alloc: Global, description: &str) -> Result<Machine, Fail> {
+    Ok(read_machine(alloc, description.as_bytes())?)
 }
 
 fn accepted_structures(alloc: Global, machine: &Machine) -> Result<List<Structure>, Fail>
@@ -153,11 +161,29 @@ fn is_read_as(
     bytes: &[u8],
     structures: &[Structure],
 ) -> Result<(), Fail> {
-    let again = read(alloc, bytes)?;
-    let printed = printed(alloc, again.as_slice())?;
-    let wanted = self::printed(alloc, structures)?;
-    assert_eq!(rt; printed.as_str(), wanted.as_str());
+    let again = printed_again(alloc, bytes)?;
+    is_printed(rt, alloc, again.as_str(), structures)
+}
+
+// What the bytes are read as, printed.
+fn printed_again(alloc: Global, bytes: &[u8]) -> Result<String, Fail> {
+    let structures = read(alloc, bytes)?;
+    printed(alloc, structures.as_slice())
+}
+
+fn is_printed(
+    rt: &impl Abort,
+    alloc: Global,
+    again: &str,
+    structures: &[Structure],
+) -> Result<(), Fail> {
+    let wanted = printed(alloc, structures)?;
+    are_equal(rt, again, wanted.as_str());
     Ok(())
+}
+
+fn are_equal(rt: &impl Abort, again: &str, wanted: &str) {
+    assert_eq!(rt; again, wanted);
 }
 
 fn printed(alloc: Global, structures: &[Structure]) -> Result<String, Fail> {

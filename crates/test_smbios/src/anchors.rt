@@ -2,6 +2,9 @@
 
 use crate::memories::{Put, clear_all, memory, put_all};
 use anchor_scan::find_smbios;
+use guest_memory::GuestMemory;
+use std::alloc::Global;
+use std::process::Abort;
 use std::test::Fail;
 
 // Version 3.0.0, at most 0x40 bytes at 0x03000000.
@@ -28,7 +31,10 @@ const ONE_TOO_LONG: &[u8] =
 // What fits in the last sixteen bytes of the first MiB.
 const FRONT: &[u8] = b"_SM3_\x10\x18\x03\x00\x00\x01\x00\x40\0\0\0";
 
-static MEMORIES: [(&str, &[Put], Option<u64>); 18] = [
+// What is put into a memory, and the place of the anchor that is found there.
+type Row<'a> = (&'a str, &'a [Put<'a>], Option<u64>);
+
+static MEMORIES: [Row; 18] = [
     ("none", &[], None),
     ("at the first place", &[(0xF_0000, ANCHOR)], Some(0xF_0000)),
     ("at the last place", &[(0xF_FFE0, ANCHOR)], Some(0xF_FFE0)),
@@ -60,10 +66,21 @@ static MEMORIES: [(&str, &[Put], Option<u64>); 18] = [
 #[test]
 fn anchors_in_memory(rt: HostRuntime) -> Result<(), Fail> {
     let mut memory = memory(rt.alloc())?;
-    for (case, puts, wanted) in &MEMORIES {
-        put_all(&mut memory, puts)?;
-        assert_eq!(rt; find_smbios(&memory), *wanted, "{case}");
-        clear_all(rt.alloc(), &mut memory, puts)?;
+    for row in &MEMORIES {
+        is_found(&rt, rt.alloc(), &mut memory, row)?;
     }
     Ok(())
+}
+
+// What is found in a memory once something is put there, which is then cleared.
+fn is_found(
+    rt: &impl Abort,
+    alloc: Global,
+    memory: &mut GuestMemory,
+    row: &Row,
+) -> Result<(), Fail> {
+    let (case, puts, wanted) = row;
+    put_all(memory, puts)?;
+    assert_eq!(rt; find_smbios(memory), *wanted, "{case}");
+    clear_all(alloc, memory, puts)
 }

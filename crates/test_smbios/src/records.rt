@@ -3,6 +3,7 @@
 
 use crate::every::every_structure;
 use crate::told::read;
+use std::alloc::Global;
 use std::process::Abort;
 use std::test::Fail;
 use table_model::{
@@ -11,7 +12,7 @@ use table_model::{
 };
 use vt_outside::Text;
 
-const ARRAY: ArrayInfo = ArrayInfo {
+static ARRAY: ArrayInfo = ArrayInfo {
     location: 3,
     purpose: 4,
     correction: 5,
@@ -21,7 +22,7 @@ const ARRAY: ArrayInfo = ArrayInfo {
     extended: 0x100F_0E0D_0C0B_0A09,
 };
 
-const MAPPED: MappedInfo = MappedInfo {
+static MAPPED: MappedInfo = MappedInfo {
     start: 0x0403_0201,
     end: 0x0807_0605,
     array: 7,
@@ -30,14 +31,75 @@ const MAPPED: MappedInfo = MappedInfo {
     ext_end: 0x2827_2625_2423_2221,
 };
 
-const BOOT: BootInfo = BootInfo { status: 0x85 };
+static BOOT: BootInfo = BootInfo { status: 0x85 };
+
+// A record's name, its texts in the order of its fields, and what its bytes and its numbers of two bytes are.
+struct Record {
+    name: &'static str,
+    texts: &'static [&'static [u8]],
+    bytes: &'static [u8],
+    words: &'static [u16],
+}
+
+static BIOS: Record = Record {
+    name: "BIOS",
+    texts: &[b"FW", b"1.2", b"01/02/2024"],
+    bytes: &[5, 0x0A, 0x0B, 0x0C, 0x0D, 0x0E, 0x0F],
+    words: &[0x1234],
+};
+
+static SYSTEM: Record = Record {
+    name: "system",
+    texts: &[b"ACME", b"VM", b"", b"SN 7", b"K", b"VM"],
+    bytes: &[
+        0x33, 0x22, 0x11, 0x00, 0x55, 0x44, 0x77, 0x66, 0x88, 0x99, 0xAA, 0xBB, 0xCC, 0xDD, 0xEE,
+        0xFF,
+    ],
+    words: &[],
+};
+
+static CHASSIS: Record = Record {
+    name: "chassis",
+    texts: &[b"ACME", b"", b"C1", b"A7", b"K"],
+    bytes: &[0x17, 3, 4, 5, 6, 7, 8, 0, 9],
+    words: &[],
+};
+
+static PROCESSOR: Record = Record {
+    name: "processor",
+    texts: &[b"CPU 0", b"ACME", b"V", b"S1", b"A1", b"P1"],
+    bytes: &[3, 0xB3, 0x8D, 0x41, 6, 0x10, 0x11, 0x12],
+    words: &[
+        100, 4000, 3000, 0x0701, 0x0702, 0x0703, 0xFC, 0xB4, 0x0109, 0x010A, 0x010B,
+    ],
+};
+
+static SLOT: Record = Record {
+    name: "slot",
+    texts: &[b"PCI 1"],
+    bytes: &[0xA5, 0x0D, 4, 3, 0x0C, 5, 8, 0x25],
+    words: &[0x0102, 0x0706],
+};
+
+static DEVICE: Record = Record {
+    name: "memory device",
+    texts: &[b"A1", b"B", b"M", b"", b"B", b"P"],
+    bytes: &[9, 0x0B, 0x1A, 0x0D],
+    words: &[
+        7, 0xFFFE, 72, 64, 0x7FFF, 0x2080, 3200, 400, 1200, 1300, 1400,
+    ],
+};
 
 #[test]
 fn fields_of_records(rt: HostRuntime) -> Result<(), Fail> {
     let bytes = every_structure(rt.alloc())?;
-    let structures = read(rt.alloc(), bytes.as_slice())?;
+    are_read_as_made(&rt, rt.alloc(), bytes.as_slice())
+}
+
+fn are_read_as_made(rt: &impl Abort, alloc: Global, bytes: &[u8]) -> Result<(), Fail> {
+    let structures = read(alloc, bytes)?;
     for structure in structures.as_slice() {
-        is_as_made(&rt, structure);
+        is_as_made(rt, structure);
     }
     Ok(())
 }
@@ -49,60 +111,71 @@ fn is_as_made(rt: &impl Abort, structure: &Structure) {
         Body::Chassis(info) => is_chassis(rt, info),
         Body::Processor(info) => is_processor(rt, info),
         Body::Slot(info) => is_slot(rt, info),
-        Body::Array(info) => assert_eq!(rt; *info, ARRAY),
+        Body::Array(info) => is_array(rt, info),
         Body::Device(info) => is_device(rt, info),
-        Body::Mapped(info) => assert_eq!(rt; *info, MAPPED),
-        Body::Boot(info) => assert_eq!(rt; *info, BOOT),
+        Body::Mapped(info) => is_mapped(rt, info),
+        Body::Boot(info) => is_boot(rt, info),
         // OEM Strings and raw structures have no numbers but what is told of them in words.
         Body::OemStrings(_) | Body::Raw { .. } | Body::End => {}
     }
 }
 
 fn is_bios(rt: &impl Abort, info: &BiosInfo) {
-    is_text(rt, &info.vendor, b"FW");
-    is_text(rt, &info.version, b"1.2");
-    is_text(rt, &info.date, b"01/02/2024");
-    assert_eq!(rt; (info.segment, info.rom_size), (0x1234, 5));
-    assert_eq!(rt; info.characteristics, 0x8877_6655_4433_2211);
-    assert_eq!(rt;
-        [
+    are_texts(rt, &[&info.vendor, &info.version, &info.date], &BIOS);
+    is_number(rt, info.characteristics, 0x8877_6655_4433_2211, &BIOS);
+    are_words(rt, &[info.segment], &BIOS);
+    are_bytes(
+        rt,
+        &[
+            info.rom_size,
             info.ext1,
             info.ext2,
             info.major,
             info.minor,
             info.ec_major,
-            info.ec_minor
+            info.ec_minor,
         ],
-        [0x0A, 0x0B, 0x0C, 0x0D, 0x0E, 0x0F]
+        &BIOS,
     );
 }
 
 fn is_system(rt: &impl Abort, info: &SystemInfo) {
-    is_text(rt, &info.manufacturer, b"ACME");
-    is_text(rt, &info.product, b"VM");
-    is_text(rt, &info.version, b"");
-    is_text(rt, &info.serial, b"SN 7");
-    is_text(rt, &info.sku, b"K");
-    is_text(rt, &info.family, b"VM");
-    assert_eq!(rt; info.wake_up, 6);
-    assert_eq!(rt;
-        info.uuid,
-        [
-            0x33, 0x22, 0x11, 0x00, 0x55, 0x44, 0x77, 0x66, 0x88, 0x99, 0xAA, 0xBB, 0xCC, 0xDD,
-            0xEE, 0xFF
-        ]
+    are_texts(
+        rt,
+        &[
+            &info.manufacturer,
+            &info.product,
+            &info.version,
+            &info.serial,
+            &info.sku,
+            &info.family,
+        ],
+        &SYSTEM,
     );
+    is_number(rt, u64::from(info.wake_up), 6, &SYSTEM);
+    are_bytes(rt, &info.uuid, &SYSTEM);
 }
 
 fn is_chassis(rt: &impl Abort, info: &ChassisInfo) {
-    is_text(rt, &info.manufacturer, b"ACME");
-    is_text(rt, &info.version, b"");
-    is_text(rt, &info.serial, b"C1");
-    is_text(rt, &info.asset, b"A7");
-    is_text(rt, &info.sku, b"K");
-    assert_eq!(rt; info.oem, 0x1234_5678);
-    assert_eq!(rt;
-        [
+    are_texts(
+        rt,
+        &[
+            &info.manufacturer,
+            &info.version,
+            &info.serial,
+            &info.asset,
+            &info.sku,
+        ],
+        &CHASSIS,
+    );
+    is_number(rt, u64::from(info.oem), 0x1234_5678, &CHASSIS);
+    are_chassis_bytes(rt, info);
+}
+
+fn are_chassis_bytes(rt: &impl Abort, info: &ChassisInfo) {
+    are_bytes(
+        rt,
+        &[
             info.kind,
             info.boot,
             info.supply,
@@ -111,22 +184,34 @@ fn is_chassis(rt: &impl Abort, info: &ChassisInfo) {
             info.height,
             info.cords,
             info.elements,
-            info.element_length
+            info.element_length,
         ],
-        [0x17, 3, 4, 5, 6, 7, 8, 0, 9]
+        &CHASSIS,
     );
 }
 
 fn is_processor(rt: &impl Abort, info: &ProcessorInfo) {
-    is_text(rt, &info.designation, b"CPU 0");
-    is_text(rt, &info.manufacturer, b"ACME");
-    is_text(rt, &info.version, b"V");
-    is_text(rt, &info.serial, b"S1");
-    is_text(rt, &info.asset, b"A1");
-    is_text(rt, &info.part, b"P1");
-    assert_eq!(rt; info.id, 0x0807_0605_0403_0201);
-    assert_eq!(rt;
-        [
+    are_texts(
+        rt,
+        &[
+            &info.designation,
+            &info.manufacturer,
+            &info.version,
+            &info.serial,
+            &info.asset,
+            &info.part,
+        ],
+        &PROCESSOR,
+    );
+    is_number(rt, info.id, 0x0807_0605_0403_0201, &PROCESSOR);
+    are_processor_bytes(rt, info);
+    are_processor_words(rt, info);
+}
+
+fn are_processor_bytes(rt: &impl Abort, info: &ProcessorInfo) {
+    are_bytes(
+        rt,
+        &[
             info.kind,
             info.family,
             info.voltage,
@@ -134,12 +219,16 @@ fn is_processor(rt: &impl Abort, info: &ProcessorInfo) {
             info.upgrade,
             info.cores,
             info.enabled,
-            info.threads
+            info.threads,
         ],
-        [3, 0xB3, 0x8D, 0x41, 6, 0x10, 0x11, 0x12]
+        &PROCESSOR,
     );
-    assert_eq!(rt;
-        [
+}
+
+fn are_processor_words(rt: &impl Abort, info: &ProcessorInfo) {
+    are_words(
+        rt,
+        &[
             info.clock,
             info.max_speed,
             info.speed,
@@ -150,19 +239,18 @@ fn is_processor(rt: &impl Abort, info: &ProcessorInfo) {
             info.family2,
             info.cores2,
             info.enabled2,
-            info.threads2
+            info.threads2,
         ],
-        [
-            100, 4000, 3000, 0x0701, 0x0702, 0x0703, 0xFC, 0xB4, 0x0109, 0x010A, 0x010B
-        ]
+        &PROCESSOR,
     );
 }
 
 fn is_slot(rt: &impl Abort, info: &SlotInfo) {
-    is_text(rt, &info.designation, b"PCI 1");
-    assert_eq!(rt; (info.id, info.segment), (0x0102, 0x0706));
-    assert_eq!(rt;
-        [
+    are_texts(rt, &[&info.designation], &SLOT);
+    are_words(rt, &[info.id, info.segment], &SLOT);
+    are_bytes(
+        rt,
+        &[
             info.kind,
             info.width,
             info.usage,
@@ -170,26 +258,38 @@ fn is_slot(rt: &impl Abort, info: &SlotInfo) {
             info.char1,
             info.char2,
             info.bus,
-            info.device_function
+            info.device_function,
         ],
-        [0xA5, 0x0D, 4, 3, 0x0C, 5, 8, 0x25]
+        &SLOT,
     );
 }
 
 fn is_device(rt: &impl Abort, info: &DeviceInfo) {
-    is_text(rt, &info.locator, b"A1");
-    is_text(rt, &info.bank, b"B");
-    is_text(rt, &info.manufacturer, b"M");
-    is_text(rt, &info.serial, b"");
-    is_text(rt, &info.asset, b"B");
-    is_text(rt, &info.part, b"P");
-    assert_eq!(rt;
-        [info.form, info.set, info.kind, info.attributes],
-        [9, 0x0B, 0x1A, 0x0D]
+    are_texts(
+        rt,
+        &[
+            &info.locator,
+            &info.bank,
+            &info.manufacturer,
+            &info.serial,
+            &info.asset,
+            &info.part,
+        ],
+        &DEVICE,
     );
-    assert_eq!(rt; info.extended, 0x0403_0201);
-    assert_eq!(rt;
-        [
+    are_bytes(
+        rt,
+        &[info.form, info.set, info.kind, info.attributes],
+        &DEVICE,
+    );
+    is_number(rt, u64::from(info.extended), 0x0403_0201, &DEVICE);
+    are_device_words(rt, info);
+}
+
+fn are_device_words(rt: &impl Abort, info: &DeviceInfo) {
+    are_words(
+        rt,
+        &[
             info.array,
             info.error,
             info.total_width,
@@ -200,14 +300,47 @@ fn is_device(rt: &impl Abort, info: &DeviceInfo) {
             info.configured,
             info.min_voltage,
             info.max_voltage,
-            info.voltage
+            info.voltage,
         ],
-        [
-            7, 0xFFFE, 72, 64, 0x7FFF, 0x2080, 3200, 400, 1200, 1300, 1400
-        ]
+        &DEVICE,
     );
 }
 
-fn is_text(rt: &impl Abort, text: &Text, wanted: &[u8]) {
-    assert_eq!(rt; text.as_slice(), wanted);
+fn is_array(rt: &impl Abort, info: &ArrayInfo) {
+    assert_eq!(rt; *info, ARRAY);
+}
+
+fn is_mapped(rt: &impl Abort, info: &MappedInfo) {
+    assert_eq!(rt; *info, MAPPED);
+}
+
+fn is_boot(rt: &impl Abort, info: &BootInfo) {
+    assert_eq!(rt; *info, BOOT);
+}
+
+fn are_texts(rt: &impl Abort, texts: &[&Text], record: &Record) {
+    are_as_many(rt, texts.len(), record);
+    for (text, wanted) in texts.iter().zip(record.texts) {
+        is_text(rt, text, wanted, record);
+    }
+}
+
+fn are_as_many(rt: &impl Abort, texts: usize, record: &Record) {
+    assert_eq!(rt; texts, record.texts.len(), "{}", record.name);
+}
+
+fn is_text(rt: &impl Abort, text: &Text, wanted: &[u8], record: &Record) {
+    assert_eq!(rt; text.as_slice(), wanted, "{}", record.name);
+}
+
+fn are_bytes(rt: &impl Abort, bytes: &[u8], record: &Record) {
+    assert_eq!(rt; bytes, record.bytes, "{}", record.name);
+}
+
+fn are_words(rt: &impl Abort, words: &[u16], record: &Record) {
+    assert_eq!(rt; words, record.words, "{}", record.name);
+}
+
+fn is_number(rt: &impl Abort, number: u64, wanted: u64, record: &Record) {
+    assert_eq!(rt; number, wanted, "{}", record.name);
 }

@@ -10,7 +10,7 @@ use std::alloc::Global;
 use std::process::Abort;
 use std::test::Fail;
 use table_model::SmbiosTable;
-use vt_outside::Bytes;
+use vt_outside::{Bytes, OutOfMemory};
 
 const TOLD: &str = "030000
 record 01 0100 17|ACME|VM||||
@@ -19,7 +19,9 @@ record 7f 7f00 00";
 const ADDRESS: u64 = 0x300_0000;
 
 // Anchors by their maximum size and the address that they tell, where the table stands if it stands there, and what is told.
-static SCANS: [(u32, u64, &[Put], &str); 17] = [
+type Scan<'a> = (u32, u64, &'a [Put<'a>], &'a str);
+
+static SCANS: [Scan; 17] = [
     (42, ADDRESS, &[(ADDRESS, SMALL)], TOLD),
     (0x40, ADDRESS, &[(ADDRESS, SMALL)], TOLD),
     // cut in the end of the end, before the end, in the first structure, and before it
@@ -56,11 +58,22 @@ static SCANS: [(u32, u64, &[Put], &str); 17] = [
 #[test]
 fn tables_in_memory(rt: HostRuntime) -> Result<(), Fail> {
     let mut memory = memory(rt.alloc())?;
-    for (maximum, address, puts, wanted) in &SCANS {
-        put(&mut memory, 0xF_0000, &anchor_of(*maximum, *address))?;
-        is_scanned(&rt, rt.alloc(), &mut memory, puts, wanted)?;
+    for scan in &SCANS {
+        is_scanned_behind(&rt, rt.alloc(), &mut memory, scan)?;
     }
     Ok(())
+}
+
+// What is told of the memory with the anchor of a scan.
+fn is_scanned_behind(
+    rt: &impl Abort,
+    alloc: Global,
+    memory: &mut GuestMemory,
+    scan: &Scan,
+) -> Result<(), Fail> {
+    let (maximum, address, puts, wanted) = scan;
+    put(memory, 0xF_0000, &anchor_of(*maximum, *address))?;
+    is_scanned(rt, alloc, memory, puts, wanted)
 }
 
 // What is told of the memory once something is put there, which is then cleared.
@@ -72,9 +85,19 @@ fn is_scanned(
     wanted: &str,
 ) -> Result<(), Fail> {
     put_all(memory, puts)?;
+    memory_is_told(rt, alloc, memory, wanted)?;
+    clear_all(alloc, memory, puts)
+}
+
+fn memory_is_told(
+    rt: &impl Abort,
+    alloc: Global,
+    memory: &GuestMemory,
+    wanted: &str,
+) -> Result<(), Fail> {
     let told = told_memory(alloc, memory)?;
     are_words(rt, told.as_slice(), wanted.as_bytes(), &[]);
-    clear_all(alloc, memory, puts)
+    Ok(())
 }
 
 // An anchor of version 3.0.0.
@@ -100,9 +123,13 @@ fn told_memory(alloc: Global, memory: &GuestMemory) -> Result<Bytes, Fail> {
 
 fn told_table(alloc: Global, table: &SmbiosTable) -> Result<Bytes, Fail> {
     let mut told = Bytes::new(alloc);
-    push_digits(&mut told, &[table.major, table.minor, table.docrev])?;
-    push_structures(&mut told, table.structures.as_slice())?;
+    push_table(&mut told, table)?;
     Ok(told)
+}
+
+fn push_table(told: &mut Bytes, table: &SmbiosTable) -> Result<(), OutOfMemory> {
+    push_digits(told, &[table.major, table.minor, table.docrev])?;
+    push_structures(told, table.structures.as_slice())
 }
 
 // Version 3.5.7, at most 42 bytes at the address of the table.

@@ -50,18 +50,24 @@ pub fn push_text(told: &mut Bytes, text: &[u8]) -> Result<(), OutOfMemory> {
 /// Tells a fault, with its place and its number.
 pub fn told_fault(alloc: Global, fault: SmbiosFault) -> Result<Bytes, Fail> {
     let mut told = Bytes::new(alloc);
-    match fault {
-        SmbiosFault::Truncated(place) => push_place(&mut told, b"truncated ", place)?,
-        SmbiosFault::ShortStructure(place) => push_place(&mut told, b"short ", place)?,
-        SmbiosFault::NoEnd => told.extend(b"no end")?,
-        SmbiosFault::NoSuchString { place, number } => {
-            push_place(&mut told, b"no string ", place)?;
-            told.push(b' ')?;
-            push_digits(&mut told, &[number])?;
-        }
-        SmbiosFault::OutOfMemory => return Err(Fail::from("out of memory")),
-    }
+    push_fault(&mut told, fault)?;
     Ok(told)
+}
+
+fn push_fault(told: &mut Bytes, fault: SmbiosFault) -> Result<(), OutOfMemory> {
+    match fault {
+        SmbiosFault::Truncated(place) => push_place(told, b"truncated ", place),
+        SmbiosFault::ShortStructure(place) => push_place(told, b"short ", place),
+        SmbiosFault::NoEnd => told.extend(b"no end"),
+        SmbiosFault::NoSuchString { place, number } => push_no_string(told, place, number),
+        SmbiosFault::OutOfMemory => Err(OutOfMemory),
+    }
+}
+
+fn push_no_string(told: &mut Bytes, place: u32, number: u8) -> Result<(), OutOfMemory> {
+    push_place(told, b"no string ", place)?;
+    told.push(b' ')?;
+    push_digits(told, &[number])
 }
 
 fn push_place(told: &mut Bytes, fault: &[u8], place: u32) -> Result<(), OutOfMemory> {

@@ -3,6 +3,7 @@
 
 use machine_desc::{Dimm, MemRange};
 use std::alloc::Global;
+use std::process::Abort;
 use std::test::Fail;
 use table_model::{ArrayInfo, MappedInfo, array_of, device_of, mapped_of};
 use vt_outside::{OutOfMemory, Text};
@@ -25,11 +26,18 @@ const TWO_TIB: ArrayInfo = ArrayInfo {
     ..BELOW_TWO_TIB
 };
 
+// How many MiB one module has, and the array of it.
+static ARRAYS: [(u32, ArrayInfo); 2] = [(2_097_151, BELOW_TWO_TIB), (2_097_152, TWO_TIB)];
+
 #[test]
-fn arrays_around_2_tib(rt: HostRuntime) -> Result<(), Fail> {
-    assert_eq!(rt; array(rt.alloc(), 2_097_151), BELOW_TWO_TIB);
-    assert_eq!(rt; array(rt.alloc(), 2_097_152), TWO_TIB);
-    Ok(())
+fn arrays_around_2_tib(rt: HostRuntime) {
+    for (size_mib, wanted) in &ARRAYS {
+        is_array(&rt, &array(rt.alloc(), *size_mib), wanted);
+    }
+}
+
+fn is_array(rt: &impl Abort, array: &ArrayInfo, wanted: &ArrayInfo) {
+    assert_eq!(rt; array, wanted);
 }
 
 fn array(alloc: Global, size_mib: u32) -> ArrayInfo {
@@ -49,18 +57,38 @@ fn dimm(alloc: Global, size_mib: u32) -> Dimm {
     }
 }
 
+// How many MiB a module has, and the two fields of its size.
+static SIZES: [(u32, (u16, u32)); 4] = [
+    (1, (1, 0)),
+    (32_766, (0x7FFE, 0)),
+    (32_767, (0x7FFF, 32_767)),
+    (16_777_216, (0x7FFF, 16_777_216)),
+];
+
 #[test]
 fn devices_around_32767_mib(rt: HostRuntime) -> Result<(), Fail> {
-    assert_eq!(rt; size_fields(rt.alloc(), 1)?, (1, 0));
-    assert_eq!(rt; size_fields(rt.alloc(), 32_766)?, (0x7FFE, 0));
-    assert_eq!(rt; size_fields(rt.alloc(), 32_767)?, (0x7FFF, 32_767));
-    assert_eq!(rt; size_fields(rt.alloc(), 16_777_216)?, (0x7FFF, 16_777_216));
+    for (size_mib, wanted) in &SIZES {
+        are_size_fields(&rt, size_fields(rt.alloc(), *size_mib)?, *wanted);
+    }
     Ok(())
 }
 
+fn are_size_fields(rt: &impl Abort, fields: (u16, u32), wanted: (u16, u32)) {
+    assert_eq!(rt; fields, wanted);
+}
+
 fn size_fields(alloc: Global, size_mib: u32) -> Result<(u16, u32), OutOfMemory> {
-    let device = device_of(&dimm(alloc, size_mib))?;
-    Ok((device.size, device.extended))
+    let dimm = dimm(alloc, size_mib);
+    let fields = size_fields_of(&dimm);
+    drop(dimm);
+    fields
+}
+
+fn size_fields_of(dimm: &Dimm) -> Result<(u16, u32), OutOfMemory> {
+    let device = device_of(dimm)?;
+    let fields = (device.size, device.extended);
+    drop(device);
+    Ok(fields)
 }
 
 // From 4 GiB to 4 TiB less 1 MiB.
@@ -83,10 +111,18 @@ const TO_FOUR_TIB: MappedInfo = MappedInfo {
     ext_end: 0x3FF_FFFF_FFFF,
 };
 
+// How many MiB a range has, and what is told of it.
+static RANGES: [(u32, MappedInfo); 2] = [(4_190_207, BELOW_FOUR_TIB), (4_190_208, TO_FOUR_TIB)];
+
 #[test]
 fn ranges_around_4_tib(rt: HostRuntime) {
-    assert_eq!(rt; mapped(4_190_207), BELOW_FOUR_TIB);
-    assert_eq!(rt; mapped(4_190_208), TO_FOUR_TIB);
+    for (size_mib, wanted) in &RANGES {
+        is_mapped(&rt, &mapped(*size_mib), wanted);
+    }
+}
+
+fn is_mapped(rt: &impl Abort, mapped: &MappedInfo, wanted: &MappedInfo) {
+    assert_eq!(rt; mapped, wanted);
 }
 
 // A range of so many MiB from 4 GiB on.

@@ -24,10 +24,10 @@ const FILE: &[u8] = b"\x07\x07\x07\x07\x07\0\0\0\0\0\0\0\0\0\0\0\
     \x50\0\0\0\0\0\0\0\0\0\0\0";
 
 // Where the two entries of the XSDT stand, and the RSDP's address of the XSDT.
-const POINTERS: [u32; 3] = [116, 124, 168];
+static POINTERS: [u32; 3] = [116, 124, 168];
 
 // The checksums of the HPET table, the XSDT and the RSDP, and the RSDP's extended one.
-const SUMS: [SumHole; 4] = [
+static SUMS: [SumHole; 4] = [
     SumHole {
         at: 25,
         start: 16,
@@ -52,20 +52,55 @@ const SUMS: [SumHole; 4] = [
 
 #[test]
 fn acpi_tables(rt: HostRuntime) -> Result<(), Fail> {
-    let parts = file(rt.alloc())?;
-    assert_eq!(rt; parts.bytes.as_slice(), FILE);
-    are_pointers_to_tables(&rt, parts.pointers.as_slice(), Name::of("etc/acpi/tables")?);
-    assert_eq!(rt; parts.sums.as_slice(), SUMS.as_slice());
     assert_eq!(rt; TABLES_FILE, "etc/acpi/tables");
+    let tables = Name::of("etc/acpi/tables")?;
+    let parts = file(rt.alloc())?;
+    are_parts(&rt, &parts, &tables);
+    drop(parts);
     Ok(())
+}
+
+fn are_parts(rt: &impl Abort, parts: &Parts, tables: &Name) {
+    is_file(rt, parts.bytes.as_slice());
+    are_pointers_to(rt, parts.pointers.as_slice(), tables);
+    are_sums(rt, parts.sums.as_slice());
+}
+
+fn is_file(rt: &impl Abort, bytes: &[u8]) {
+    assert_eq!(rt; bytes, FILE);
+}
+
+fn are_pointers_to(rt: &impl Abort, pointers: &[PointerHole], tables: &Name) {
+    assert_eq!(rt; pointers.len(), POINTERS.len());
+    for (pointer, place) in pointers.iter().zip(&POINTERS) {
+        is_pointer_to(rt, pointer, *place, tables);
+    }
+}
+
+fn is_pointer_to(rt: &impl Abort, pointer: &PointerHole, place: u32, tables: &Name) {
+    assert_eq!(rt; (pointer.at, pointer.size), (place, 8));
+    assert!(rt; pointer.target == *tables);
+}
+
+fn are_sums(rt: &impl Abort, sums: &[SumHole]) {
+    assert_eq!(rt; sums, SUMS.as_slice());
 }
 
 // A file that begins with five bytes, and has an HPET table, an XSDT with another entry, and an RSDP.
 fn file(alloc: Global) -> Result<Parts, Fail> {
-    let machine = full_machine(alloc)?;
     let mut blob = five_bytes(alloc)?;
-    append_tables(&mut blob, &machine)?;
+    append_tables_of_full(alloc, &mut blob)?;
     Ok(blob.finish())
+}
+
+// Whoever has the blob doesn't own the machine.
+fn append_tables_of_full(alloc: Global, blob: &mut Blob) -> Result<(), Fail>
+    requires { length blob.old.bytes ≡ 5 }
+{
+    let machine = full_machine(alloc)?;
+    let appended = append_tables(blob, &machine);
+    drop(machine);
+    appended
 }
 
 fn append_tables(blob: &mut Blob, machine: &Machine) -> Result<(), Fail>
@@ -80,14 +115,6 @@ fn append_tables(blob: &mut Blob, machine: &Machine) -> Result<(), Fail>
     let xsdt = append_xsdt(blob, machine, &[hpet, 0x0102_0340])?;
     append_rsdp(blob, machine, xsdt)?;
     Ok(())
-}
-
-fn are_pointers_to_tables(rt: &impl Abort, pointers: &[PointerHole], tables: Name) {
-    assert_eq!(rt; pointers.len(), POINTERS.len());
-    for (pointer, place) in pointers.iter().zip(POINTERS) {
-        assert_eq!(rt; (pointer.at, pointer.size), (place, 8));
-        assert!(rt; pointer.target == tables);
-    }
 }
 
 // A file of five bytes.

@@ -3,19 +3,17 @@
 
 ghost use Rattle.std.specs.Prelude.{◌<◌, ◌≤◌, ◌+◌, length, IfOk, OnOk};
 ghost use Rattle.table_model.specs.Strings.{HasNoNul};
-ghost use Rattle.smbios_build.specs.Buildable.{AreBuildable};
 
-use crate::built::{accepted_structures, are_built};
-use fixtures::{Sketch, SystemTexts, machine_of};
-use machine_desc::Machine;
+use crate::built::{are_built, inventory_of_sketch, structures_of_sketch};
+use fixtures::{Sketch, SystemTexts};
 use smbios_build::StringSet;
 use std::alloc::Global;
 use std::process::Abort;
 use std::test::Fail;
-use table_model::{Body, Inventory, Structure, SystemInfo, inventory_of};
-use vt_outside::{Bytes, List, OutOfMemory, Text};
+use table_model::{Body, Inventory, Structure, SystemInfo};
+use vt_outside::{Bytes, OutOfMemory, Text};
 
-const LONGEST: Sketch = Sketch {
+static LONGEST: Sketch = Sketch {
     top_mib: 64,
     texts: SystemTexts {
         manufacturer: "AAAAAAAAAAAAAAAAAAAAAAAAAAAAAAAAAAAAAAAAAAAAAAAAAAAAAAAAAAAAAAAA",
@@ -39,24 +37,17 @@ const END: &[u8] = b"\0\x7f\x04\x00\x7f\0\0";
 
 #[test]
 fn the_inventory_of_the_longest_texts(rt: HostRuntime) -> Result<(), Fail> {
-    let inventory = inventory(rt.alloc())?;
-    match &inventory.smbios {
-        Some(smbios) => are_first(&rt, smbios.structures.as_slice()),
-        None => panic!(rt; "no SMBIOS table"),
-    }
+    let inventory = inventory_of_sketch(rt.alloc(), &LONGEST)?;
+    has_the_texts(&rt, &inventory);
+    drop(inventory);
     Ok(())
 }
 
-fn inventory(alloc: Global) -> Result<Inventory, Fail> {
-    let machine = machine_of(alloc, &LONGEST)?;
-    inventory_of_lawful(alloc, &machine)
-}
-
-fn inventory_of_lawful(alloc: Global, machine: &Machine) -> Result<Inventory, Fail> {
-    if machine.check().is_err() {
-        return Err(Fail::from("a lawful machine"));
+fn has_the_texts(rt: &impl Abort, inventory: &Inventory) {
+    match &inventory.smbios {
+        Some(smbios) => are_first(rt, smbios.structures.as_slice()),
+        None => panic!(rt; "no SMBIOS table"),
     }
-    Ok(inventory_of(alloc, machine)?)
 }
 
 // The texts are those of the first structure.
@@ -83,16 +74,9 @@ fn is_text(rt: &impl Abort, text: &Text, byte: u8) {
 #[test]
 fn the_structures_of_the_longest_texts(rt: HostRuntime) -> Result<(), Fail> {
     let wanted = wanted(rt.alloc())?;
-    let structures = structures(rt.alloc())?;
+    let structures = structures_of_sketch(rt.alloc(), &LONGEST)?;
     are_built(&rt, rt.alloc(), structures.as_slice(), wanted.as_slice());
     Ok(())
-}
-
-fn structures(alloc: Global) -> Result<List<Structure>, Fail>
-    ensures { IfOk result (λ structures. AreBuildable structures) }
-{
-    let machine = machine_of(alloc, &LONGEST)?;
-    accepted_structures(alloc, &machine)
 }
 
 // The formatted area, each text with its NUL, and the end.

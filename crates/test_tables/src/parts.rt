@@ -11,7 +11,7 @@ use std::test::Fail;
 use table_model::Structure;
 use vt_outside::{List, OutOfMemory, Text};
 
-const SKETCH: Sketch = Sketch {
+static SKETCH: Sketch = Sketch {
     uuid: None,
     ..MINIMAL_MACHINE
 };
@@ -66,7 +66,7 @@ const RANGES: &[u8] =
 const BOOT_AND_END: &[u8] = b"\x20\x0b\x00\x20\0\0\0\0\0\0\x00\0\0\x7f\x04\x00\x7f\0\0";
 
 // All of them, in order.
-const WANTED: [&[u8]; 12] = [
+static WANTED: [&[u8]; 12] = [
     BIOS,
     SYSTEM,
     CHASSIS,
@@ -91,7 +91,7 @@ fn the_structures_of_every_part(rt: HostRuntime) -> Result<(), Fail> {
 
 fn wanted(alloc: Global) -> Result<List<u8>, OutOfMemory> {
     let mut bytes = List::new(alloc);
-    for part in WANTED {
+    for part in &WANTED {
         bytes.extend(part)?;
     }
     Ok(bytes)
@@ -101,14 +101,36 @@ fn structures(alloc: Global) -> Result<List<Structure>, Fail>
     ensures { IfOk result (λ structures. AreBuildable structures) }
 {
     let mut machine = machine_of(alloc, &SKETCH)?;
-    describe(alloc, &mut machine)?;
-    accepted_structures(alloc, &machine)
+    let structures = described_structures(alloc, &mut machine);
+    drop(machine);
+    structures
+}
+
+fn described_structures(alloc: Global, machine: &mut Machine) -> Result<List<Structure>, Fail>
+    ensures { IfOk result (λ structures. AreBuildable structures) }
+{
+    describe(alloc, machine)?;
+    accepted_structures(alloc, machine)
 }
 
 // Adds the parts.
 fn describe(alloc: Global, machine: &mut Machine) -> Result<(), OutOfMemory> {
+    put_firmware(alloc, machine)?;
+    put_chassis(alloc, machine)?;
+    push_parts(alloc, machine)
+}
+
+fn put_firmware(alloc: Global, machine: &mut Machine) -> Result<(), OutOfMemory> {
     machine.firmware = Some(firmware(alloc)?);
+    Ok(())
+}
+
+fn put_chassis(alloc: Global, machine: &mut Machine) -> Result<(), OutOfMemory> {
     machine.chassis = Some(chassis(alloc)?);
+    Ok(())
+}
+
+fn push_parts(alloc: Global, machine: &mut Machine) -> Result<(), OutOfMemory> {
     push_sockets(alloc, &mut machine.sockets)?;
     push_slots(alloc, &mut machine.slots)?;
     push_texts(alloc, &mut machine.oem_strings)?;

@@ -1,19 +1,19 @@
 //! What the tables of a machine say, as records. What is expected was made by hand from DSP0134 7.2, ACPI 6.5 5.2.6 and
 //! IA-PC HPET 1.0a 3.2.4.
 
-use fixtures::{HPET, acpi, full_machine};
-use machine_desc::Machine;
-use std::alloc::Global;
+use crate::built::inventory_of_sketch;
+use fixtures::{FULL_MACHINE, HPET, Sketch, acpi};
+use machine_desc::Acpi;
 use std::process::Abort;
 use std::test::Fail;
 use table_model::{
-    AcpiTables, Body, GenericAddress, Head, HpetTable, Inventory, SmbiosTable, SystemInfo, head_of,
-    hpet_of, inventory_of, uuid_field,
+    AcpiTables, Body, GenericAddress, Head, HpetTable, Inventory, SmbiosTable, Structure,
+    SystemInfo, head_of, hpet_of, uuid_field,
 };
 use vt_outside::Text;
 
-// The header of each table of the machine.
-const HEAD: Head = Head {
+// What the statics below are made of.
+const REVISION_1: Head = Head {
     revision: 1,
     oem_id: *b"ACME  ",
     oem_table_id: *b"VMTABLE ",
@@ -22,8 +22,17 @@ const HEAD: Head = Head {
     creator_revision: 1,
 };
 
-const HPET_TABLE: HpetTable = HpetTable {
-    head: HEAD,
+// The header of each table of the machine.
+static HEAD: Head = REVISION_1;
+
+// The header of a table of another revision.
+static OTHER_HEAD: Head = Head {
+    revision: 3,
+    ..REVISION_1
+};
+
+static HPET_TABLE: HpetTable = HpetTable {
+    head: REVISION_1,
     block_id: 0x0102_0304,
     address: GenericAddress {
         space: 0,
@@ -37,49 +46,59 @@ const HPET_TABLE: HpetTable = HpetTable {
 };
 
 // The machine's UUID, whose first three fields are little-endian.
-const UUID: [u8; 16] = [
+static UUID: [u8; 16] = [
     0x33, 0x22, 0x11, 0x00, 0x55, 0x44, 0x77, 0x66, 0x88, 0x99, 0xAA, 0xBB, 0xCC, 0xDD, 0xEE, 0xFF,
 ];
 
+// A static, since a constant is made anew in the proof of whoever lends it.
+static FULL: Sketch = FULL_MACHINE;
+
 #[test]
 fn the_inventory_of_a_machine(rt: HostRuntime) -> Result<(), Fail> {
-    let inventory = inventory(rt.alloc())?;
-    assert_eq!(rt; inventory.top, 0x400_0000);
-    match &inventory.smbios {
-        Some(smbios) => is_the_smbios_table(&rt, smbios),
-        None => panic!(rt; "no SMBIOS table"),
-    }
-    match &inventory.acpi {
-        Some(acpi) => are_the_acpi_tables(&rt, acpi),
-        None => panic!(rt; "no ACPI tables"),
-    }
+    let inventory = inventory_of_sketch(rt.alloc(), &FULL)?;
+    is_the_inventory(&rt, &inventory);
+    drop(inventory);
     Ok(())
 }
 
-fn inventory(alloc: Global) -> Result<Inventory, Fail> {
-    let machine = full_machine(alloc)?;
-    inventory_of_lawful(alloc, &machine)
+fn is_the_inventory(rt: &impl Abort, inventory: &Inventory) {
+    assert_eq!(rt; inventory.top, 0x400_0000);
+    has_the_smbios_table(rt, inventory);
+    has_the_acpi_tables(rt, inventory);
 }
 
-fn inventory_of_lawful(alloc: Global, machine: &Machine) -> Result<Inventory, Fail> {
-    if machine.check().is_err() {
-        return Err(Fail::from("a lawful machine"));
+fn has_the_smbios_table(rt: &impl Abort, inventory: &Inventory) {
+    match &inventory.smbios {
+        Some(smbios) => is_the_smbios_table(rt, smbios),
+        None => panic!(rt; "no SMBIOS table"),
     }
-    Ok(inventory_of(alloc, machine)?)
+}
+
+fn has_the_acpi_tables(rt: &impl Abort, inventory: &Inventory) {
+    match &inventory.acpi {
+        Some(acpi) => are_the_acpi_tables(rt, acpi),
+        None => panic!(rt; "no ACPI tables"),
+    }
 }
 
 fn is_the_smbios_table(rt: &impl Abort, table: &SmbiosTable) {
     assert_eq!(rt; (table.major, table.minor, table.docrev), (3, 0, 0));
     assert_eq!(rt; table.structures.len(), 2);
-    let system = table.structures.get(0);
-    assert_eq!(rt; system.handle, 0x0100);
-    match &system.body {
+    is_the_first(rt, table.structures.get(0));
+    is_the_end(rt, table.structures.get(1));
+}
+
+fn is_the_first(rt: &impl Abort, structure: &Structure) {
+    assert_eq!(rt; structure.handle, 0x0100);
+    match &structure.body {
         Body::System(info) => is_the_system(rt, info),
         _ => panic!(rt; "another structure before the system"),
     }
-    let end = table.structures.get(1);
-    assert_eq!(rt; end.handle, 0x7F00);
-    assert!(rt; matches!(end.body, Body::End));
+}
+
+fn is_the_end(rt: &impl Abort, structure: &Structure) {
+    assert_eq!(rt; structure.handle, 0x7F00);
+    assert!(rt; matches!(structure.body, Body::End));
 }
 
 fn is_the_system(rt: &impl Abort, info: &SystemInfo) {
@@ -99,26 +118,35 @@ fn is_text(rt: &impl Abort, text: &Text, wanted: &[u8]) {
 
 fn are_the_acpi_tables(rt: &impl Abort, tables: &AcpiTables) {
     assert_eq!(rt; tables.oem_id, *b"ACME  ");
-    assert_eq!(rt; tables.xsdt, HEAD);
-    assert_eq!(rt; tables.hpet, Some(HPET_TABLE));
+    is_head(rt, &tables.xsdt, &HEAD);
+    match &tables.hpet {
+        Some(table) => is_the_hpet_table(rt, table),
+        None => panic!(rt; "no HPET table"),
+    }
     assert_eq!(rt; tables.others.len(), 0);
+}
+
+fn is_head(rt: &impl Abort, head: &Head, wanted: &Head) {
+    assert_eq!(rt; head, wanted);
+}
+
+fn is_the_hpet_table(rt: &impl Abort, table: &HpetTable) {
+    assert_eq!(rt; table, &HPET_TABLE);
 }
 
 #[test]
 fn the_records_of_acpi_tables(rt: HostRuntime) -> Result<(), Fail> {
     let acpi = acpi(rt.alloc(), "ACME", "VMTABLE")?;
+    are_the_records_of(&rt, &acpi)
+}
+
+fn are_the_records_of(rt: &impl Abort, acpi: &Acpi) -> Result<(), Fail> {
     if acpi.oem_id.len() > 6 || acpi.oem_table_id.len() > 8 {
         return Err(Fail::from("identifiers that fit"));
     }
-    assert_eq!(rt; head_of(&acpi, 1), HEAD);
-    assert_eq!(rt;
-        head_of(&acpi, 3),
-        Head {
-            revision: 3,
-            ..HEAD
-        }
-    );
-    assert_eq!(rt; hpet_of(&acpi, HPET), HPET_TABLE);
+    is_head(rt, &head_of(acpi, 1), &HEAD);
+    is_head(rt, &head_of(acpi, 3), &OTHER_HEAD);
+    is_the_hpet_table(rt, &hpet_of(acpi, HPET));
     Ok(())
 }
 

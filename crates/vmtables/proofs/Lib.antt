@@ -1,7 +1,7 @@
 pub mod Taken
 pub mod Rows
+pub mod Frames
 pub mod DumpLines
-pub mod EightBytes
 pub mod Parts
 pub mod Endings
 pub mod Refused

@@ -25,7 +25,7 @@ abbrev pub line_at : Memory → ℕ → ℕ → List ℕ
 line_at m start k = row_line m.fill (start + 16 * k) (bytes_at m (start + 16 * k) 16)
 
 -- the lines of some rows, and then of those after them
-rows_text-split : (m : Memory) (start n d : ℕ) → rows_text m start (n + d) ≡ rows_text m start n ++ flat_map (line_at m start) (range_with_len n d)
+pub rows_text-split : (m : Memory) (start n d : ℕ) → rows_text m start (n + d) ≡ rows_text m start n ++ flat_map (line_at m start) (range_with_len n d)
 unfolding rows_text
 rows_text-split m start n d =
     let next : 0 + n ≡ n = omega arith in

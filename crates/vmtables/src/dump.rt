@@ -1,4 +1,4 @@
-ghost use Rattle.std.specs.Prelude.{◌≡◌, ◌≢◌, ◌+◌, ◌*◌, ◌%◌, ◌==◌, length, MatchBool, OnOk, OnErr};
+ghost use Rattle.std.specs.Prelude.{◌≡◌, ◌*◌, ◌%◌, ◌==◌, length, OnOk, OnErr};
 ghost use Rattle.std.specs.List.{list_all};
 ghost use Rattle.vt_outside.specs.Stream.{Rose};
 ghost use Rattle.vt_bytes.specs.Memory.{IsTop, IsRamRange, ram_ranges};
@@ -7,7 +7,7 @@ ghost use Rattle.hex.specs.Hex.{encode_lower};
 ghost use Rattle.vmtables.specs.Output.{Took, TookFront};
 
 use crate::output::write_all;
-use guest_memory::{GuestMemory, ram_ranges};
+use guest_memory::{FRAME_BYTES, GuestMemory, ram_ranges};
 use vt_outside::{Failed, Sink};
 
 // How many bytes of RAM a line tells.
@@ -39,7 +39,37 @@ fn dump_ranges<K: Sink>(memory: &GuestMemory, out: &mut K) -> Result<(), Failed>
     ensures sound { OnOk result (K.faults out.new ≡ K.faults out.old) }
 {
     for range in ram_ranges(memory.top()) {
-        dump_rows(memory, out, range.start, (range.end - range.start) / ROW)?;
+        let frames = (range.end - range.start) / FRAME_BYTES;
+        dump_frames(memory, out, range.start, frames)?;
+    }
+    Ok(())
+}
+
+// Writes the lines of so many frames from an address on. Most of RAM is as it was at the beginning, so that a frame is first looked
+// at as a whole.
+fn dump_frames<K: Sink>(
+    memory: &GuestMemory,
+    out: &mut K,
+    start: u64,
+    count: u64,
+) -> Result<(), Failed>
+    requires lawful { IsTop memory.now.top }
+    requires ram { IsRamRange memory.now.top start (4096 * count) }
+    requires aligned { start % 4096 ≡ 0 }
+    ensures ok { OnOk result (Took (K.taken out.old) (K.taken out.new) (rows_text memory.now start (256 * count))) }
+    ensures front { OnErr result (TookFront (K.taken out.old) (K.taken out.new) (rows_text memory.now start (256 * count))) }
+    ensures unflushed { K.flushed out.new ≡ K.flushed out.old }
+
+    ensures failed { OnErr result (Rose (K.faults out.old) (K.faults out.new)) }
+    ensures sound { OnOk result (K.faults out.new ≡ K.faults out.old) }
+{
+    let fill = memory.fill();
+    for k in 0..count {
+        let address = start + FRAME_BYTES * k;
+        let frame = memory.window(address, FRAME_BYTES as u32);
+        if !is_filled(frame, fill) {
+            dump_rows(memory, out, address, FRAME_BYTES / ROW)?;
+        }
     }
     Ok(())
 }
@@ -72,21 +102,15 @@ fn dump_rows<K: Sink>(
     Ok(())
 }
 
-// Whether the 16 bytes of a row are all the fill byte.
-fn is_filled(row: &[u8], fill: u8) -> bool
-    requires { length row.now ≡ 16 }
-    ensures { result ≡ list_all (λ byte. byte == fill) row.now }
+// Whether bytes are all the fill byte. It doesn't stop at the first that isn't, so that the compiler compares many at once.
+fn is_filled(bytes: &[u8], fill: u8) -> bool
+    ensures { result ≡ list_all (λ byte. byte == fill) bytes.now }
 {
-    let filled = [fill; 8];
-    are_eight(&row[..8], filled) && are_eight(&row[8..], filled)
-}
-
-// Whether eight bytes are these. They are compared as numbers, all at once, since most of what a dump looks at is the fill byte.
-fn are_eight(bytes: &[u8], others: [u8; 8]) -> bool
-    requires { length bytes.now ≡ 8 }
-    ensures { MatchBool result (bytes.now ≡ others) (bytes.now ≢ others) }
-{
-    u64::from_le_bytes(*bytes.as_array().unwrap()) == u64::from_le_bytes(others)
+    let mut filled = true;
+    for &byte in bytes {
+        filled &= byte == fill;
+    }
+    filled
 }
 
 fn header(top: u32, fill: u8) -> [u8; 21]

@@ -14,18 +14,24 @@ usage: vmtables boot [--fill XX] [--policy P] [--seed N] < DESCRIPTION > DUMP
        vmtables build < DESCRIPTION > CONTAINER
        vmtables load [--fill XX] [--top M] [--policy P] [--seed N] < CONTAINER > DUMP
 
-boot       reads a machine's description (TOML) from standard input, builds its tables and the script that
-           loads them, loads them into a guest's memory, and writes a dump of that memory to standard output;
-           each byte of memory is XX before, two lower-case hexadecimal digits, or zero; P is low, top or
-           scatter, how the files are placed, or low; N is a number below 2^64, the seed of the events that
-           the firmware and the guest's other processors act in, or 0, which has none
-build      reads a machine's description, and writes the files that a firmware loads, in one container
-load       reads a container, loads its files by the script among them into the memory of a guest that has
-           M MiB, from 64 to 3072, or 64, and writes a dump of that memory; the rest is as for boot
---help     prints this text
---version  prints the version
+boot        reads a machine's description (TOML) from standard input, builds its tables and the script that
+            loads them, loads them into a guest's memory, and writes a dump of that memory to standard output
+build       reads a machine's description, and writes the files that a firmware loads, in one container
+load        reads a container, loads its files by the script among them into a guest's memory, and writes a
+            dump of that memory
+--help      prints this text
+--version   prints the version
 
-Options stand behind the command, in any order.
+Options of boot and load:
+
+--fill XX   the byte that all memory holds before the load, two lower-case hexadecimal digits; 00 if left out
+--top M     of load alone: the top of the guest's memory in MiB, from 64 to 3072; 64 if left out
+--policy P  which of the free places of its zone a file gets: low, the lowest address, top, the highest, or
+            scatter, one that the seed draws; low if left out
+--seed N    the seed of the events in which the firmware and the guest's other processors act, and of the
+            places of scatter, a number below 2^64; 0, which has no events, if left out
+
+Options stand behind the command, in any order, each at most once.
 
 Status: 0 done, 1 read fault, 2 usage, 3 description refused, 4 no room, 5 image refused, 8 write fault,
 9 out of memory, 10 input too long, 11 image too large. With a status other than 0 a line on standard error

@@ -15,6 +15,9 @@ use vt_outside::OutOfMemory;
 /// How many ranges an allocator hands out at most, from one `begin` to the next.
 pub const MOST_RANGES: usize = 1024;
 
+// The number that the clauses have.
+const _: () = prove!(MOST_RANGES == 1024);
+
 /// A place was refused, and the allocator that was asked has counted it.
 #[derive(Clone, Copy, Debug, PartialEq, Eq, Error)]
 #[error("no room for the file")]

@@ -10,19 +10,3 @@ invariant-loop-count g l = record {
   zones : AreZonesOf 0x4000000 (g.A.ZoneAlloc.zones l.place);
   handed : IfSome l.world (λ w. g.A.ZoneAlloc.handed l.place ≡ placed_ranges w.placed);
 }
-
-abbrev pub invariant-loop : goal.invariant-loop
-invariant-loop g l = record {
-  some : IsSome l.world;
-  begun : g.A.ZoneAlloc.begun l.place ≡ true;
-  zones : AreZonesOf 0x4000000 (g.A.ZoneAlloc.zones l.place);
-  handed : IfSome l.world (λ w. g.A.ZoneAlloc.handed l.place ≡ placed_ranges w.placed);
-}
-
-abbrev pub invariant-loop-event : goal.invariant-loop-event
-invariant-loop-event g l = record {
-  some : IsSome l.world;
-  begun : g.A.ZoneAlloc.begun l.place ≡ true;
-  zones : AreZonesOf 0x4000000 (g.A.ZoneAlloc.zones l.place);
-  handed : IfSome l.world (λ w. g.A.ZoneAlloc.handed l.place ≡ placed_ranges w.placed);
-}

@@ -1,32 +1,37 @@
 use Rattle.std.proofs.Common.{◌≡◌, length, refl, arith, ap, subst, ◌∙◌}
 use Rattle.vt_bytes.specs.Memory.{ram_ranges}
 use Rattle.vmtables.specs.Dump.{ranges_text}
-use Rattle.vmtables.specs.Output.{TookFront}
+use Rattle.vmtables.specs.Output.{Took, TookFront}
 use Rattle.vmtables.proofs.Taken.{on_err}
 use Rattle.vmtables.proofs.Parts.{ranges_none, ranges_more, ranges_failed}
+use Rattle.vmtables.proofs.Frames.{range_text-frames}
 use Rattle.vmtables.proofs.dump.dump_ranges.Goals as goal
 
 pub loop-range-init : goal.loop-range-init
 loop-range-init g c = record { so_far = ranges_none _ _; unflushed = refl; sound = refl }
 
-pub returns-in_err-dump_rows-clause-front : goal.returns-in_err-dump_rows-clause-front
-returns-in_err-dump_rows-clause-front g c =
+pub returns-in_err-dump_frames-clause-front : goal.returns-in_err-dump_frames-clause-front
+returns-in_err-dump_frames-clause-front g c =
     let map : c.ram_ranges-range-items.result ≡ ram_ranges c.args.memory.now.top =
     c.ram_ranges-range-items.ensures ∙ ap ram_ranges c.top.ensures.value in
     let size : length c.ram_ranges-range-items.result ≡ 3 = ap length map in
+    let lines = range_text-frames c.args.memory.now c.ram_ranges-range-items.result c.loop-range.range-index _ c.top.ensures.lawful.top map (omega arith) in
     let failed = ranges_failed _ _ _ c.args.memory.now c.ram_ranges-range-items.result c.loop-range.range-index _ (omega arith)
-    c.loop-range.invariant.so_far c.in_err-dump_rows.ensures.front in
+    c.loop-range.invariant.so_far
+    (subst (TookFront (g.K.Sink.taken c.loop-range.out) (g.K.Sink.taken c.dump_frames.new.out)) lines c.in_err-dump_frames.ensures.front) in
     on_err c.from_residual.result _
-    (subst (λ ranges. TookFront (g.K.Sink.taken c.args.out.now) (g.K.Sink.taken c.dump_rows.new.out) (ranges_text c.args.memory.now ranges)) map failed)
+    (subst (λ ranges. TookFront (g.K.Sink.taken c.args.out.now) (g.K.Sink.taken c.dump_frames.new.out) (ranges_text c.args.memory.now ranges)) map failed)
 
 pub loop-range-preserved : goal.loop-range-preserved
 loop-range-preserved g c =
     let map : c.ram_ranges-range-items.result ≡ ram_ranges c.args.memory.now.top =
     c.ram_ranges-range-items.ensures ∙ ap ram_ranges c.top.ensures.value in
     let size : length c.ram_ranges-range-items.result ≡ 3 = ap length map in
+    let lines = range_text-frames c.args.memory.now c.ram_ranges-range-items.result c.loop-range.range-index _ c.top.ensures.lawful.top map (omega arith) in
     record {
       so_far = ranges_more _ _ _ c.args.memory.now c.ram_ranges-range-items.result c.loop-range.range-index _ (omega arith)
-          c.loop-range.invariant.so_far c.in_ok-dump_rows.ensures.ok;
-      unflushed = c.in_ok-dump_rows.ensures.unflushed ∙ c.loop-range.invariant.unflushed;
-      sound = c.in_ok-dump_rows.ensures.sound ∙ c.loop-range.invariant.sound;
+          c.loop-range.invariant.so_far
+          (subst (Took (g.K.Sink.taken c.loop-range.out) (g.K.Sink.taken c.dump_frames.new.out)) lines c.in_ok-dump_frames.ensures.ok);
+      unflushed = c.in_ok-dump_frames.ensures.unflushed ∙ c.loop-range.invariant.unflushed;
+      sound = c.in_ok-dump_frames.ensures.sound ∙ c.loop-range.invariant.sound;
     }

@@ -1,0 +1,100 @@
+-- The lines of frames, each of 256 rows, frame by frame.
+use Rattle.std.proofs.Common.{◌≡◌, ◌==◌, ℕ, zero, suc, ◌+◌, ◌*◌, ◌-◌, ◌/◌, ◌<◌, Bool, true, List, [], ◌++◌, Option, get_or, refl, ap, sym, subst, ◌∙◌, arith}
+use Rattle.std.proofs.lemmas.Bool.{and_parts}
+use Rattle.std.proofs.lemmas.List.Folds.{list_all-append}
+use Rattle.std.specs.List.{flat_map, list_all, range_with_len}
+use Rattle.vt_bytes.specs.declared.memory.AddressRange.{AddressRange}
+use Rattle.vt_bytes.specs.Memory.{Memory, IsTop, IsRam, IsRamRange, bytes_at, ram_ranges}
+use Rattle.vt_bytes.proofs.Bytes.{bytes_at-parts}
+use Rattle.vmtables.specs.Dump.{range_text, rows_text}
+use Rattle.vmtables.specs.Output.{Took, TookFront}
+use Rattle.vmtables.proofs.Rows.{line_at, line_at-filled, rows_text-split, rows_text-front}
+use Rattle.vmtables.proofs.Taken.{behind-nothing, took_then, front_then, front_more}
+
+-- rows counted from a later one on
+lines_from : (m : Memory) (start n j d : ℕ)
+    → flat_map (line_at m start) (range_with_len (n + j) d) ≡ flat_map (line_at m (start + 16 * n)) (range_with_len j d)
+lines_from m start n j zero = refl
+lines_from m start n j (suc d) =
+    let address : start + 16 * (n + j) ≡ start + 16 * n + 16 * j = omega arith in
+    let next : n + j + 1 ≡ n + (j + 1) = omega arith in
+    rw (address, next) (ap (λ lines. line_at m (start + 16 * n) j ++ lines) (lines_from m start n (j + 1) d))
+
+-- the lines of some rows, and then of those behind them
+pub rows_text-parts : (m : Memory) (start n d : ℕ) → rows_text m start (n + d) ≡ rows_text m start n ++ rows_text m (start + 16 * n) d
+unfolding rows_text
+rows_text-parts m start n d =
+    let first : n ≡ n + 0 = omega arith in
+    rows_text-split m start n d
+    ∙ ap (λ (lines : List ℕ). rows_text m start n ++ lines) (ap (λ (k : ℕ). flat_map (line_at m start) (range_with_len k d)) first ∙ lines_from m start n 0 d)
+
+-- rows of fill bytes have no lines
+pub rows_text-filled : (m : Memory) (start n : ℕ) → list_all (λ byte. byte == m.fill) (bytes_at m start (16 * n)) ≡ true → rows_text m start n ≡ []
+unfolding rows_text
+rows_text-filled m start zero all = refl
+rows_text-filled m start (suc n) all =
+    let size : 16 * suc n ≡ 16 + 16 * n = omega arith in
+    let here : start ≡ start + 16 * 0 = omega arith in
+    let both = and_parts _ _ (sym (list_all-append (λ byte. byte == m.fill) (bytes_at m start 16) (bytes_at m (start + 16) (16 * n)))
+    ∙ ap (list_all (λ byte. byte == m.fill)) (sym (bytes_at-parts m start 16 (16 * n)))
+    ∙ ap (λ (count : ℕ). list_all (λ byte. byte == m.fill) (bytes_at m start count)) (sym size) ∙ all) in
+    let first : line_at m start 0 ≡ [] =
+    line_at-filled m start 0 m.fill (bytes_at m start 16) true (ap (λ (a : ℕ). bytes_at m a 16) here) refl (sym both.0) refl in
+    let one : rows_text m start 1 ≡ [] = ap (λ (line : List ℕ). line ++ []) first in
+    let rows : suc n ≡ 1 + n = omega arith in
+    ap (rows_text m start) rows ∙ rows_text-parts m start 1 n ∙ ap (λ (lines : List ℕ). lines ++ rows_text m (start + 16) n) one ∙ rows_text-filled m (start + 16) n both.1
+
+-- each range of the RAM map is whole frames
+range_frames : (top k : ℕ) (other : AddressRange) → IsTop top → k < 3
+    → 256 * (((get_or (ram_ranges top) k other).end - (get_or (ram_ranges top) k other).start) / 4096)
+    ≡ ((get_or (ram_ranges top) k other).end - (get_or (ram_ranges top) k other).start) / 16
+range_frames top zero other lawful below = refl
+range_frames top (suc zero) other lawful below = refl
+range_frames top (suc (suc zero)) other lawful below = omega (arith, lawful.at_least)
+range_frames top (suc (suc (suc k))) other lawful below = absurd (omega arith)
+
+-- so the lines of its frames are its lines
+pub range_text-frames : (m : Memory) (ranges : List AddressRange) (k : ℕ) (other : AddressRange) → IsTop m.top → ranges ≡ ram_ranges m.top → k < 3
+    → rows_text m (get_or ranges k other).start (256 * (((get_or ranges k other).end - (get_or ranges k other).start) / 4096))
+    ≡ range_text m (get_or ranges k other)
+range_text-frames m ranges k other lawful map below = rw map (ap (rows_text m (get_or (ram_ranges m.top) k other).start) (range_frames m.top k other lawful below))
+
+-- each of the frames is RAM
+pub frame_ram : (top start count k : ℕ) → IsRamRange top start (4096 * count) → k < count → IsRamRange top (start + 4096 * k) 4096
+frame_ram top start count k ram below i within =
+    let place : start + (4096 * k + i) ≡ start + 4096 * k + i = omega arith in
+    subst (IsRam top) place (ram (4096 * k + i) (omega arith))
+
+-- the lines of one more frame
+frames_more : (m : Memory) (start k : ℕ) → rows_text m start (256 * (k + 1)) ≡ rows_text m start (256 * k) ++ rows_text m (start + 4096 * k) 256
+frames_more m start k =
+    let count : 256 * (k + 1) ≡ 256 * k + 256 = omega arith in
+    let address : start + 16 * (256 * k) ≡ start + 4096 * k = omega arith in
+    ap (rows_text m start) count ∙ rows_text-parts m start (256 * k) 256
+    ∙ ap (λ (a : ℕ). rows_text m start (256 * k) ++ rows_text m a 256) address
+
+-- the sink took the lines of one more frame
+pub frame_took : (before now after : Option (List ℕ)) (m : Memory) (start k : ℕ) → Took before now (rows_text m start (256 * k))
+    → Took now after (rows_text m (start + 4096 * k) 256) → Took before after (rows_text m start (256 * (k + 1)))
+frame_took before now after m start k so_far took =
+    subst (Took before after) (sym (frames_more m start k))
+    (took_then before now after (rows_text m start (256 * k)) (rows_text m (start + 4096 * k) 256) so_far took)
+
+-- the frame had no lines
+pub frame_passed : (before now : Option (List ℕ)) (m : Memory) (start k fill : ℕ) (frame : List ℕ) (filled : Bool)
+    → Took before now (rows_text m start (256 * k)) → frame ≡ bytes_at m (start + 4096 * k) 4096 → fill ≡ m.fill
+    → filled ≡ list_all (λ byte. byte == fill) frame → filled ≡ true → Took before now (rows_text m start (256 * (k + 1)))
+frame_passed before now m start k fill frame filled so_far read same test all =
+    let tested : list_all (λ byte. byte == m.fill) (bytes_at m (start + 4096 * k) 4096) ≡ true = rw (← read, ← same) (sym test ∙ all) in
+    frame_took before now now m start k so_far
+    (subst (Took now now) (sym (rows_text-filled m (start + 4096 * k) 256 tested)) (behind-nothing now))
+
+-- the sink took a front of the lines of one more frame, and so of all of them
+pub frame_failed : (before now after : Option (List ℕ)) (m : Memory) (start k count : ℕ) → k < count → Took before now (rows_text m start (256 * k))
+    → TookFront now after (rows_text m (start + 4096 * k) 256) → TookFront before after (rows_text m start (256 * count))
+frame_failed before now after m start k count below so_far took =
+    let rest = rows_text-front m start (256 * (k + 1)) (256 * count) (omega arith) in
+    let whole = rest.1 ∙ ap (λ (lines : List ℕ). lines ++ rest.0) (frames_more m start k) in
+    subst (TookFront before after) (sym whole)
+    (front_more before after (rows_text m start (256 * k) ++ rows_text m (start + 4096 * k) 256) rest.0
+    (front_then before now after (rows_text m start (256 * k)) (rows_text m (start + 4096 * k) 256) so_far took))
