@@ -5,7 +5,8 @@ product.
 usage: descriptions.py FOLDER
 
 `greatest.toml` has as many sockets, memory modules, ranges, slots and texts as a description may have, and each of its texts has 64 bytes,
-the most that one may have. `half.toml` has half as many sockets, modules, ranges, slots and texts.
+the most that one may have. `half.toml` has half as many sockets, modules, ranges, slots and OEM
+strings; bench/run.sh doesn't run it, it is there to count instructions by hand.
 """
 
 import pathlib

@@ -1,7 +1,7 @@
 #!/usr/bin/env bash
 # Compares `vmtables boot` and `vmtables build` for each description of examples/ and for a great one, and `vmtables load` for large
-# containers and for one of a machine of QEMU, with other programs, run side by side in one run. It prints ratios alone: how many
-# times what the other program takes ours takes. Nothing is proved or judged here.
+# containers and for one of a machine of QEMU, with other programs, run side by side in one run. It prints ratios, what ours
+# takes over what the other program takes, and for some inputs the peak of memory in MiB. Nothing is proved or judged here.
 #
 # usage: bench/run.sh [ROUNDS]     each program is run ROUNDS times, 11 if nothing is said; medians are compared
 #
@@ -110,6 +110,7 @@ for description in "$root"/examples/*.toml "$work/greatest.toml"; do
     add_description "$description"
 done
 python3 "$root/bench/containers.py" "$work" || exit 1
+# random is the last, since add_long_dump goes on with its group
 for container in large many full random; do
     add_container "$work/$container.container"
 done

@@ -14,7 +14,8 @@ import sys
 import tomllib
 import uuid
 
-# dmidecode's words for the types of chassis and slots and the widths of slots that the examples have (DSP0134 7.4.1, 7.10.1, 7.10.2).
+# dmidecode's words for types of chassis and slots and widths of slots: those of the examples, the defaults, and a few more (DSP0134 7.4.1,
+# 7.10.1, 7.10.2).
 CHASSIS = {1: "Other", 3: "Desktop", 17: "Main Server Chassis", 23: "Rack Mount Chassis"}
 SLOTS = {1: "Other", 0xA5: "PCI Express"}
 WIDTHS = {1: "", 8: "x1 ", 9: "x2 ", 10: "x4 ", 11: "x8 ", 13: "x16 "}

@@ -12,7 +12,8 @@ Writes into FOLDER what the memory holds of these:
   XSDT.aml        the table that the root pointer names, and a file for each table that it lists, named by the
                   signature; a second table of a signature is SIGNATURE-2.aml
 
-Status 0: done; 1: an anchor isn't there, or names no table; 2: the file is no dump.
+Status 0: done; 1: there is no SMBIOS anchor, or the anchor or the root pointer leads to no table; 2: the file is no dump. A memory
+without a root pointer has no ACPI tables, which is no fault.
 """
 
 import pathlib

@@ -15,7 +15,7 @@ What must hold is what a firmware has to make of the files by QEMU's docs/specs/
 Then it must find a fault wherever one of these bits is flipped: of the first byte of a file, of each pointer and each sum, and of
 the first and the last byte of memory.
 
-Status 0: all of this holds; 1: something doesn't, each with a line; 2: the files are no container and no dump.
+Status 0: all of this holds; 1: something doesn't, each with a line; 2: CONTAINER is no container, or DUMP is no dump.
 """
 
 import copy

@@ -16,10 +16,6 @@ pub sixteen : is_power_of_two 16 ≡ true
 unfolding ones
 sixteen = refl
 
--- a table's rows are a header's and those behind it
-pub table_size : (signature : List ℕ) (head : Head) (body : List Row) → size (table_rows signature head body) ≡ 36 + size body
-table_size signature head body = omega arith
-
 pub each_table_row : (signature : List ℕ) (head : Head) (body header : List Row) {behind : ℕ} → header ≡ header_rows signature (36 + behind) head
     → behind ≡ size body → AllByRecursion IsRow header → AllByRecursion IsRow body → AllByRecursion IsRow (table_rows signature head body)
 each_table_row signature head body header is behind_is fit are =

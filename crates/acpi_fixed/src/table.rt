@@ -13,7 +13,7 @@ use table_model::{HEADER_SIZE, Head, Table, header_rows, hpet_body};
 use vt_layout::{Row, size_of};
 use vt_outside::{Name, OutOfMemory};
 
-/// The file that holds the tables. The pointers to them have its place added.
+/// The name of the file of fw_cfg that holds the tables. The pointers to them have its place added.
 pub const TABLES_FILE: &str = "etc/acpi/tables";
 
 /// The alignment of a table in its file, in bytes.

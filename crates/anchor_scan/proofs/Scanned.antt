@@ -35,25 +35,7 @@ leads_from view address anchor place items bytes first numbers range is = record
 abbrev pub table_of : Anchor → List Structure → SmbiosTable
 table_of anchor structures = record { major = anchor.major; minor = anchor.minor; docrev = anchor.docrev; structures = structures }
 
--- what is read of the bytes is shown
-pub read_is_shown : (view : View) (address : ℕ) (anchor : Anchor) (place : ℕ) (bytes : List ℕ) (structures : List Structure)
-    → Leads view address anchor place bytes → IsRead bytes structures → ShowsSmbios view (table_of anchor structures)
-read_is_shown view address anchor place bytes structures leads is = record {
-  address = address;
-  anchor = anchor;
-  structures = place;
-  valid = leads.valid;
-  least = leads.least;
-  major = refl;
-  minor = refl;
-  docrev = refl;
-  used = is.used;
-  unused = is.unused;
-  range = subst (IsRange view place anchor.maximum_size) is.split leads.range;
-  listed = is.listed;
-}
-
--- and what is shown is read of them
+-- what is shown is what is read of the bytes
 pub record IsThere (anchor : Anchor) (bytes : List ℕ) (t : SmbiosTable) : Type 0 where
   pub read : IsRead bytes t.structures
   pub table : table_of anchor t.structures ≡ t
@@ -68,20 +50,7 @@ shown_is_read view address anchor place bytes t leads is =
           (ap (λ (a : Anchor). a.minor) same.0 ∙ sym is.minor) (ap (λ (a : Anchor). a.docrev) same.0 ∙ sym is.docrev) refl;
     }
 
--- the fault of the bytes is that of the memory
-pub refused_is_told : (view : View) (address : ℕ) (anchor : Anchor) (place : ℕ) (bytes : List ℕ) (fault : SmbiosFault)
-    → Leads view address anchor place bytes → IsRefused bytes fault → RefusesSmbios view fault
-refused_is_told view address anchor place bytes fault leads is = record {
-  address = address;
-  anchor = anchor;
-  structures = place;
-  valid = leads.valid;
-  least = leads.least;
-  bytes = bytes;
-  range = leads.range;
-  refused = is;
-}
-
+-- the fault that the memory tells is that of the bytes
 pub told_is_refused : (view : View) (address : ℕ) (anchor : Anchor) (place : ℕ) (bytes : List ℕ) (fault : SmbiosFault)
     → Leads view address anchor place bytes → RefusesSmbios view fault → IsRefused bytes fault
 told_is_refused view address anchor place bytes fault leads is =

@@ -8,20 +8,20 @@ use guest_memory::GuestMemory;
 use table_model::{Anchor, anchor_of, anchor_rows};
 use vt_layout::{Row, read_u8, read_u32, read_u64};
 
-// Where anchors may stand: on a multiple of 16, up to the end of the first MiB (5.2.2).
+// Where anchors may stand: on a multiple of 16 from 0xF0000 on, up to the end of the first MiB (DSP0134 5.2.2).
 const ANCHORS_START: u64 = 0xF_0000;
 
 const ANCHORS_END: u64 = 0x10_0000;
 
 const ANCHOR_STEP: u64 = 16;
 
-// What an anchor begins with.
+// The mark of an anchor, with which it begins: the standard's anchor string.
 const MARK: &[u8] = b"_SM3_";
 
 // The fewest bytes of an anchor.
 const ANCHOR_SIZE: u64 = 0x18;
 
-// The rows of an anchor's numbers.
+// The indices of an anchor's numbers among its rows.
 const LENGTH_ROW: usize = 2;
 
 const MAJOR_ROW: usize = 3;
@@ -35,8 +35,8 @@ const MAXIMUM_SIZE_ROW: usize = 8;
 const STRUCTURES_ROW: usize = 9;
 
 /// Finds the SMBIOS anchor of `memory` (DSP0134 5.2.2): the least multiple of 16 from 0xF0000 on where a valid one stands. It
-/// begins with `_SM3_`, its length is at least 0x18 and ends it below 0x100000, and its bytes sum to zero. Returns `None` when
-/// there is none. It takes no memory.
+/// begins with `_SM3_`, has by its length at least 0x18 bytes, the last of them below 0x100000, and these bytes sum to zero. Returns
+/// `None` when there is none. It takes no memory.
 pub fn find_smbios(memory: &GuestMemory) -> Option<u64>
     ensures some { IfSome result (IsFirstAnchor (seen memory.now)) }
     ensures none { result ≡ None ↔ HasNoAnchor (seen memory.now) }

@@ -44,12 +44,13 @@ pub record FitsSum (blob : BlobState) (hole : SumHole) : Type 0 where
   pub sum_bytes : AllByRecursion (λ (sum : SumHole). (hole.at < sum.at) ⊎ (sum.at < hole.at)) blob.sums
   pub fields : AllByRecursion (IsOutsideField hole.at) blob.pointers
 
--- each hole of a list may be added to those before it
+-- each pointer hole is in the file, and apart from those behind it in the list
 abbrev pub ArePointers : List ℕ → List PointerHole → Type 0
 ArePointers bytes [] = Unit {0}
 ArePointers bytes (hole ∷ holes) =
     IsPointerSize hole.size × (hole.at + hole.size ≤ length bytes) × AllByRecursion (AreApart hole) holes × ArePointers bytes holes
 
+-- each sum hole's range is in the file and holds its byte, which is that of no sum behind it in the list
 abbrev pub AreSums : List ℕ → List SumHole → Type 0
 AreSums bytes [] = Unit {0}
 AreSums bytes (hole ∷ holes) =

@@ -32,9 +32,9 @@ pub fn append_rows(blob: &mut Blob, rows: &[Row]) -> Result<(), OutOfMemory>
 }
 
 /// Appends zeros to `blob` up to a multiple of `align` bytes, a power of two, and then the rows of `header` and those of `body`
-/// as one layout. Returns the offset in the file at which the layout begins. `append_rows` says what the rows of a layout keep;
-/// the file must stay below 2^32 bytes. It fails with `OutOfMemory` only where memory runs out. `blob` is then still a file
-/// with holes, but may hold the zeros and a part of the rows.
+/// as one layout. Returns the offset in the file at which the layout begins. The rows must be as [`append_rows`] asks, and the
+/// file must stay below 2^32 bytes. It fails with `OutOfMemory` only where memory runs out. `blob` is then still a file with holes,
+/// but may hold the zeros and a part of the rows.
 pub fn append_layout(
     blob: &mut Blob,
     align: u32,

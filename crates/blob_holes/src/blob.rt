@@ -1,4 +1,4 @@
-ghost use Rattle.std.specs.Prelude.{◌≡◌, ◌+◌, ◌<◌, ◌≤◌, ◌^◌, [], ◌∷◌, ◌++◌, length, IfOk, OnOk, OnErr, IsTrue, slice_set};
+ghost use Rattle.std.specs.Prelude.{◌≡◌, ◌+◌, ◌<◌, ◌^◌, [], ◌∷◌, ◌++◌, length, IfOk, OnOk, OnErr, IsTrue, slice_set};
 ghost use Rattle.std.specs.Int.{is_power_of_two};
 ghost use Rattle.vt_bytes.specs.Numbers.{le_bytes};
 ghost use Rattle.vt_bytes.specs.Parts.{put_at};
@@ -127,7 +127,7 @@ impl Blob {
     {
         self.pointers.push(PointerHole { at, size, target })?;
         let bytes = u64::from(offset).to_le_bytes();
-        put(&mut self.bytes, at as usize, &bytes[..usize::from(size)]);
+        self.bytes.put(at as usize, &bytes[..usize::from(size)]);
         Ok(())
     }
 
@@ -166,16 +166,5 @@ impl Blob {
             pointers,
             sums,
         }
-    }
-}
-
-// Puts bytes in place of as many from a place on.
-fn put(bytes: &mut Bytes, at: usize, piece: &[u8])
-    requires within { at + length piece.now ≤ length bytes.old }
-    requires short { length bytes.old < 2 ^ 32 }
-    ensures { bytes.new ≡ put_at bytes.old at piece.now }
-{
-    for (k, byte) in piece.iter().enumerate() {
-        bytes.set(at + k, *byte);
     }
 }

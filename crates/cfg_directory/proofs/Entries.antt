@@ -19,7 +19,7 @@ use Rattle.cfg_directory.specs.declared.listed.Listed.{Listed}
 use Rattle.cfg_directory.specs.declared.container.ImageFault.{ImageFault}
 use Rattle.cfg_directory.specs.declared.container.ImageFault.TheVariants.{TwiceNamed, BadSelect, TwiceSelected}
 use Rattle.cfg_directory.specs.Items.{entry_rows, IsFileSelect, HasNoName, HasNoSelect, AreDistinct}
-use Rattle.cfg_directory.specs.Container.{◌>>=◌, AreEntries, listed_so, listed_of, directory_so}
+use Rattle.cfg_directory.specs.Container.{◌>>=◌, AreEntries, listed_so, entry_so, directory_so}
 use Rattle.cfg_directory.proofs.Names.{other_name}
 use Rattle.cfg_directory.proofs.OneMoreItem.{other_select}
 use Rattle.cfg_directory.proofs.Steps.{bind_ok, guard_ok}
@@ -172,8 +172,8 @@ name_in entry = read_name 3 (entry_rows 0 0 []) entry
 
 -- an entry that is new is read
 pub entry_read : (index : ℕ) (before : List Listed) (entry : List ℕ) (listed : Listed) → IsSaid entry listed → IsNew before listed
-    → IsFileSelect listed.select → listed_of index before entry ≡ Ok listed
-unfolding listed_of
+    → IsFileSelect listed.select → entry_so index before entry ≡ Ok listed
+unfolding entry_so
 entry_read index before entry listed is new file =
     let rows = entry_rows listed.size listed.select listed.name in
     let fields : listed_so index before (size_in entry) (select_in entry) (name_in entry) ≡ listed_so index before listed.size listed.select (Ok listed.name) =
@@ -199,7 +199,7 @@ entries_read (one ∷ listed) index before bytes rest said new =
     let parts : bytes ++ rest ≡ entry ++ (others ++ rest) = ap (λ (b : List ℕ). b ++ rest) said.2 ∙ append_assoc entry others rest in
     let front : take 64 (bytes ++ rest) ≡ entry = ap (take 64) parts ∙ take_at entry (others ++ rest) 64 said.3.size in
     let back : drop 64 (bytes ++ rest) ≡ others ++ rest = ap (drop 64) parts ∙ drop_at entry (others ++ rest) 64 said.3.size in
-    let first : listed_of index before (take 64 (bytes ++ rest)) ≡ Ok one = ap (listed_of index before) front
+    let first : entry_so index before (take 64 (bytes ++ rest)) ≡ Ok one = ap (entry_so index before) front
     ∙ entry_read index before entry one said.3 new.0 new.1 in
     ap (λ read. read >>= (λ l. directory_so (length listed) (index + 1) (before ++ l ∷ []) (drop 64 (bytes ++ rest)))) first
     ∙ ap (directory_so (length listed) (index + 1) (before ++ one ∷ [])) back
@@ -241,9 +241,9 @@ fields_from index before size select (Ok name) listed is =
     })
 
 -- what an entry said that was read
-entry_said : (index : ℕ) (before : List Listed) (entry : List ℕ) (listed : Listed) → listed_of index before entry ≡ Ok listed
+entry_said : (index : ℕ) (before : List Listed) (entry : List ℕ) (listed : Listed) → entry_so index before entry ≡ Ok listed
     → Fields before (size_in entry) (select_in entry) (name_in entry) listed
-unfolding listed_of
+unfolding entry_so
 entry_said index before entry listed is = fields_from index before (size_in entry) (select_in entry) (name_in entry) listed is
 
 -- an entry says what is read at its rows
@@ -293,7 +293,7 @@ entries_said zero index before bytes all long is = record {
 }
 entries_said (suc count) index before bytes all long is =
     let next : Listed → Result (List Listed) ImageFault = λ l. directory_so count (index + 1) (before ++ l ∷ []) (drop 64 bytes) in
-    let first = bind_ok (listed_of index before (take 64 bytes)) next all is in
+    let first = bind_ok (entry_so index before (take 64 bytes)) next all is in
     let one = first.0 in
     let fields = entry_said index before (take 64 bytes) one first.1 in
     let said = IsSaid-from before (take 64 bytes) one (length-take-le 64 bytes (omega arith)) fields in

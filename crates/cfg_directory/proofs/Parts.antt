@@ -10,7 +10,7 @@ use Rattle.cfg_directory.specs.declared.item.Item.{Item}
 use Rattle.cfg_directory.specs.declared.listed.Listed.{Listed}
 use Rattle.cfg_directory.specs.declared.container.ImageFault.{ImageFault}
 use Rattle.cfg_directory.specs.declared.container.ImageFault.TheVariants.{Truncated, BadFlag}
-use Rattle.cfg_directory.specs.Container.{◌>>=◌, listed_of, directory_so, flags_so, item_so, items_so}
+use Rattle.cfg_directory.specs.Container.{◌>>=◌, entry_so, directory_so, flags_so, item_so, items_so}
 use Rattle.cfg_directory.specs.Parts.{is_set, directory_at, flags_at}
 
 -- ---- the directory
@@ -28,7 +28,7 @@ directory_at-short count bytes short = cond-true (ltb (length bytes) (64 * count
 
 -- one entry more is read
 pub entry_goes_on : (count index : ℕ) (before : List Listed) (bytes : List ℕ) (listed : Listed) (total : Result (List Listed) ImageFault) → index < count
-    → listed_of index before (take 64 bytes) ≡ Ok listed → directory_so (count - index) index before bytes ≡ total
+    → entry_so index before (take 64 bytes) ≡ Ok listed → directory_so (count - index) index before bytes ≡ total
     → directory_so (count - (index + 1)) (index + 1) (before ++ listed ∷ []) (drop 64 bytes) ≡ total
 unfolding directory_so
 entry_goes_on count index before bytes listed total within is so_far =
@@ -41,7 +41,7 @@ entry_goes_on count index before bytes listed total within is so_far =
 -- the fault of an entry is the directory's
 pub entry_fails : (count index : ℕ) (before : List Listed) (rest bytes : List ℕ) → index < count → 64 * count ≤ length bytes
     → directory_so (count - index) index before rest ≡ directory_so count 0 [] bytes → (fault : ImageFault)
-    → listed_of index before (take 64 rest) ≡ Err fault → directory_at count bytes ≡ Err fault
+    → entry_so index before (take 64 rest) ≡ Err fault → directory_at count bytes ≡ Err fault
 unfolding directory_so
 entry_fails count index before rest bytes within long so_far fault is =
     let one_less : count - index ≡ suc (count - (index + 1)) = omega arith in

@@ -52,7 +52,7 @@ abbrev pub ◌>>=◌ : {A B : Type 0} → Result A ImageFault → (A → Result 
 (Ok x) >>= f = f x
 (Err fault) >>= f = Err fault
 
--- What an entry at an index says, or its first fault: its name is none, or was given before; its selector is no file's, or
+-- What the fields of an entry at an index say, or its first fault: its name is none, or was given before; its selector is no file's, or
 -- was given before.
 abbrev pub listed_so : ℕ → List Listed → ℕ → ℕ → Result (List ℕ) NameFault → Result Listed ImageFault
 listed_so index before size select (Err fault) = Err (BadName index)
@@ -62,8 +62,9 @@ listed_so index before size select (Ok name) =
     else (if list_any (λ (other : Listed). other.select == select) before then Err (TwiceSelected index)
     else Ok (record { name = name; select = select; size = size })))
 
-unfoldable pub listed_of : ℕ → List Listed → List ℕ → Result Listed ImageFault
-listed_of index before entry =
+-- what an entry at an index says, by its bytes
+unfoldable pub entry_so : ℕ → List Listed → List ℕ → Result Listed ImageFault
+entry_so index before entry =
     let rows = entry_rows 0 0 [] in
     listed_so index before (read_number 0 rows entry) (read_number 1 rows entry) (read_name 3 rows entry)
 
@@ -71,7 +72,7 @@ listed_of index before entry =
 unfoldable pub directory_so : ℕ → ℕ → List Listed → List ℕ → Result (List Listed) ImageFault
 directory_so zero index before bytes = Ok before
 directory_so (suc left) index before bytes =
-    listed_of index before (take 64 bytes) >>= (λ listed. directory_so left (index + 1) (before ++ listed ∷ []) (drop 64 bytes))
+    entry_so index before (take 64 bytes) >>= (λ listed. directory_so left (index + 1) (before ++ listed ∷ []) (drop 64 bytes))
 
 -- what the flags say, from an index on
 unfoldable pub flags_so : ℕ → List ℕ → Result (List Bool) ImageFault

@@ -30,7 +30,7 @@ pub enum ImageFault {
     BadFlag(u32),
     /// Bytes follow the files.
     TrailingBytes,
-    /// The files have more than 67,108,864 bytes.
+    /// The files have more than 67,108,864 bytes in all, by the sizes in their entries.
     TooLarge,
     /// Memory ran out. The bytes may be a container or not.
     OutOfMemory,
@@ -45,8 +45,9 @@ impl From<OutOfMemory> for ImageFault {
 }
 
 /// Reads the items that `bytes` are a container of, into memory from `alloc`. It fails where `bytes` are no container, with the
-/// first fault in the order of the bytes, and with `OutOfMemory` where memory runs out. Memory is needed only once the number
-/// of files is there, is at most 1,024, and so many entries are there.
+/// first fault of its parts in turn: the number of files, the entries, the flags, and the files' contents. That all entries are
+/// there is tested before the first of them is read, and so it is with the flags. It fails with `OutOfMemory` where memory runs out.
+/// Memory is needed only once the number of files is there, is at most 1,024, and so many entries are there.
 pub fn read_image(alloc: Global, bytes: &[u8]) -> Result<Items, ImageFault>
     // What is read is spelled so.
     ensures found { IfOk result (λ items. IsContainer bytes.now items) }

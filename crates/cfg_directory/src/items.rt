@@ -1,7 +1,8 @@
 ghost use Rattle.std.specs.Prelude.{◌≡◌, ◌==◌, ◌+◌, ◌<◌, ◌≤◌, [], ◌∷◌, ◌++◌, length, Some, IsSomeAnd, IfOk, OnOk, OnErr};
 ghost use Rattle.std.specs.Option.{option_copied};
 ghost use Rattle.std.specs.List.{position};
-ghost use Rattle.cfg_directory.specs.Items.{IsItems, HasNoName, HasNoSelect, IsFileSelect, AreNumberedFrom, total_size, file_limit, bytes_limit, named, selected, with_bytes_at};
+ghost use Rattle.cfg_directory.specs.Items.{IsItems, HasNoName, HasNoSelect, IsFileSelect, AreNumberedFrom, total_size, file_limit};
+ghost use Rattle.cfg_directory.specs.Items.{bytes_limit, named, selected, with_bytes_at};
 
 use crate::item::Item;
 use std::alloc::Global;

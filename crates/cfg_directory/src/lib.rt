@@ -3,7 +3,7 @@
 //!
 //! The directory is the one of QEMU's fw_cfg (docs/specs/fw_cfg); the container is this project's own. Contracts
 //! see the list of the items, whose names and selectors differ. What is read is spelled so, what is spelled so is
-//! read, and each refusal is the first one in the order of the bytes.
+//! read, and each refusal is the first one, part by part from the front.
 #![tactic(auto)]
 
 mod container;
@@ -20,4 +20,4 @@ pub use directory::directory_bytes;
 pub use item::Item;
 pub use items::Items;
 pub use listed::Listed;
-pub use listing::list_entries;
+pub use listing::{ENTRY_SIZE, list_entries};

@@ -3,8 +3,8 @@ ghost use Rattle.cfg_directory.specs.Listing.{entry_says, listed_in};
 
 use crate::listed::Listed;
 
-// The bytes of an entry.
-pub(crate) const ENTRY_SIZE: usize = 64;
+/// How many bytes an entry of a directory has.
+pub const ENTRY_SIZE: usize = 64;
 
 /// Reads the files that the next `count` entries of a directory list, of which `entries` are the bytes, and puts them behind
 /// those in `listed`, in which there is room for them. An entry whose name is none lists nothing. It takes no memory.

@@ -6,7 +6,7 @@ ghost use Rattle.std.specs.Str.{bytes_eq};
 ghost use Rattle.vt_bytes.specs.Numbers.{be};
 ghost use Rattle.cfg_directory.specs.declared.container.ImageFault.TheVariants.{OutOfMemory as NoMemory};
 ghost use Rattle.cfg_directory.specs.Items.{file_limit, bytes_limit};
-ghost use Rattle.cfg_directory.specs.Container.{Gives, HasEntries, listed_so, listed_of, item_so, items_so, contents_so};
+ghost use Rattle.cfg_directory.specs.Container.{Gives, HasEntries, listed_so, entry_so, item_so, items_so, contents_so};
 ghost use Rattle.cfg_directory.specs.Parts.{is_set, count_at, directory_at, flags_at, parts_of};
 
 use crate::container::ImageFault;
@@ -80,10 +80,10 @@ fn read_directory(
 }
 
 // What an entry at an index says, behind these.
-#[tactic(auto, unfolding(crate::specs::Container::listed_of))]
+#[tactic(auto, unfolding(crate::specs::Container::entry_so))]
 fn read_entry(index: u32, before: &[Listed], entry: &[u8]) -> Result<Listed, ImageFault>
     requires { length entry.now ≡ 64 }
-    ensures exact { Gives (λ listed. listed) result (listed_of index before.now entry.now) }
+    ensures exact { Gives (λ listed. listed) result (entry_so index before.now entry.now) }
     ensures sure { result ≢ Err NoMemory }
 {
     let Ok(listed) = Listed::read(entry) else {

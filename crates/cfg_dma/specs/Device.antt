@@ -86,7 +86,8 @@ pub record IsInFlight (d : DeviceState) (f : Flight) : Type 0 where
   pub fits : f.transfer.kind ≡ Write → LieInFile d (f.transfer.length - f.moved)
   pub room : 0 < d.spare
 
--- What each device keeps: its items are lawful, and its offset isn't past the end of the selected one.
+-- What each device keeps: its items are lawful, its offset isn't past the end of the selected one, and what is said above holds of a
+-- transfer in flight.
 pub record IsDevice (d : DeviceState) : Type 0 where
   pub items : IsItems d.items
   pub offset : d.offset ≤ length (holds d)

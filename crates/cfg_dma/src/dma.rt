@@ -11,9 +11,13 @@ use crate::transfer::{Finished, Flight, Kind};
 use guest_memory::GuestMemory;
 
 impl Device {
-    /// Writes the lower half of the DMA address register, which starts the transfer whose descriptor is at that address; the
-    /// register is then zero. `word` is the number that the guest writes high byte first. No transfer may be in flight, and there
-    /// must be room for one more to finish.
+    /// Writes the lower half of the DMA address register, which starts the transfer whose descriptor is at the register's address;
+    /// the register is then zero. `word` is the number that the guest writes high byte first. No transfer may be in flight, and
+    /// there must be room for one more to finish.
+    ///
+    /// Nothing is started where the 16 bytes of the descriptor aren't all RAM. A transfer that moves no bytes is over at once. So is,
+    /// with an error, one whose range of memory isn't all RAM, or that writes where the selected item doesn't let it. Any other is
+    /// then in flight, and `piece` moves it.
     pub fn write_address_low(&mut self, memory: &mut GuestMemory, word: u32)
         requires idle { self.old.flight ≡ None }
         requires room { 0 < self.old.spare }

@@ -7,11 +7,11 @@ pub enum Kind {
     Write,
     /// It moves the offset alone.
     Skip,
-    /// It does nothing but to select an item, if it does so.
+    /// It moves nothing, and at most selects an item.
     Nothing,
 }
 
-/// A transfer, as its descriptor asked for it and as it began.
+/// A transfer, in flight or over: as its descriptor asked for it, as it began, and whether it failed.
 #[derive(Clone, Copy, Debug, PartialEq, Eq)]
 pub struct Finished {
     /// What it does.

@@ -22,7 +22,7 @@ abbrev pub item_at : ℕ → List Item → Item
 item_at n values = first (skip n values)
 
 -- What a value is for a record that wants one of a kind. A value of another kind, which no walk gives there, is the empty text, 0,
--- false or none.
+-- false or none; and so is a number past the most.
 
 abbrev pub text_of : Item → List ℕ
 text_of (items.Text text) = text

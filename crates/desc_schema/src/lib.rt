@@ -12,7 +12,7 @@
 //! places, positions and faults: those that the document's tables say, key by key.
 //!
 //! A record takes its values out of the list by position, and tests nothing: the laws say that they fit their kinds. They say too
-//! that the document that is written of values is walked as these values again, so that a description can be printed backwards.
+//! that the document that is written of values is walked as these values again, so that a description can be printed from its values.
 #![tactic(auto)]
 
 mod fault;

@@ -1,4 +1,4 @@
-ghost use Rattle.std.specs.Prelude.{◌≡◌, ℕ, List as ListOf, replicate, length, IfOk};
+ghost use Rattle.std.specs.Prelude.{◌≡◌, replicate, IfOk};
 ghost use Rattle.desc_schema.specs.Walk.{next_position, position, advanced};
 
 use std::alloc::Global;

@@ -35,7 +35,7 @@ pub enum Kind {
 pub enum Scalar {
     /// A text: a string of TOML.
     Text,
-    /// An integer from the first number to the second, both taken.
+    /// An integer from the first number to the second, both included.
     Number(u64, u64),
     /// A boolean.
     Flag,

@@ -1,4 +1,4 @@
-ghost use Rattle.std.specs.Prelude.{◌≡◌, ℕ, Ok, Err};
+ghost use Rattle.std.specs.Prelude.{◌≡◌, Ok, Err};
 ghost use Rattle.toml.specs.View.{view};
 ghost use Rattle.desc_schema.specs.declared.fault.WalkError.TheVariants as errors;
 ghost use Rattle.desc_schema.specs.declared.fault.WalkFault.TheVariants as faults;

@@ -20,7 +20,7 @@ impl Items {
         }
     }
 
-    /// Takes the first value out as a number of at most `most`.
+    /// Takes the first value out as a number of at most `most`; a greater one is taken as 0.
     pub fn take_number(&mut self, most: u64) -> u64
         ensures value { result ≡ number_to most (first self.old) }
         ensures within { result ≤ most }
@@ -32,7 +32,8 @@ impl Items {
         }
     }
 
-    /// Takes the first value out as a number of at most `most`, or as none: of a key that is optional.
+    /// Takes the first value out as a number of at most `most`, or as none: of a key that is optional. A greater one is taken as
+    /// none.
     pub fn take_optional_number(&mut self, most: u64) -> Option<u64>
         ensures value { result ≡ number_if most (first self.old) }
         ensures within { IfSome result (λ number. number ≤ most) }

@@ -4,7 +4,7 @@ ghost use Rattle.std.specs.Str.{bytes_eq};
 ghost use Rattle.toml.specs.Data.{get_member, as_table, as_array};
 ghost use Rattle.toml.specs.View.{view, table_view, items_view};
 ghost use Rattle.desc_schema.specs.Form.{form_of, shape_of, default_of, field_of, fields_of, schema_of, fields_at};
-ghost use Rattle.desc_schema.specs.Faults.{Gives, alone, key_at, of_kind};
+ghost use Rattle.desc_schema.specs.Faults.{Gives, of_kind};
 ghost use Rattle.desc_schema.specs.Single.{item_of, otherwise_of};
 ghost use Rattle.desc_schema.specs.Walk.{after, one, element, elements, singles, shaped, at_field, all_known, table_walked, walked};
 

@@ -145,22 +145,26 @@ arrays_of values =
     let slots = list_of slot_of 8 ranges.1 in
     (record { sockets = sockets.0; dimms = dimms.0; ranges = ranges.0; slots = slots.0 }, slots.1)
 
+abbrev pub joined : Front → Arrays → Option Acpi → Option Hpet → Machine
+joined front arrays acpi hpet = record {
+  top_mib = front.top_mib;
+  oem_strings = front.oem_strings;
+  system = front.system;
+  firmware = front.firmware;
+  chassis = front.chassis;
+  sockets = arrays.sockets;
+  dimms = arrays.dimms;
+  ranges = arrays.ranges;
+  slots = arrays.slots;
+  acpi = acpi;
+  hpet = hpet;
+}
+
 -- what stands before the arrays, these, and two tables that may be left out
 unfoldable pub machine_of : List Item → Machine
 machine_of values =
     let front = front_of values in
     let arrays = arrays_of front.1 in
     let acpi = part_of acpi_of 2 arrays.1 in
-    record {
-      top_mib = front.0.top_mib;
-      oem_strings = front.0.oem_strings;
-      system = front.0.system;
-      firmware = front.0.firmware;
-      chassis = front.0.chassis;
-      sockets = arrays.0.sockets;
-      dimms = arrays.0.dimms;
-      ranges = arrays.0.ranges;
-      slots = arrays.0.slots;
-      acpi = acpi.0;
-      hpet = (part_of hpet_of 4 acpi.1).0;
-    }
+    let hpet = part_of hpet_of 4 acpi.1 in
+    joined front.0 arrays.0 acpi.0 hpet.0

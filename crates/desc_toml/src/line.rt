@@ -1,6 +1,6 @@
 //! The line that tells a fault to a person, put together on the stack.
 
-ghost use Rattle.std.specs.Prelude.{◌≡◌, ◌≤◌, ◌<◌, ◌++◌, ◌∷◌, [], length, decimal};
+ghost use Rattle.std.specs.Prelude.{◌≡◌, ◌≤◌, ◌<◌, length};
 ghost use Rattle.desc_schema.specs.Form.{fields_of};
 ghost use Rattle.desc_toml.specs.declared.fault.DescFault.TheVariants.{Broken};
 ghost use Rattle.desc_toml.specs.Lines.{table_name, name_at, key_name, shown_byte, shown, key_line, line_of};
@@ -16,7 +16,7 @@ pub type Line = ArrayString<128>;
 impl DescFault {
     /// Returns the line that tells this fault, with its line feed: the cause, the table, its position and the key, as in
     /// `description: unknown key system 0 colour`, or the rule and its index. Of an unknown key it has the first 64 bytes, and a
-    /// question mark for each that isn't 0x21 to 0x7E.
+    /// question mark for each that isn't 0x21 to 0x7E. For want of memory it is `out of memory`.
     pub fn line(&self) -> Line
         ensures { result.bytes ≡ line_of self.now }
     {

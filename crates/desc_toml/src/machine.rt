@@ -1,11 +1,11 @@
 //! A machine from the values of its description, which are taken out one after the other.
 
 ghost use Rattle.std.specs.Prelude.{◌≡◌, IfOk};
-ghost use Rattle.desc_toml.specs.Values.{part_of, list_of, front_of, arrays_of, machine_of};
+ghost use Rattle.desc_toml.specs.Values.{part_of, list_of, front_of, arrays_of, joined, machine_of};
 
 use crate::parts::Part;
 use desc_schema::Items;
-use machine_desc::{Chassis, Dimm, Firmware, Machine, MemRange, Slot, Socket, System};
+use machine_desc::{Acpi, Chassis, Dimm, Firmware, Hpet, Machine, MemRange, Slot, Socket, System};
 use std::alloc::Global;
 use vt_outside::{List, OutOfMemory, Text};
 
@@ -33,32 +33,38 @@ struct Arrays {
 pub(crate) fn machine_of(alloc: Global, items: &mut Items) -> Result<Machine, OutOfMemory>
     ensures { IfOk result (λ machine. machine ≡ machine_of items.old) }
 {
-    let Front {
-        top_mib,
-        oem_strings,
-        system,
-        firmware,
-        chassis,
-    } = front_of(alloc, items)?;
-    let Arrays {
-        sockets,
-        dimms,
-        ranges,
-        slots,
-    } = arrays_of(alloc, items)?;
-    Ok(Machine {
-        top_mib,
-        oem_strings,
-        system,
-        firmware,
-        chassis,
-        sockets,
-        dimms,
-        ranges,
-        slots,
-        acpi: part_of(alloc, items),
-        hpet: part_of(alloc, items),
-    })
+    let front = front_of(alloc, items)?;
+    match arrays_of(alloc, items) {
+        Ok(arrays) => {
+            let acpi = part_of(alloc, items);
+            let hpet = part_of(alloc, items);
+            Ok(joined(front, arrays, acpi, hpet))
+        }
+        Err(error) => {
+            // Given up by a call, since each of its parts would be a step of this proof if it ended in place.
+            drop(front);
+            Err(error)
+        }
+    }
+}
+
+// The machine of these parts.
+fn joined(front: Front, arrays: Arrays, acpi: Option<Acpi>, hpet: Option<Hpet>) -> Machine
+    ensures { result ≡ joined front arrays acpi hpet }
+{
+    Machine {
+        top_mib: front.top_mib,
+        oem_strings: front.oem_strings,
+        system: front.system,
+        firmware: front.firmware,
+        chassis: front.chassis,
+        sockets: arrays.sockets,
+        dimms: arrays.dimms,
+        ranges: arrays.ranges,
+        slots: arrays.slots,
+        acpi,
+        hpet,
+    }
 }
 
 // What a machine has before its arrays. No version but 1 is read, and there is one table of the system.

@@ -1,4 +1,3 @@
-ghost use Rattle.std.specs.Prelude.{◌≡◌};
 ghost use Rattle.toml.specs.View.{table_view};
 ghost use Rattle.desc_toml.specs.Reading.{Gives, root_in, values_in, machine_in, accepted, read_of};
 
@@ -13,7 +12,7 @@ use toml::Table;
 
 /// Returns the machine that `bytes` describe: they are a TOML document in UTF-8, each key is one that the description may have, with
 /// a value of its kind and within its limits, and the machine keeps every rule of `Machine::check`. Else the error is the first
-/// fault of the bytes, in this order, or `DescFault::OutOfMemory`.
+/// fault of the bytes, in this order, or `DescFault::OutOfMemory`. The machine takes its memory from `alloc`.
 pub fn read_machine(alloc: Global, bytes: &[u8]) -> Result<Machine, DescFault>
     ensures { Gives (λ machine. machine) result (read_of bytes.now) }
 {

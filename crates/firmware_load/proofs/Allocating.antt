@@ -1,5 +1,5 @@
 -- An Allocate that isn't refused: what is known of its file, what an allocator is asked and answers, and what is made of the machine.
-use Rattle.std.proofs.Common.{◌≡◌, ◌≢◌, ℕ, ◌<◌, List, [], ◌∷◌, ◌++◌, length, option_map, Option, Some, None, IsSome, IfSome}
+use Rattle.std.proofs.Common.{◌≡◌, ◌≢◌, ℕ, ◌<◌, ◌⊎◌, List, [], ◌∷◌, ◌++◌, length, option_map, Option, Some, None, IsSome, IfSome}
 use Rattle.std.proofs.Common.{MatchOption, refl, sym, ap, ap₂, subst, arith, ◌∙◌}
 use Rattle.std.specs.Option.{option_map_or}
 use Rattle.std.specs.Str.{bytes_eq}
@@ -94,6 +94,7 @@ some_mapped f (Some x) there = refl
 -- What is known of the file of an Allocate that isn't refused, as the directory lists it, and of a guest that is ready for it.
 pub record IsAllocating (guest : Guest) (name : List ℕ) (align zone : ℕ) (file : Listed) : Type 0 where
   pub none : cause_of (Allocate name align zone) (progress_now guest) ≡ None
+  pub known_zone : (zone ≡ 1) ⊎ (zone ≡ 2)
   pub named : file.name ≡ name
   pub size : file.size ≡ length (bytes_of (files_of guest.device.items) name)
   pub some : 0 < file.size
@@ -121,6 +122,7 @@ allocating guest listed name align zone file ready early found =
     let there : IsSome (info_of (infos_of (files_of items)) name) = is_a_file guest.memory (files_of items) placed name align zone none in
     record {
       none = none;
+      known_zone = can.known_zone;
       named = same;
       size = size;
       some = omega (arith, can.some, size, ap length bytes);

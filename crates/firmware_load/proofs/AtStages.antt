@@ -1,13 +1,11 @@
 -- What the calls of a step of the firmware require, by what the machine keeps at its stage.
-use Rattle.std.proofs.Common.{◌≡◌, ℕ, zero, suc, ◌+◌, ◌-◌, ◌*◌, ◌/◌, ◌%◌, ◌<◌, ◌≤◌, ◌==◌, Bool, true, List, [], ◌++◌, length, take, drop, slice_get, Some, Result, Ok, IfOk, inl, inr}
+use Rattle.std.proofs.Common.{◌≡◌, ℕ, zero, suc, ◌+◌, ◌-◌, ◌*◌, ◌/◌, ◌%◌, ◌<◌, ◌≤◌, Bool, true, List, [], ◌++◌, length, take, drop, slice_get, Some, Result, Ok, IfOk}
 use Rattle.std.proofs.Common.{arith, refl, sym, ap, subst, ◌∙◌, length-append, length-take}
 use Rattle.std.specs.List.{AllByRecursion}
-use Rattle.std.proofs.lemmas.Bool.{eqb-true}
 use Rattle.std.proofs.lemmas.List.{take_at, take_all}
 use Rattle.std.proofs.lemmas.Option.{slice_get_within, get_or_from_slice_get}
 use Rattle.vt_bytes.specs.Numbers.{be, be_bytes}
 use Rattle.vt_bytes.specs.Parts.{part}
-use Rattle.vt_bytes.specs.Memory.{bytes_at}
 use Rattle.vt_bytes.proofs.Bytes.{length-bytes_at}
 use Rattle.vt_bytes.proofs.Each.{each_at}
 use Rattle.cfg_directory.specs.declared.item.Item.{Item}
@@ -17,8 +15,6 @@ use Rattle.cfg_directory.specs.Listing.{entries_of}
 use Rattle.cfg_directory.proofs.Listings.{count_of_files}
 use Rattle.loader_script.specs.declared.entry.Entry.{Entry}
 use Rattle.loader_script.specs.Spelling.{entries_of as commands_of}
-use Rattle.cfg_dma.specs.Transfers.{Attached}
-use Rattle.cfg_dma.specs.Reads.{IsAwaited, IsOver}
 use Rattle.cfg_dma.specs.declared.transfer.Finished.{Finished}
 use Rattle.script_load.specs.Runs.{Answers}
 use Rattle.script_load.specs.declared.fault.LoadFault.{LoadFault}
@@ -34,6 +30,7 @@ use Rattle.load_machine.specs.Machine.{Machine, memory_of}
 use Rattle.load_machine.specs.Steps.{asked, buffered, is_over}
 use Rattle.load_machine.specs.Moves.{most_transfers, count_read, moves, all_reads, script_reads, file_reads}
 use Rattle.load_machine.specs.Kept.{IsKept, IsIdle, StageKeeps, HasScript}
+use Rattle.load_machine.proofs.Looks.{over_now}
 use Rattle.load_machine.proofs.Counting.{entries_room, script_room, few_file_reads}
 use Rattle.load_machine.proofs.NamedItems.{contents_listed}
 use Rattle.load_machine.proofs.PartsDecoded.{script_is, script_whole}
@@ -72,19 +69,11 @@ commands_start {May} {items} {top} {fill} {events} {w} {select} {size} {taken} k
 
 -- ---- stages that await
 
--- an awaited read whose control word is zero is over
-over_now : (items : List Item) (before : List Finished) (transfer : Finished) (a : Attached) → IsAwaited items before descriptor_at transfer a
-    → (be (bytes_at a.memory descriptor_at 4) == 0) ≡ true → IsOver items before descriptor_at transfer a
-over_now items before transfer a awaited cleared = elim awaited as (λ _. IsOver items before descriptor_at transfer a) [
-  | inl moving ↦ absurd (moving.control (eqb-true (be (bytes_at a.memory descriptor_at 4)) 0 cleared))
-  | inr over ↦ over
-]
-
 -- the number of files is at most 1,024
 count_few : {May : Answers} {items : List Item} {top fill : ℕ} {events : List Event} {w : Machine} → IsKept May items top fill events w
     → w.stage ≡ AwaitsCount → is_over w ≡ true → be (buffered 4 w) ≤ 1024
 count_few {May} {items} {top} {fill} {events} {w} kept is cleared =
-    let over = over_now items [] count_read w.attached (at_stage kept is).1 cleared in
+    let over = over_now items [] descriptor_at count_read w.attached (at_stage kept is).1 cleared in
     let held : be (buffered 4 w) ≡ length items =
     ap be (over.held ∙ ap (λ (bytes : List ℕ). part bytes 0 4) (contents_listed items)
     ∙ take_at (be_bytes 4 (length items)) (entries_of items) 4 refl)

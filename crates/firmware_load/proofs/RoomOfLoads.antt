@@ -18,8 +18,8 @@ use Rattle.load_machine.specs.Loads.{script_size}
 use Rattle.load_machine.specs.Moves.{all_reads, most_transfers, pieces_of}
 use Rattle.load_machine.proofs.Counting.{length-first_reads}
 
--- no item has more bytes than all of them
-named_small : (items : List Item) (name : List ℕ) (item : Item) → named items name ≡ Some item → length item.bytes ≤ total_size items
+-- No item has more bytes than all of them.
+pub named_small : (items : List Item) (name : List ℕ) (item : Item) → named items name ≡ Some item → length item.bytes ≤ total_size items
 named_small [] name item there = absurd (none-some item there)
 named_small (first ∷ items) name item there =
     let all : total_size (first ∷ items) ≡ length first.bytes + total_size items = sum_by-cons (λ (x : Item). length x.bytes) first items in

@@ -19,6 +19,7 @@ ghost use Rattle.load_machine.specs.Runs.{request_for};
 ghost use Rattle.script_load.specs.Runs.{early_cause};
 ghost use Rattle.firmware_load.specs.Inside.{machine_at, progress_now, IsReady, GoesByCommand};
 
+use crate::firmware::find_listed;
 use crate::guest::{Guest, selected_read};
 use cfg_directory::Listed;
 use guest_memory::TooFar;
@@ -77,6 +78,7 @@ impl Guest {
                 length,
             } => self.add_checksum(file, *offset, *start, *length, index),
             Entry::Skipped(_) => Stage::AtCommand(index + 1),
+            // Neither comes here: WRITE_POINTER is read as skipped, and a misnamed command is refused above.
             Entry::WritePointer { .. } | Entry::Misnamed(_) => unreachable!(),
         }
     }
@@ -205,5 +207,5 @@ fn listed_of<'a>(listed: &'a [Listed], name: &Name) -> &'a Listed
     requires { IsSome (listed_named listed.now name.now) }
     ensures { listed_named listed.now name.now ≡ Some result.now }
 {
-    listed.iter().find(|file| file.name == *name).unwrap()
+    find_listed(listed, name).unwrap()
 }

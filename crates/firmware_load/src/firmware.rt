@@ -1,4 +1,5 @@
-ghost use Rattle.std.specs.Prelude.{◌≡◌, ◌≢◌, ℕ, ◌+◌, ◌++◌, ◌-◌, ◌*◌, ◌/◌, ◌%◌, ◌<◌, ◌≤◌, ◌^◌, ◌==◌, true, false, length, None, Some, List, vec_len, vec_capacity, if◌then◌else◌};
+ghost use Rattle.std.specs.Prelude.{◌≡◌, ◌≢◌, ℕ, ◌+◌, ◌++◌, ◌-◌, ◌*◌, ◌/◌, ◌%◌, ◌<◌, ◌≤◌, ◌^◌, ◌==◌, true, false, length};
+ghost use Rattle.std.specs.Prelude.{None, Some, List, vec_len, vec_capacity, if◌then◌else◌};
 ghost use Rattle.std.specs.Option.{option_copied};
 ghost use Rattle.vt_bytes.specs.Numbers.{be};
 ghost use Rattle.cfg_directory.specs.declared.listed.Listed.{Listed as ListedFile};
@@ -8,7 +9,8 @@ ghost use Rattle.cfg_dma.specs.Reads.{selected_read, next_read};
 ghost use Rattle.script_load.specs.Allocators.{AreZonesOf, MayAnswer};
 ghost use Rattle.script_load.specs.FilesInMemory.{placed_ranges};
 ghost use Rattle.load_machine.specs.declared.event.Event.TheVariants.{Firmware};
-ghost use Rattle.load_machine.specs.declared.stage.Stage.TheVariants.{AsksCount, AwaitsCount, AsksEntries, AwaitsEntries, AsksScript, AwaitsScript, AtCommand, AwaitsFile};
+ghost use Rattle.load_machine.specs.declared.stage.Stage.TheVariants.{AsksCount, AwaitsCount, AsksEntries, AwaitsEntries, AsksScript};
+ghost use Rattle.load_machine.specs.declared.stage.Stage.TheVariants.{AwaitsScript, AtCommand, AwaitsFile};
 ghost use Rattle.load_machine.specs.Machine.{listed_named};
 ghost use Rattle.load_machine.specs.Runs.{StepsTo, request_of};
 ghost use Rattle.load_machine.specs.Steps.{asked, buffered, is_over, counted, entries_taken, commands_taken, stage_for, firmware_step};
@@ -17,10 +19,10 @@ ghost use Rattle.firmware_load.specs.Inside.{machine_of, IsInside, SameRooms};
 
 use crate::guest::{BUFFER, BUFFER_BYTES, Guest, NEXT_READ, selected_read};
 use crate::loading::Loading;
-use cfg_directory::{Listed, list_entries};
+use cfg_directory::{ENTRY_SIZE, Listed, list_entries};
 use image_files::loader_name;
 use load_machine::Stage;
-use loader_script::{Entry, decode_entry};
+use loader_script::{ENTRY_BYTES, Entry, LONGEST_SCRIPT, decode_entry};
 use script_load::LoadFault;
 use vt_bytes::get_be;
 use vt_outside::Name;
@@ -28,14 +30,6 @@ use zone_alloc::ZoneAlloc;
 
 // The selector of the directory.
 const DIRECTORY: u16 = 0x19;
-
-// How many bytes an entry of the directory has, and a command of a script.
-const ENTRY_BYTES: u32 = 64;
-
-const COMMAND_BYTES: usize = 128;
-
-// The most bytes of a script.
-const LONGEST_SCRIPT: u32 = 1_048_576;
 
 impl Loading {
     /// Takes a step of the firmware.
@@ -49,7 +43,8 @@ impl Loading {
         ensures rooms { SameRooms self.old self.new }
         ensures handed { A.handed place.new ≡ placed_ranges self.new.guest.placements.placed.items }
         ensures unasked { request_of Firmware (machine_of self.old) ≡ None → place.new ≡ place.old }
-        ensures no_room { IsWithoutRoom Firmware (machine_of self.old) (machine_of self.new) (A.refusals place.old) (A.refusals place.new) (A.refused place.new) }
+        ensures no_room { IsWithoutRoom Firmware (machine_of self.old) (machine_of self.new)
+            (A.refusals place.old) (A.refusals place.new) (A.refused place.new) }
         ensures sound { IsSound (machine_of self.old) (machine_of self.new) (A.refusals place.old) (A.refusals place.new) }
         ensures zones { A.zones place.new ≡ A.zones place.old }
         ensures policy { A.policy place.new ≡ A.policy place.old }
@@ -100,7 +95,7 @@ impl Loading {
                 Stage::Refused(LoadFault::NoScript)
             } else {
                 Stage::AsksEntries {
-                    size: ENTRY_BYTES * count,
+                    size: ENTRY_SIZE as u32 * count,
                     taken: 0,
                 }
             };
@@ -128,7 +123,7 @@ impl Loading {
         if self.guest.is_over() {
             let count = asked(size - taken);
             let entries = self.guest.buffered(count);
-            list_entries(count / ENTRY_BYTES, entries, &mut self.listed);
+            list_entries(count / ENTRY_SIZE as u32, entries, &mut self.listed);
             self.stage = if taken + count == size {
                 stage_for(&self.listed)
             } else {
@@ -190,7 +185,8 @@ impl Loading {
         ensures rooms { SameRooms self.old self.new }
         ensures handed { A.handed place.new ≡ placed_ranges self.new.guest.placements.placed.items }
         ensures unasked { request_of Firmware (machine_of self.old) ≡ None → place.new ≡ place.old }
-        ensures no_room { IsWithoutRoom Firmware (machine_of self.old) (machine_of self.new) (A.refusals place.old) (A.refusals place.new) (A.refused place.new) }
+        ensures no_room { IsWithoutRoom Firmware (machine_of self.old) (machine_of self.new)
+            (A.refusals place.old) (A.refusals place.new) (A.refused place.new) }
         ensures sound { IsSound (machine_of self.old) (machine_of self.new) (A.refusals place.old) (A.refusals place.new) }
         ensures zones { A.zones place.new ≡ A.zones place.old }
         ensures policy { A.policy place.new ≡ A.policy place.old }
@@ -248,8 +244,8 @@ fn stage_for(listed: &[Listed]) -> Stage
     }
 }
 
-// The listed file of the name, if there is one.
-fn find_listed<'a>(listed: &'a [Listed], name: &Name) -> Option<&'a Listed>
+/// Returns the listed file of the name, if there is one.
+pub(crate) fn find_listed<'a>(listed: &'a [Listed], name: &Name) -> Option<&'a Listed>
     ensures { option_copied result ≡ listed_named listed.now name.now }
 {
     listed.iter().find(|file| file.name == *name)
@@ -259,7 +255,7 @@ fn find_listed<'a>(listed: &'a [Listed], name: &Name) -> Option<&'a Listed>
 fn stage_of_script(select: u16, size: u32) -> Stage
     ensures { (name : List ℕ) → result ≡ stage_for (Some (record { name = name; select = select; size = size })) }
 {
-    if !size.is_multiple_of(COMMAND_BYTES as u32) || size > LONGEST_SCRIPT {
+    if !size.is_multiple_of(ENTRY_BYTES as u32) || size > LONGEST_SCRIPT as u32 {
         Stage::Refused(LoadFault::ScriptLength)
     } else if size == 0 {
         Stage::AtCommand(0)
@@ -279,7 +275,7 @@ fn take_commands(bytes: &[u8], script: &mut Vec<Entry>)
     ensures after { script.new.items ≡ script.old.items ++ entries_of (length bytes.now / 128) bytes.now }
     ensures capacity { vec_capacity script.new ≡ vec_capacity script.old }
 {
-    let (commands, _rest) = bytes.as_chunks::<COMMAND_BYTES>();
+    let (commands, _rest) = bytes.as_chunks::<ENTRY_BYTES>();
     for command in commands {
         script.push_reserved(decode_entry(command));
     }

@@ -10,14 +10,12 @@ use cfg_dma::Device;
 use guest_memory::GuestMemory;
 use script_load::Placements;
 use vt_bytes::{get_be, put_be};
-
-// How many bytes of high memory files may be placed in.
-const HIGH_ZONE_BYTES: u64 = 0x100_0000;
+use zone_alloc::zones_of;
 
 // Where the firmware works: 16 bytes for the descriptor of a transfer, and a buffer that it reads through.
 const DESCRIPTOR: u64 = 0x7000;
 
-const DESCRIPTOR_LOW: u32 = 0x7000;
+const DESCRIPTOR_LOW: u32 = DESCRIPTOR as u32;
 
 /// Where the firmware's buffer is.
 pub(crate) const BUFFER: u64 = 0x8000;
@@ -118,9 +116,9 @@ fn is_guarded(top: u32, addr: u64) -> bool
     requires { IsTop top }
     ensures { result ≡ is_guarded top addr }
 {
-    let high = u64::from(top) - HIGH_ZONE_BYTES;
-    (0x7000..0x7010).contains(&addr)
-        || (0x8000..0x9000).contains(&addr)
+    let zones = zones_of(top);
+    (DESCRIPTOR..DESCRIPTOR + 16).contains(&addr)
+        || (BUFFER..BUFFER + u64::from(BUFFER_BYTES)).contains(&addr)
         || (0xE_0000..0x10_0000).contains(&addr)
-        || (high..u64::from(top)).contains(&addr)
+        || (zones.high_start..zones.high_end).contains(&addr)
 }

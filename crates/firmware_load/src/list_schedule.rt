@@ -9,7 +9,7 @@ use vt_outside::List;
 #[derive(Debug, Drop)]
 pub struct ListSchedule {
     events: List<Event>,
-    // How many of them are taken, or not to be given.
+    // How many of them are taken: before the first `begin` all, so that none is left.
     taken: usize,
 }
 

@@ -3,27 +3,24 @@ ghost use Rattle.load_machine.specs.Loads.{script_size};
 ghost use Rattle.load_machine.specs.Moves.{most_transfers, pieces_of};
 ghost use Rattle.script_load.specs.Script.{script_in};
 
-use cfg_directory::Items;
+use crate::guest::BUFFER_BYTES;
+use cfg_directory::{ENTRY_SIZE, Items};
 use image_files::loader_name;
-
-// The most bytes of a script, and how many a command has.
-const LONGEST_SCRIPT: usize = 1_048_576;
-
-const COMMAND_BYTES: usize = 128;
+use loader_script::{ENTRY_BYTES, LONGEST_SCRIPT};
 
 /// Returns how many transfers a load of items makes at most.
 pub(crate) fn most_transfers(items: &Items) -> u32
     ensures { result ≡ most_transfers items.now }
 {
     let files = items.all().len() as u32;
-    1 + pieces_of(64 * files) + pieces_of(script_size(items)) + files
+    1 + pieces_of(ENTRY_SIZE as u32 * files) + pieces_of(script_size(items)) + files
 }
 
 /// Returns a number of commands that no script of the items exceeds.
 pub(crate) fn script_len(items: &Items) -> usize
     ensures { IfOk (script_in items.now) (λ script. length script ≤ result) }
 {
-    (script_size(items) as usize).min(LONGEST_SCRIPT) / COMMAND_BYTES
+    (script_size(items) as usize).min(LONGEST_SCRIPT) / ENTRY_BYTES
 }
 
 // How many bytes the file of the script has, if there is one.
@@ -44,5 +41,5 @@ fn pieces_of(size: u32) -> u32
     requires { size < 2 ^ 32 - 4096 }
     ensures value { result ≡ pieces_of size }
 {
-    (size + 4095) / 4096
+    (size + (BUFFER_BYTES - 1)) / BUFFER_BYTES
 }

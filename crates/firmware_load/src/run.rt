@@ -133,7 +133,8 @@ impl Loading {
         requires zones { AreZonesOf self.old.guest.memory.top (A.zones place.old) }
         requires handed { A.handed place.old ≡ placed_ranges self.old.guest.placements.placed.items }
         ensures inside { IsInside self.new }
-        ensures turn { IsTurn (MayAnswer A.handed A.zones A.policy A.gives (A.zones place.old) (A.policy place.old)) (machine_of self.old) (machine_of self.new) }
+        ensures turn { IsTurn (MayAnswer A.handed A.zones A.policy A.gives (A.zones place.old) (A.policy place.old))
+            (machine_of self.old) (machine_of self.new) }
         ensures asks { AsksOnTheWay self.old self.new (A.refusals place.old) (A.refusals place.new) (A.refused place.old) (A.refused place.new) }
         ensures handed { A.handed place.new ≡ placed_ranges self.new.guest.placements.placed.items }
         ensures zones { A.zones place.new ≡ A.zones place.old }

@@ -14,7 +14,9 @@ use std::marker::Model;
 const EVENTS_OF_A_SEED: u32 = 4096;
 
 /// A schedule that draws the events of a seed from the words of `Pcg32::seed_from_u64` (`rand_pcg`) of this seed: its 32-bit outputs, in
-/// their order. Seed 0 has no events, and any other seed has 4,096.
+/// their order. Seed 0 has no events, and any other seed has 4,096. A word `w` draws, by `w % 4`: with 0 a step of the firmware, with 1 and
+/// 2 a piece of `1 + w / 4 % 4096` bytes, and with 3 a write, whose address is the next word modulo 0x100000 and whose byte is the one
+/// behind it modulo 256.
 #[derive(Debug, Drop)]
 pub struct SeededSchedule {
     // The words that come next.

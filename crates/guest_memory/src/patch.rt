@@ -4,6 +4,7 @@ ghost use Rattle.vt_bytes.specs.Memory.{IsRamRange, IsMemory, bytes_at, with_byt
 
 use crate::memory::GuestMemory;
 use thiserror::Error;
+use vt_bytes::get_le;
 
 /// A sum doesn't fit in its field.
 #[derive(Clone, Copy, Debug, PartialEq, Eq, Error)]
@@ -34,6 +35,19 @@ impl GuestMemory {
         }
         self.put_number(address, size, sum);
         Ok(())
+    }
+
+    // The little-endian number of `size` bytes at an address.
+    fn number_at(&self, address: u64, size: u8) -> u64
+        requires some { 1 ≤ size }
+        requires size { size ≤ 8 }
+        requires ram { IsRamRange self.now.top address size }
+        ensures { result ≡ le (bytes_at self.now address size) }
+    {
+        let size = usize::from(size);
+        let mut bytes = [0; 8];
+        self.copy_out(address, &mut bytes[..size]);
+        get_le(&bytes, 0, size)
     }
 
     // Puts a number in `size` bytes at an address, low byte first.

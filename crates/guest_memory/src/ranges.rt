@@ -1,14 +1,14 @@
 ghost use Rattle.std.specs.Prelude.{◌≡◌, ◌+◌, ◌%◌, ◌<◌, ◌≤◌, ◌↔◌, length, take, IsTrue};
-ghost use Rattle.vt_bytes.specs.Numbers.{byte_sum, le};
+ghost use Rattle.vt_bytes.specs.Numbers.{byte_sum};
 ghost use Rattle.vt_bytes.specs.Memory.{IsRam, IsRamRange, IsMemory, bytes_at, with_bytes};
 ghost use Rattle.guest_memory.specs.RamRange.{is_ram_range, LieInARange};
 
 use crate::memory::{FRAME_BYTES, GuestMemory, ram_ranges};
-use vt_bytes::{AddressRange, byte_sum, get_le};
+use vt_bytes::{AddressRange, byte_sum};
 
 impl GuestMemory {
-    /// Tells whether each of the `len` bytes from the guest address `address` on is RAM. No bytes are, wherever they are said to
-    /// begin.
+    /// Tells whether each of the `len` bytes from the guest address `address` on is RAM. Where `len` is 0 it is true, whatever
+    /// `address` is.
     pub fn is_ram_range(&self, address: u64, len: u32) -> bool
         ensures value { result ≡ is_ram_range self.now.top address len }
         ensures ram { IsTrue result ↔ IsRamRange self.now.top address len }
@@ -61,19 +61,6 @@ impl GuestMemory {
         sum
     }
 
-    // The little-endian number of `size` bytes at an address.
-    pub(crate) fn number_at(&self, address: u64, size: u8) -> u64
-        requires some { 1 ≤ size }
-        requires size { size ≤ 8 }
-        requires ram { IsRamRange self.now.top address size }
-        ensures { result ≡ le (bytes_at self.now address size) }
-    {
-        let size = usize::from(size);
-        let mut bytes = [0; 8];
-        self.copy_out(address, &mut bytes[..size]);
-        get_le(&bytes, 0, size)
-    }
-
     /// Reads as many bytes as `bytes` has from the guest address `address` on into `bytes`. Each of those addresses must be RAM.
     /// Where `bytes` is empty, `address` may be any number.
     pub fn copy_out(&self, address: u64, bytes: &mut [u8])
@@ -102,7 +89,7 @@ impl GuestMemory {
         len
     }
 
-    // Reads as many bytes as `bytes` has and the frame of an address, and returns how many.
+    // Reads the bytes from an address on into the front of `bytes`, as many as fit and as its frame has, and returns how many.
     fn get_from_frame(&self, address: u64, bytes: &mut [u8]) -> usize
         requires some { 0 < length bytes.old }
         requires ram { IsRam self.now.top address }

@@ -11,7 +11,7 @@ use Rattle.loader_script.specs.Run.{File, file_of}
 use Rattle.loader_script.specs.Spelling.{entry_bytes}
 use Rattle.loader_script.proofs.Named.{other_name}
 use Rattle.vt_bytes.proofs.Each.{each_from}
-use Rattle.image_files.specs.Files.{ImageFile, is_before, among, by_name}
+use Rattle.image_files.specs.Files.{ImageFile, is_not_behind, among, by_name}
 use Rattle.image_files.specs.Script.{script_of}
 use Rattle.image_files.specs.Items.{items_from, loader_name, loader_file, items_of, files_of}
 use Rattle.image_files.specs.Linkable.{HasNoName, AreDistinct}
@@ -30,7 +30,7 @@ module _ (P : ImageFile → Type 0) where
   pub each_among : (file : ImageFile) (files : List ImageFile) → P file → AllByRecursion P files → AllByRecursion P (among file files)
   each_among file [] one all = (one, tt)
   each_among file (first ∷ others) one all =
-      elim (is_before file.name first.name) as
+      elim (is_not_behind file.name first.name) as
       (λ before. AllByRecursion P (cond before (file ∷ first ∷ others) (first ∷ among file others))) [
         | true ↦ (one, all)
         | false ↦ (all.0, each_among file others one all.1)
@@ -40,7 +40,7 @@ module _ (P : ImageFile → Type 0) where
   pub each_of_among : (file : ImageFile) (files : List ImageFile) → AllByRecursion P (among file files) → AllByRecursion P (file ∷ files)
   each_of_among file [] all = all
   each_of_among file (first ∷ others) all =
-      elim (is_before file.name first.name) as
+      elim (is_not_behind file.name first.name) as
       (λ before. AllByRecursion P (cond before (file ∷ first ∷ others) (first ∷ among file others)) → AllByRecursion P (file ∷ first ∷ others)) [
         | true ↦ λ all. all
         | false ↦ λ all.
@@ -73,7 +73,7 @@ HasNoName-by_name files name none = each_by_name (λ (f : ImageFile). bytes_eq f
 pub AreDistinct-among : (file : ImageFile) (files : List ImageFile) → HasNoName files file.name → AreDistinct files → AreDistinct (among file files)
 AreDistinct-among file [] none distinct = (tt, tt)
 AreDistinct-among file (first ∷ others) none distinct =
-    elim (is_before file.name first.name) as (λ before. AreDistinct (cond before (file ∷ first ∷ others) (first ∷ among file others))) [
+    elim (is_not_behind file.name first.name) as (λ before. AreDistinct (cond before (file ∷ first ∷ others) (first ∷ among file others))) [
       | true ↦ (none, distinct)
       | false ↦ (
         HasNoName-among file others first.name (differ_turned first.name file.name none.0) distinct.0,
@@ -91,7 +91,7 @@ AreDistinct-by_name (file ∷ files) distinct =
 pub length-among : (file : ImageFile) (files : List ImageFile) → length (among file files) ≡ suc (length files)
 length-among file [] = refl
 length-among file (first ∷ others) =
-    elim (is_before file.name first.name) as
+    elim (is_not_behind file.name first.name) as
     (λ before. length (cond before (file ∷ first ∷ others) (first ∷ among file others)) ≡ suc (length (first ∷ others))) [
       | true ↦ refl
       | false ↦ ap suc (length-among file others)
@@ -110,7 +110,7 @@ sum_by-among f file (first ∷ others) =
     let before_all = sum_by-cons f file (first ∷ others) in
     let with_first = sum_by-cons f first others in
     let first_of_all = sum_by-cons f first (among file others) in
-    elim (is_before file.name first.name) as
+    elim (is_not_behind file.name first.name) as
     (λ before. sum_by f (cond before (file ∷ first ∷ others) (first ∷ among file others)) ≡ f file + sum_by f (first ∷ others)) [
       | true ↦ before_all
       | false ↦ omega arith

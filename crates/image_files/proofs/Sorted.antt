@@ -8,7 +8,7 @@ use Rattle.std.specs.Cmp.Lexicographic.{slice_cmp}
 use Rattle.std.specs.Ordering.{nat_cmp, ordering_then}
 use Rattle.vt_outside.specs.Name.{in_field, is_printable, IsName}
 use Rattle.vt_outside.proofs.Names.{Printable, Printable-from}
-use Rattle.image_files.specs.Files.{ImageFile, is_before, among, by_name}
+use Rattle.image_files.specs.Files.{ImageFile, is_not_behind, among, by_name}
 
 -- files put among others, the last of them first
 abbrev pub sorted_onto : List ImageFile → List ImageFile → List ImageFile
@@ -28,15 +28,15 @@ onto_last (first ∷ files) file sorted = ap (among first) (onto_last files file
 
 -- a file is put in front of the first one whose name it isn't behind
 pub among_is : (file : ImageFile) (files : List ImageFile)
-    → insert files (position_or_len (λ (other : ImageFile). is_before file.name other.name) files) file ≡ among file files
+    → insert files (position_or_len (λ (other : ImageFile). is_not_behind file.name other.name) files) file ≡ among file files
 among_is file [] = refl
 among_is file (first ∷ files) =
-    elim (is_before file.name first.name) as (λ before.
-    insert (first ∷ files) (cond (not before) (1 + position_or_len (λ (other : ImageFile). is_before file.name other.name) files) 0) file
+    elim (is_not_behind file.name first.name) as (λ before.
+    insert (first ∷ files) (cond (not before) (1 + position_or_len (λ (other : ImageFile). is_not_behind file.name other.name) files) 0) file
     ≡ cond before (file ∷ first ∷ files) (first ∷ among file files)) [
       | true ↦ refl
       | false ↦
-          let place : ℕ = position_or_len (λ (other : ImageFile). is_before file.name other.name) files in
+          let place : ℕ = position_or_len (λ (other : ImageFile). is_not_behind file.name other.name) files in
           let next : 1 + place ≡ suc place = omega arith in
           ap (λ (k : ℕ). insert (first ∷ files) k file) next ∙ ap (λ (fs : List ImageFile). first ∷ fs) (among_is file files)
     ]

@@ -18,13 +18,13 @@ abbrev pub whole : List ℕ → BlobState
 whole bytes = record { bytes = bytes; pointers = []; sums = [] }
 
 -- a name isn't behind another one, by their bytes
-abbrev pub is_before : List ℕ → List ℕ → Bool
-is_before name other = is_le (slice_cmp nat_cmp name other)
+abbrev pub is_not_behind : List ℕ → List ℕ → Bool
+is_not_behind name other = is_le (slice_cmp nat_cmp name other)
 
 -- a file among others, in front of the first one whose name it isn't behind
 abbrev pub among : ImageFile → List ImageFile → List ImageFile
 among file [] = file ∷ []
-among file (first ∷ others) = if is_before file.name first.name then file ∷ first ∷ others else first ∷ among file others
+among file (first ∷ others) = if is_not_behind file.name first.name then file ∷ first ∷ others else first ∷ among file others
 
 -- the files in the order of their names
 abbrev pub by_name : List ImageFile → List ImageFile

@@ -2,7 +2,7 @@
 
 ghost use Rattle.std.specs.Prelude.{◌≡◌, ◌≤◌, length, OnOk, IfOk};
 ghost use Rattle.std.specs.List.{position_or_len};
-ghost use Rattle.image_files.specs.Files.{is_before, among, by_name};
+ghost use Rattle.image_files.specs.Files.{is_not_behind, among, by_name};
 
 use crate::file::ImageFile;
 use std::alloc::Global;
@@ -35,17 +35,17 @@ pub(crate) fn put_among(files: &mut Vec<ImageFile>, file: ImageFile) -> Result<(
 // How many files stand in front of the first one whose name this one isn't behind.
 fn place_among(files: &[ImageFile], name: Name) -> usize
     ensures within { result ≤ length files.now }
-    ensures first { result ≡ position_or_len (λ other. is_before name other.name) files.now }
+    ensures first { result ≡ position_or_len (λ other. is_not_behind name other.name) files.now }
 {
     files
         .iter()
-        .position(|other| is_before(&name, &other.name))
+        .position(|other| is_not_behind(&name, &other.name))
         .unwrap_or(files.len())
 }
 
-// Whether a name isn't behind another one, by their bytes. Zeros behind a name's bytes change nothing, since it has none.
-fn is_before(name: &Name, other: &Name) -> bool
-    ensures { result ≡ is_before name.now other.now }
+// Whether a name isn't behind another one, by their bytes. The zeros behind it in its field change nothing, since no name has a zero byte.
+fn is_not_behind(name: &Name, other: &Name) -> bool
+    ensures { result ≡ is_not_behind name.now other.now }
 {
     name.bytes().cmp(&other.bytes()).is_le()
 }

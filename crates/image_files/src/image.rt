@@ -4,7 +4,7 @@ ghost use Rattle.loader_script.specs.Spelling.{CanBeWritten, Fits};
 ghost use Rattle.cfg_directory.specs.Items.{total_size};
 ghost use Rattle.image_files.specs.declared.image.ImageBuildFault.TheVariants.{ImageTooLarge, OutOfMemory as NoMemory};
 ghost use Rattle.image_files.specs.Files.{by_name};
-ghost use Rattle.image_files.specs.Script.{script_of};
+ghost use Rattle.image_files.specs.Script.{script_of, add_pointers};
 ghost use Rattle.image_files.specs.Items.{AreSorted, items_from, items_of, total_bytes, image_limit, loader_name, loader_file};
 ghost use Rattle.image_files.specs.Linkable.{HasNoName, AreDistinct};
 
@@ -97,10 +97,22 @@ fn arrange(alloc: Global, files: Vec<ImageFile>, later: &[Entry]) -> Result<Arra
     let mut sums = List::new(alloc);
     push_checksums(&mut sums, files.as_slice())?;
     let sorted = by_name(alloc, files)?;
-    push_pointers(&mut script, sorted.as_slice())?;
-    script.extend(sums.as_slice())?;
-    script.extend(later)?;
+    push_links(&mut script, sorted.as_slice(), sums.as_slice(), later)?;
     Ok(Arranged { sorted, script })
+}
+
+// Adds the commands on the pointers of files in the order of their names, those on sums, and others.
+fn push_links(
+    script: &mut List<Entry>,
+    sorted: &[ImageFile],
+    sums: &[Entry],
+    later: &[Entry],
+) -> Result<(), OutOfMemory>
+    ensures { OnOk result (script.new ≡ script.old ++ flat_map add_pointers sorted.now ++ sums.now ++ later.now) }
+{
+    push_pointers(script, sorted)?;
+    script.extend(sums)?;
+    script.extend(later)
 }
 
 // The items of files, in their order, unless they have too many bytes in all.

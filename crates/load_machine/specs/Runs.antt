@@ -52,11 +52,6 @@ StepsTo May event w next =
 abbrev pub AnyLawful : ℕ → Answers
 AnyLawful top handed request answer = IfSome answer (λ place. IsFree (zone_range top request.zone) handed request.size request.align place)
 
--- the run over a list of events, one after the other
-abbrev pub RunsTo : Answers → List Event → Machine → Machine → Type 0
-RunsTo May [] w last = last ≡ w
-RunsTo May (event ∷ events) w last = (next : Machine) × StepsTo May event w next × RunsTo May events next last
-
 -- whether the load has ended
 abbrev pub has_ended : Stage → Bool
 has_ended Done = true

@@ -74,8 +74,8 @@ placed_at index name place (Some file) w = record (starting (selected_read file.
   placed = w.placed ++ record { name = name; place = place; size = file.size } ∷ [];
 }
 
--- What a command that isn't refused makes of the machine, with the place that an allocator gave for an Allocate. No command writes to fw_cfg
--- yet, and a misnamed one is refused before.
+-- What a command that isn't refused makes of the machine, with the place that an allocator gave for an Allocate. No script that is read has a
+-- WritePointer, and a misnamed command is refused before.
 abbrev pub carried_out : ℕ → Entry → Option ℕ → Machine → Machine
 carried_out index (Allocate name align zone) None w = record w { stage = Refused (fault.NoRoom index) }
 carried_out index (Allocate name align zone) (Some place) w = placed_at index name place (listed_named w.listed name) w

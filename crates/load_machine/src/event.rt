@@ -5,7 +5,7 @@ pub enum Event {
     Device(u32),
     /// The firmware takes a step.
     Firmware,
-    /// Another processor writes one byte of memory.
+    /// Another processor writes one byte of memory. It has no effect where the address is no RAM, or is guarded.
     Other {
         /// The byte's address.
         addr: u64,

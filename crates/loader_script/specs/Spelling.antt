@@ -45,7 +45,7 @@ entry_bytes entry = spelled (rows_of entry)
 abbrev pub Fits : Entry → Type 0
 Fits entry = AllByRecursion IsRow (rows_of entry)
 
--- what a command says with a name that is read, or that it says nothing where that is no name
+-- the entry of a command with a name that was read, or a misnamed one where the field holds no file name
 abbrev pub with_name : ℕ → Result (List ℕ) NameFault → (List ℕ → Entry) → Entry
 with_name command (Ok name) entry = entry name
 with_name command (Err fault) entry = Misnamed command
@@ -68,7 +68,7 @@ add_checksum_of bytes =
     with_name 3 (read_name 1 rows bytes)
     (λ file. AddChecksum file (read_number 2 rows bytes) (read_number 3 rows bytes) (read_number 4 rows bytes))
 
--- The entry that 128 bytes are. Any other command is skipped; WRITE_POINTER, command 4, is among them for now.
+-- The entry that 128 bytes are. A command of another number is skipped, WRITE_POINTER (4) too, which no load carries out.
 unfoldable pub entry_of : List ℕ → Entry
 entry_of bytes =
     let command = read_number 0 (command_rows 0) bytes in

@@ -2,7 +2,7 @@
 
 ghost use Rattle.std.specs.Prelude.{◌≡◌, ℕ, suc, ◌*◌, ◌↔◌, List, length, slice_get, Some, None};
 ghost use Rattle.std.specs.List.{flat_map, AllByRecursion};
-ghost use Rattle.loader_script.specs.Run.{File, Progress, End, Done, Command, NoRoom, cause_of, carried_out, run, after_first};
+ghost use Rattle.loader_script.specs.Run.{File, Progress, Done, Command, NoRoom, cause_of, carried_out, run, after_first};
 ghost use Rattle.loader_script.specs.Conditions.{CanCarryOut};
 ghost use Rattle.loader_script.specs.declared.refusing.Cause.{Cause};
 ghost use Rattle.loader_script.specs.Spelling.{entry_of, entries_of, entry_bytes, Fits, IsReadAgain};
@@ -31,12 +31,6 @@ pub fn written_script_is_read()
 /// States that a command isn't refused exactly where its conditions hold.
 pub fn commands_are_refused_by_their_conditions()
     ensures { (entry : Entry) (p : Progress) → (cause_of entry p ≡ None) ↔ CanCarryOut entry p }
-{}
-
-/// States that for given files, commands and places there is one end of a run.
-pub fn one_end()
-    ensures { (files : List File) (script : List Entry) (places : List ℕ) (a b : End × Progress)
-        → run files script places ≡ a → run files script places ≡ b → a ≡ b }
 {}
 
 /// States that each command of a run that ends as Done isn't refused, and is carried out in its turn.

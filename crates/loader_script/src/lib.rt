@@ -14,6 +14,6 @@ mod rows;
 mod writing;
 
 pub use entry::Entry;
-pub use reading::{ScriptFault, decode_entry, decode_script};
+pub use reading::{ENTRY_BYTES, LONGEST_SCRIPT, ScriptFault, decode_entry, decode_script};
 pub use refusing::{Cause, FileInfo, refusal};
 pub use writing::encode_script;

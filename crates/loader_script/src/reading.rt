@@ -8,11 +8,11 @@ use std::alloc::Global;
 use vt_layout::{blank_name, read_name, read_u8, read_u32};
 use vt_outside::{List, OutOfMemory};
 
-// How many bytes an entry has.
-const ENTRY: usize = 128;
+/// How many bytes an entry of a script has.
+pub const ENTRY_BYTES: usize = 128;
 
-// The most bytes of a script.
-const LONGEST: usize = 1_048_576;
+/// How many bytes a script has at most.
+pub const LONGEST_SCRIPT: usize = 1_048_576;
 
 /// Why bytes are no script.
 #[derive(Clone, Copy, Debug, PartialEq, Eq)]
@@ -52,8 +52,8 @@ pub fn decode_script(alloc: Global, bytes: &[u8]) -> Result<List<Entry>, ScriptF
     ensures ok { IfOk result (λ script. script ≡ entries_of (length bytes.now / 128) bytes.now) }
     ensures fault { (result ≡ Err ScriptFault.ScriptLength) ↔ (is_script_length (length bytes.now) ≡ false) }
 {
-    let (entries, rest) = bytes.as_chunks::<ENTRY>();
-    if !rest.is_empty() || bytes.len() > LONGEST {
+    let (entries, rest) = bytes.as_chunks::<ENTRY_BYTES>();
+    if !rest.is_empty() || bytes.len() > LONGEST_SCRIPT {
         return Err(ScriptFault::ScriptLength);
     }
     let mut script = List::new(alloc);

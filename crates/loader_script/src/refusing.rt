@@ -7,7 +7,7 @@ use crate::entry::Entry;
 use vt_layout::is_pointer_size;
 use vt_outside::Name;
 
-/// Why a command is refused.
+/// Why a command is refused. Of several causes the first one in this order is told.
 #[derive(Clone, Copy, Debug, PartialEq, Eq)]
 pub enum Cause {
     /// The field of one of its names holds no file name.

@@ -77,11 +77,11 @@ is_some_text text = not (length text == 0)
 abbrev pub is_lawful_chassis : Chassis → Bool
 is_lawful_chassis c = nat_le 1 c.kind && nat_le c.kind 127
 
--- A processor has a core, and as many threads or more. 65,535 of them would be unknown (DSP0134 7.5.9).
+-- A processor has a core, and as many threads or more. The count 65,535 is reserved (DSP0134 7.5).
 abbrev pub is_lawful_socket : Socket → Bool
 is_lawful_socket s = nat_le 1 s.cores && nat_le s.cores s.threads && nat_le s.threads 65534
 
--- at most 16 TiB, and a speed that isn't the mark of an unknown one
+-- 1 MiB to 16 TiB, and a speed of at most 65,534, where 0 stands for an unknown one
 abbrev pub is_lawful_dimm : Dimm → Bool
 is_lawful_dimm d = nat_le 1 d.size_mib && nat_le d.size_mib 16777216 && nat_le d.speed 65534
 
@@ -110,7 +110,7 @@ abbrev pub are_joined : ℕ → ℕ → List MemRange → Bool
 are_joined from to [] = from == to
 are_joined from to (r ∷ ranges) = (r.base_mib == from) && are_joined (end_of r) to ranges
 
--- Those below 4 GiB are all memory below a top. `laws` says that this is a matter of addresses.
+-- Those below 4 GiB are all memory below a top. The law `memory_is_what_lies_below_the_top` says the same of addresses.
 abbrev pub is_memory : ℕ → List MemRange → Bool
 is_memory top ranges = are_joined 0 top (filter is_low ranges)
 
@@ -201,6 +201,6 @@ breach_in number (rule ∷ rules) = if rule.0 == number then rule.1 else breach_
 abbrev pub breach_of : ℕ → Machine → Option ℕ
 breach_of number m = breach_in number (breaches m)
 
--- the numbers of a machine fit their types, as those of each machine of the program do
-abbrev pub HasFitting : Machine → Type 0
-HasFitting m = IfSome m.system.uuid (λ uuid. uuid < 2 ^ 128)
+-- the UUID of a machine fits its type, as that of each machine of the program does
+abbrev pub HasFittingUuid : Machine → Type 0
+HasFittingUuid m = IfSome m.system.uuid (λ uuid. uuid < 2 ^ 128)

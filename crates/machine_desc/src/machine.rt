@@ -1,10 +1,11 @@
 use crate::smbios_parts::{Chassis, Dimm, Firmware, MemRange, Slot, Socket};
 use vt_outside::{List, Text};
 
-/// A machine as its maker describes it.
+/// A machine as its maker describes it. It is accepted where `Machine::check` finds no broken rule. Each text of an accepted
+/// machine has at most 64 bytes, each 0x20 to 0x7E.
 #[derive(Debug, Drop)]
 pub struct Machine {
-    /// The address past the last byte of memory, in MiB: 64 to 3072 in an accepted machine.
+    /// Where memory below 4 GiB ends, in MiB: 64 to 3072 in an accepted machine. Memory above is told by `ranges`.
     pub top_mib: u32,
     /// Texts of its maker (OEM Strings, DSP0134 7.12), at most 32 in an accepted machine.
     pub oem_strings: List<Text>,
@@ -24,7 +25,7 @@ pub struct Machine {
     pub slots: List<Slot>,
     /// Its ACPI tables; none where they aren't wanted.
     pub acpi: Option<Acpi>,
-    /// Its HPET.
+    /// Its HPET, where it has one. An accepted machine with an HPET has ACPI tables.
     pub hpet: Option<Hpet>,
 }
 
@@ -43,16 +44,16 @@ pub struct System {
     pub sku: Text,
     /// The family of similar machines.
     pub family: Text,
-    /// Its UUID as one number, with the first byte of its text highest.
+    /// Its UUID as one number, with the first byte of its text highest: in an accepted machine neither all zeros nor all ones.
     pub uuid: Option<u128>,
 }
 
 /// What the headers of ACPI tables tell of their maker (ACPI 6.5, 5.2.6). The texts are padded with spaces there.
 #[derive(Debug, Drop)]
 pub struct Acpi {
-    /// The maker, at most 6 bytes.
+    /// The maker: in an accepted machine at most 6 bytes, of which the last is no space.
     pub oem_id: Text,
-    /// The maker's name for the tables, at most 8 bytes.
+    /// The maker's name for the tables: in an accepted machine at most 8 bytes, of which the last is no space.
     pub oem_table_id: Text,
 }
 

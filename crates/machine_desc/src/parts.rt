@@ -2,7 +2,8 @@
 
 ghost use Rattle.std.specs.Prelude.{◌≡◌, true};
 ghost use Rattle.std.specs.Option.{option_map_or};
-ghost use Rattle.machine_desc.specs.Rules.{first_failing, counts, is_within, is_own_uuid, is_lawful_chassis, is_lawful_socket, is_lawful_dimm, is_lawful_slot, breach_of_acpi, is_padded_text, is_hpet_address};
+ghost use Rattle.machine_desc.specs.Rules.{first_failing, counts, is_within, is_own_uuid, is_lawful_chassis, is_lawful_socket};
+ghost use Rattle.machine_desc.specs.Rules.{is_lawful_dimm, is_lawful_slot, breach_of_acpi, is_padded_text, is_hpet_address};
 
 use crate::machine::{Acpi, Hpet, Machine, System};
 use crate::smbios_parts::{Chassis, Dimm, Slot, Socket};

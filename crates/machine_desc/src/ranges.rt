@@ -7,7 +7,7 @@ use crate::machine::Machine;
 use crate::smbios_parts::MemRange;
 
 impl Machine {
-    pub(crate) fn has_ranges_of_its_dimms(&self) -> bool
+    pub(crate) fn has_ranges_where_it_has_dimms(&self) -> bool
         ensures { result ≡ (if is_empty self.now.dimms then is_empty self.now.ranges else not (is_empty self.now.ranges)) }
     {
         (self.dimms.len() == 0) == (self.ranges.len() == 0)

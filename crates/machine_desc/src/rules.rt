@@ -1,4 +1,4 @@
-ghost use Rattle.std.specs.Prelude.{◌≡◌, ◌<◌, ◌^◌, None, Some, MatchResult, if◌then◌else◌};
+ghost use Rattle.std.specs.Prelude.{◌≡◌, ◌<◌, ◌^◌, None, Some, MatchResult};
 ghost use Rattle.machine_desc.specs.declared.machine.Broken.{Broken as ABroken};
 ghost use Rattle.machine_desc.specs.Rules.{broken_rule, breaches, first_broken, only_at};
 
@@ -53,7 +53,7 @@ impl Machine {
             (6, only_at(0, has_lawful_chassis(&self.chassis))),
             (7, unlawful_socket(self.sockets.as_slice())),
             (8, unlawful_dimm(self.dimms.as_slice())),
-            (9, only_at(0, self.has_ranges_of_its_dimms())),
+            (9, only_at(0, self.has_ranges_where_it_has_dimms())),
             (10, unlawful_range(self.ranges.as_slice())),
             (11, only_at(0, self.has_memory_below_its_top())),
             (12, unlawful_slot(self.slots.as_slice())),

@@ -3,12 +3,12 @@
 ghost use Rattle.std.specs.Prelude.{◌≡◌, true};
 ghost use Rattle.std.specs.List.{list_all};
 ghost use Rattle.std.specs.Option.{option_map_or};
-ghost use Rattle.machine_desc.specs.Rules.{is_text, is_some_text, first_failing, texts_of, system_texts, firmware_texts, chassis_texts, socket_texts, dimm_texts, slot_texts, acpi_texts};
-ghost use Rattle.vt_outside.specs.Name.{is_printable};
+ghost use Rattle.machine_desc.specs.Rules.{is_text, is_some_text, first_failing, texts_of, system_texts, firmware_texts};
+ghost use Rattle.machine_desc.specs.Rules.{chassis_texts, socket_texts, dimm_texts, slot_texts, acpi_texts};
 
 use crate::machine::{Acpi, Machine, System};
 use crate::smbios_parts::{Chassis, Dimm, Firmware, Slot, Socket};
-use vt_outside::Text;
+use vt_outside::{Text, are_printable};
 
 impl Machine {
     pub(crate) fn has_lawful_texts(&self) -> bool
@@ -162,10 +162,4 @@ fn is_lawful(text: &Text) -> bool
     ensures { result ≡ is_text text.now }
 {
     text.len() <= 64 && are_printable(text.as_slice())
-}
-
-fn are_printable(bytes: &[u8]) -> bool
-    ensures { result ≡ list_all is_printable bytes.now }
-{
-    bytes.iter().all(|byte| (0x20..=0x7E).contains(byte))
 }

@@ -9,14 +9,14 @@ pub enum LoadFault {
     ScriptLength,
     /// A command is refused.
     Command {
-        /// The index of the command.
+        /// The index of the command in the script, from 0.
         index: u32,
         /// The first cause that applies.
         cause: Cause,
     },
     /// The allocator gave no place for the file of an Allocate.
     NoRoom {
-        /// The index of the command.
+        /// The index of the command in the script, from 0.
         index: u32,
     },
 }

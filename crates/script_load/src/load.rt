@@ -20,7 +20,7 @@ use std::alloc::Global;
 use vt_outside::{List, OutOfMemory};
 use zone_alloc::ZoneAlloc;
 
-/// A load that was begun: where it is, its script or the fault for which it has none, and how far it is.
+/// A load that was begun: what it works on, its script or the fault for which it has none, and how far it is.
 #[derive(Drop)]
 pub(crate) struct Load {
     pub(crate) loading: Loading,

@@ -156,7 +156,7 @@ impl Loading {
                 self.add_checksum(file, *offset, *start, *length);
                 Ok(())
             }
-            // No command of a script that is read writes to fw_cfg yet, and one without a name is refused.
+            // Neither comes here: WRITE_POINTER is read as skipped, and a misnamed command is refused above.
             Entry::WritePointer { .. } | Entry::Misnamed(_) => unreachable!(),
             Entry::Skipped(_) => Ok(()),
         }
@@ -217,7 +217,8 @@ impl Loading {
         requires early { early_cause (AddPointer dest.now src.now offset size) (progress_of self.old) ≡ None }
         ensures goes_on { GoesOn self.old self.new }
         ensures placements { self.new.placements ≡ self.old.placements }
-        ensures carries { OnOk result (CarriesTo (files_of self.old.items) (AddPointer dest.now src.now offset size) (files_now self.old) (files_now self.new)) }
+        ensures carries { OnOk result (CarriesTo (files_of self.old.items) (AddPointer dest.now src.now offset size)
+            (files_now self.old) (files_now self.new)) }
         ensures far { OnErr result (cause_of (AddPointer dest.now src.now offset size) (progress_of self.old) ≡ Some TooFar) }
         ensures stop { IfErr result (λ stop. stop ≡ Stop.Refused TooFar) }
         ensures same { OnErr result (files_now self.new ≡ files_now self.old) }

@@ -74,8 +74,8 @@ impl Placements {
 }
 
 /// Lists what the causes of a refusal need to know of the files of a device: the name, the size and the writable mark of each item,
-/// in their order. The names differ, and all of them have fewer than 2^32 bytes together. Room for the list comes from `alloc`;
-/// returns `OutOfMemory` when memory runs out.
+/// in their order. The items are a device's, as `Items::all` lends them. Room for the list comes from `alloc`. Returns `OutOfMemory`
+/// when memory runs out.
 pub fn infos_of(alloc: Global, items: &[Item]) -> Result<Vec<FileInfo>, OutOfMemory>
     requires { IsItems items.now }
     ensures { IfOk result (λ infos. infos.items ≡ infos_of (files_of items.now)) }

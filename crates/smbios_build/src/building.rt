@@ -31,8 +31,9 @@ impl From<OutOfMemory> for SmbiosBuildFault {
 }
 
 /// Builds the bytes of `structures`, one after the other. The last structure is the end, and no other is. No text of a structure
-/// of a known kind holds a NUL. A raw structure isn't of type 127, its area has at most 251 bytes, and not as many as a record
-/// of its type has, and of its strings, at most 255, none is empty or holds a NUL.
+/// of a known kind holds a NUL, and of the texts of OEM Strings, at most 255, none is empty. A raw structure isn't of type 127, its
+/// area has at most 251 bytes, and not as many as a record of its type has, and of its strings, at most 255, none is empty or holds
+/// a NUL.
 ///
 /// Returns `TableTooLarge` when there are more than 4,194,304 bytes. They are counted before memory is taken, so this doesn't
 /// depend on the memory there is. Returns `OutOfMemory` when `alloc` has too little memory.

@@ -1,10 +1,9 @@
-ghost use Rattle.std.specs.Prelude.{◌≡◌, ◌<◌, ◌≤◌, ◌+◌, ◌^◌, [], ◌∷◌, ◌++◌, length, map, OnOk};
+ghost use Rattle.std.specs.Prelude.{◌≡◌, ◌<◌, ◌≤◌, ◌+◌, [], ◌∷◌, ◌++◌, length, map, OnOk};
 ghost use Rattle.std.specs.List.{AllByRecursion};
 ghost use Rattle.vt_bytes.specs.Numbers.{le_bytes};
-ghost use Rattle.vt_layout.specs.Rows.{IsRow, size, spelled, string_numbers};
+ghost use Rattle.vt_layout.specs.Rows.{IsRow, size, string_numbers};
 ghost use Rattle.table_model.specs.Strings.{HasNoNul, IsString, string_set};
-ghost use Rattle.table_model.specs.Smbios.{IsStructure, formatted};
-ghost use Rattle.table_model.specs.Structures.{number_of};
+ghost use Rattle.table_model.specs.Smbios.{formatted};
 ghost use Rattle.smbios_build.specs.Spelling.{layout_bytes};
 ghost use Rattle.smbios_build.specs.Buildable.{IsBuildable, IsPut};
 

@@ -2,7 +2,7 @@
 use Rattle.std.proofs.Common.{◌≡◌, ℕ, List, [], ◌∷◌, take, drop, refl, ap, sym, subst, ◌∙◌}
 use Rattle.vt_bytes.specs.Numbers.{le}
 use Rattle.vt_layout.specs.declared.row.Row.{Row}
-use Rattle.vt_layout.specs.declared.row.Row.TheVariants.{Number, Bytes, StringNumber, Reserved}
+use Rattle.vt_layout.specs.declared.row.Row.TheVariants.{Number, Bytes, StringNumber}
 use Rattle.vt_layout.specs.Rows.{string_numbers}
 use Rattle.vt_layout.specs.Reading.{rows_in}
 use Rattle.table_model.specs.declared.smbios.Body.{Body}
@@ -48,13 +48,6 @@ taken_bytes {count} {bytes} {now} {next} {last} {kinds} {rows} {texts} is behind
     let first : Bytes count bytes ≡ Bytes count (take count now.area) = ap (Bytes count) is in
     let others = rows_behind count now next kinds rows behind.area taken.stand in
     record { stand = cc (first, others); asked = asked_behind count now next last (string_numbers rows) texts behind taken.asked }
-
--- what no reader looks at
-pub taken_reserved : {count : ℕ} {now next last : FieldsLeft} {kinds rows : List Row} {texts : List (List ℕ)}
-    → IsBehind count now next → AreTaken next last kinds rows texts → AreTaken now last (Reserved count ∷ kinds) (Reserved count ∷ rows) texts
-taken_reserved {count} {now} {next} {last} {kinds} {rows} {texts} behind taken =
-    let others = rows_behind count now next kinds rows behind.area taken.stand in
-    record { stand = cc others; asked = asked_behind count now next last (string_numbers rows) texts behind taken.asked }
 
 -- the number of a string
 pub taken_text : {now next last : FieldsLeft} {kinds rows : List Row} {text : List ℕ} {texts : List (List ℕ)}

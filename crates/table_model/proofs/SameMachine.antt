@@ -20,7 +20,7 @@ use Rattle.machine_desc.specs.declared.smbios_parts.Dimm.{Dimm}
 use Rattle.machine_desc.specs.declared.smbios_parts.MemRange.{MemRange}
 use Rattle.machine_desc.specs.declared.smbios_parts.Firmware.{Firmware}
 use Rattle.machine_desc.specs.declared.smbios_parts.Chassis.{Chassis as ChassisPart}
-use Rattle.machine_desc.specs.Rules.{only_at, is_own_uuid, ends_in_space, is_padded_text, breaches, IsAccepted, HasFitting}
+use Rattle.machine_desc.specs.Rules.{only_at, is_own_uuid, ends_in_space, is_padded_text, breaches, IsAccepted, HasFittingUuid}
 use Rattle.machine_desc.proofs.Kept.{each_is_kept}
 use Rattle.machine_desc.proofs.SameSystem.{same_system as system_by_parts}
 use Rattle.table_model.specs.declared.hpet.HpetTable.{HpetTable}
@@ -129,7 +129,7 @@ structures_in a b same =
     let tables : smbios_of a ≡ smbios_of b = cc in
     ap (λ (t : SmbiosTable). t.structures) tables
 
-same_system : (a b : Machine) → HasFitting a → HasFitting b → IsAccepted a → IsAccepted b → system_of a.system ≡ system_of b.system
+same_system : (a b : Machine) → HasFittingUuid a → HasFittingUuid b → IsAccepted a → IsAccepted b → system_of a.system ≡ system_of b.system
     → a.system ≡ b.system
 same_system a b a_fits b_fits a_accepted b_accepted infos =
     let manufacturer : a.system.manufacturer ≡ b.system.manufacturer = ap (λ (i : SystemInfo). i.manufacturer) infos in
@@ -216,7 +216,7 @@ machine_from-parts : (m : Machine)
 unfolding machine_from
 machine_from-parts m = refl
 
-pub same_machine : (a b : Machine) → HasFitting a → HasFitting b → IsAccepted a → IsAccepted b → inventory_of a ≡ inventory_of b → a ≡ b
+pub same_machine : (a b : Machine) → HasFittingUuid a → HasFittingUuid b → IsAccepted a → IsAccepted b → inventory_of a ≡ inventory_of b → a ≡ b
 same_machine a b a_fits b_fits a_accepted b_accepted same =
     let tops : a.top_mib * 0x100000 ≡ b.top_mib * 0x100000 = ap (λ (i : Inventory). i.top) same in
     let top : a.top_mib ≡ b.top_mib = omega arith in

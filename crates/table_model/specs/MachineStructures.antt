@@ -17,7 +17,7 @@ use Rattle.table_model.specs.SystemInformation.{system_of}
 use Rattle.table_model.specs.ChassisInformation.{chassis_of}
 use Rattle.table_model.specs.ProcessorInformation.{processor_of}
 use Rattle.table_model.specs.SlotInformation.{slot_of}
-use Rattle.table_model.specs.MemoryArray.{array_of}
+use Rattle.table_model.specs.MemoryArray.{array_handle, array_of}
 use Rattle.table_model.specs.MemoryDevice.{device_of}
 use Rattle.table_model.specs.MappedAddress.{mapped_of}
 use Rattle.table_model.specs.BootInformation.{boot_info}
@@ -65,7 +65,7 @@ abbrev pub oem_strings_part : List (List ℕ) → Part
 oem_strings_part texts = record { first = 0x0E00; bodies = if_some OemStrings texts }
 
 abbrev pub array_part : List Dimm → Part
-array_part dimms = record { first = 0x1000; bodies = if_some (λ (all : List Dimm). Array (array_of all)) dimms }
+array_part dimms = record { first = array_handle; bodies = if_some (λ (all : List Dimm). Array (array_of all)) dimms }
 
 abbrev pub device_part : List Dimm → Part
 device_part dimms = record { first = 0x1100; bodies = map (λ (d : Dimm). Device (device_of d)) dimms }

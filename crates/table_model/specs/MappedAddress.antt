@@ -7,6 +7,7 @@ use Rattle.machine_desc.specs.declared.smbios_parts.MemRange.{MemRange}
 use Rattle.machine_desc.specs.Rules.{end_of}
 use Rattle.table_model.specs.declared.mapped_address.MappedInfo.{MappedInfo}
 use Rattle.table_model.specs.declared.smbios.Body.TheVariants.{Mapped}
+use Rattle.table_model.specs.MemoryArray.{array_handle}
 use Rattle.table_model.specs.StructureKinds.{StructureKind, StructureLayout, kind_with_rows}
 
 abbrev pub mapped_rows : MappedInfo → List Row
@@ -32,14 +33,14 @@ mapped_layout i = record { kind = mapped_kind; rows = mapped_rows i; texts = [] 
 -- A range from one MiB to the end before another, in KiB: the first one and the last one.
 abbrev pub in_kib : ℕ → ℕ → MappedInfo
 in_kib base end =
-    record { start = base * 1024; end = end * 1024 - 1; array = 0x1000; width = 1; ext_start = 0; ext_end = 0 }
+    record { start = base * 1024; end = end * 1024 - 1; array = array_handle; width = 1; ext_start = 0; ext_end = 0 }
 
 -- the same in the extended fields: the addresses of the first byte and of the last one
 abbrev pub in_bytes : ℕ → ℕ → MappedInfo
 in_bytes base end = record {
   start = 0xFFFFFFFF;
   end = 0xFFFFFFFF;
-  array = 0x1000;
+  array = array_handle;
   width = 1;
   ext_start = base * 0x100000;
   ext_end = end * 0x100000 - 1;

@@ -31,6 +31,10 @@ array_kind = kind_with_rows 16 array_rows array_in Array
 abbrev pub array_layout : ArrayInfo → StructureLayout
 array_layout i = record { kind = array_kind; rows = array_rows i; texts = [] }
 
+-- the handle of a machine's array, by which its devices and its mapped addresses name it
+abbrev pub array_handle : ℕ
+array_handle = 0x1000
+
 -- the size of all modules in MiB
 abbrev pub total_mib : List Dimm → ℕ
 total_mib dimms = sum_by (λ (d : Dimm). d.size_mib) dimms

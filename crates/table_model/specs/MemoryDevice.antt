@@ -7,6 +7,7 @@ use Rattle.machine_desc.specs.declared.smbios_parts.Dimm.{Dimm}
 use Rattle.table_model.specs.declared.memory_device.DeviceInfo.{DeviceInfo}
 use Rattle.table_model.specs.declared.smbios.Body.TheVariants.{Device}
 use Rattle.table_model.specs.Strings.{text_at}
+use Rattle.table_model.specs.MemoryArray.{array_handle}
 use Rattle.table_model.specs.StructureKinds.{StructureKind, StructureLayout, kind_with_rows}
 
 abbrev pub device_texts : DeviceInfo → List (List ℕ)
@@ -61,7 +62,7 @@ extended_field mib = if nat_lt mib 0x7FFF then 0 else mib
 -- what a machine's module is written as: a DIMM of RAM in the machine's array, set to its speed
 abbrev pub device_of : Dimm → DeviceInfo
 device_of d = record {
-  array = 0x1000;
+  array = array_handle;
   error = 0xFFFE;
   total_width = 0xFFFF;
   data_width = 0xFFFF;

@@ -59,7 +59,7 @@ processor_layout i = record { kind = processor_kind; rows = processor_rows i; te
 abbrev pub count_byte : ℕ → ℕ
 count_byte count = min count 0xFF
 
--- what a machine's socket is written as: a central processor of another family, without caches, enabled with all its cores
+-- what a machine's socket is written as: a central processor of the family "other", without caches, enabled with all its cores
 abbrev pub processor_of : Socket → ProcessorInfo
 processor_of s = record {
   designation = s.designation;

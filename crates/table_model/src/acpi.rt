@@ -15,7 +15,7 @@ pub struct AcpiTables {
     pub oem_id: [u8; 6],
     /// The header of the XSDT (5.2.8).
     pub xsdt: Head,
-    /// The HPET table.
+    /// The HPET table, where the XSDT names one.
     pub hpet: Option<HpetTable>,
     /// The tables of other signatures, in the order of the XSDT's entries.
     pub others: List<OtherTable>,
@@ -26,7 +26,7 @@ pub struct AcpiTables {
 pub struct OtherTable {
     /// Its signature.
     pub signature: [u8; 4],
-    /// How many bytes it has.
+    /// How many bytes it has, with its header.
     pub length: u32,
 }
 
@@ -54,7 +54,7 @@ pub fn tables_of(alloc: Global, machine: &Machine, acpi: &Acpi) -> Result<List<T
 /// Returns the ACPI tables of `machine` as a reader finds them in memory. `machine` has ACPI tables, and `acpi` is their maker;
 /// its `oem_id` has at most 6 bytes and its `oem_table_id` at most 8. There are no tables of other signatures; their empty list
 /// keeps `alloc` and takes no memory.
-pub fn acpi_of(alloc: Global, machine: &Machine, acpi: &Acpi) -> AcpiTables
+pub(crate) fn acpi_of(alloc: Global, machine: &Machine, acpi: &Acpi) -> AcpiTables
     requires { FitsHead acpi.now }
     ensures { result ≡ acpi_of machine.now acpi.now }
 {

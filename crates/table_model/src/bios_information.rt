@@ -1,10 +1,10 @@
-ghost use Rattle.std.specs.Prelude.{◌≡◌, ◌<◌, map, IfOk};
+ghost use Rattle.std.specs.Prelude.{◌≡◌, map, IfOk};
 ghost use Rattle.std.specs.List.{AllByRecursion};
 ghost use Rattle.vt_layout.specs.Rows.{IsRow};
 ghost use Rattle.table_model.specs.BiosInformation.{bios_rows, bios_texts, bios_of};
 
 use crate::fields::{byte, qword, string, word};
-use crate::texts::copies_of;
+use crate::texts::three_copies_of;
 use machine_desc::Firmware;
 use vt_layout::Row;
 use vt_outside::{OutOfMemory, Text};
@@ -71,7 +71,11 @@ pub fn bios_texts(info: &BiosInfo) -> [&Text; 3]
 pub fn bios_of(firmware: &Firmware) -> Result<BiosInfo, OutOfMemory>
     ensures { IfOk result (λ info. info ≡ bios_of firmware.now) }
 {
-    let (vendor, version, date) = copies_of(&firmware.vendor, &firmware.version, &firmware.date)?;
+    let (vendor, version, date) = three_copies_of(
+        &firmware.vendor,
+        &firmware.version,
+        &firmware.date,
+    )?;
     Ok(BiosInfo {
         vendor,
         version,

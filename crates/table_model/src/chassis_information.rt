@@ -1,10 +1,10 @@
-ghost use Rattle.std.specs.Prelude.{◌≡◌, ◌<◌, map, IfOk};
+ghost use Rattle.std.specs.Prelude.{◌≡◌, map, IfOk};
 ghost use Rattle.std.specs.List.{AllByRecursion};
 ghost use Rattle.vt_layout.specs.Rows.{IsRow};
 ghost use Rattle.table_model.specs.ChassisInformation.{chassis_rows, chassis_texts, chassis_of};
 
 use crate::fields::{byte, dword, string};
-use crate::texts::copies_of;
+use crate::texts::{three_copies_of, two_copies_of};
 use machine_desc::Chassis;
 use vt_layout::Row;
 use vt_outside::{OutOfMemory, Text};
@@ -86,12 +86,12 @@ pub fn chassis_texts(info: &ChassisInfo) -> [&Text; 5]
 pub fn chassis_of(chassis: &Chassis) -> Result<ChassisInfo, OutOfMemory>
     ensures { IfOk result (λ info. info ≡ chassis_of chassis.now) }
 {
-    let (manufacturer, version, serial) = copies_of(
+    let (manufacturer, version, serial) = three_copies_of(
         &chassis.manufacturer,
         &chassis.version,
         &chassis.serial,
     )?;
-    let asset = chassis.asset.copy()?;
+    let (asset, sku) = two_copies_of(&chassis.asset, &chassis.sku)?;
     Ok(ChassisInfo {
         manufacturer,
         kind: chassis.kind,
@@ -107,6 +107,6 @@ pub fn chassis_of(chassis: &Chassis) -> Result<ChassisInfo, OutOfMemory>
         cords: 0,
         elements: 0,
         element_length: 0,
-        sku: chassis.sku.copy()?,
+        sku,
     })
 }

@@ -6,7 +6,7 @@ ghost use Rattle.table_model.specs.Header.{header_rows, head_of, FitsHead};
 use machine_desc::Acpi;
 use vt_layout::{Row, ShortBytes};
 
-/// How many bytes a header has.
+/// How many bytes the header of an ACPI table has (ACPI 6.5, 5.2.6).
 pub const HEADER_SIZE: u32 = 36;
 
 /// The header of a table without its signature, length and checksum (ACPI 6.5, 5.2.6).
@@ -26,7 +26,7 @@ pub struct Head {
     pub creator_revision: u32,
 }
 
-/// A register's address (Generic Address Structure, 5.2.3.2).
+/// A register's address (Generic Address Structure, ACPI 6.5, 5.2.3.2).
 #[derive(Clone, Copy, Debug, PartialEq, Eq)]
 pub struct GenericAddress {
     /// The address space: 0 is memory, 1 is I/O.
@@ -35,7 +35,7 @@ pub struct GenericAddress {
     pub width: u8,
     /// The offset of its first bit.
     pub offset: u8,
-    /// How it is accessed: 0 leaves it open.
+    /// The size of an access: 1 to 4 are 1, 2, 4 and 8 bytes, and 0 leaves it open.
     pub access: u8,
     /// Where it is.
     pub address: u64,

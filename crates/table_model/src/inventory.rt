@@ -4,17 +4,15 @@ ghost use Rattle.table_model.specs.Inventory.{inventory_of};
 
 use crate::acpi::{AcpiTables, acpi_of};
 use crate::smbios::{SmbiosTable, smbios_of};
+use crate::units::BYTES_IN_MIB;
 use machine_desc::Machine;
 use std::alloc::Global;
 use vt_outside::OutOfMemory;
 
-// How many bytes a MiB has.
-const MIB: u32 = 0x10_0000;
-
 /// What a memory shows of a machine.
 #[derive(Debug, Drop)]
 pub struct Inventory {
-    /// The address past the last byte of memory.
+    /// The address past the last byte of memory below 4 GiB.
     pub top: u32,
     /// The table of its SMBIOS anchor; none where no valid anchor stands.
     pub smbios: Option<SmbiosTable>,
@@ -22,8 +20,8 @@ pub struct Inventory {
     pub acpi: Option<AcpiTables>,
 }
 
-/// Returns the inventory of `machine`, which is accepted. It takes its memory from `alloc`. Returns `OutOfMemory` when memory
-/// runs out.
+/// Returns the inventory of `machine`, which is accepted. Its lists take their memory from `alloc`, and each copy of a text from
+/// that text's allocator. Returns `OutOfMemory` when memory runs out.
 pub fn inventory_of(alloc: Global, machine: &Machine) -> Result<Inventory, OutOfMemory>
     requires { IsAccepted machine.now }
     ensures { IfOk result (λ inventory. inventory ≡ inventory_of machine.now) }
@@ -34,7 +32,7 @@ pub fn inventory_of(alloc: Global, machine: &Machine) -> Result<Inventory, OutOf
         None => None,
     };
     Ok(Inventory {
-        top: machine.top_mib * MIB,
+        top: machine.top_mib * BYTES_IN_MIB as u32,
         smbios: Some(smbios),
         acpi,
     })

@@ -9,7 +9,7 @@ ghost use Rattle.vt_layout.specs.Rows.{IsRow, IsPlain, spelled};
 ghost use Rattle.vt_layout.specs.Shown.{LayoutHeld};
 ghost use Rattle.machine_desc.specs.declared.machine.Machine.{Machine};
 ghost use Rattle.machine_desc.specs.declared.machine.Acpi.{Acpi};
-ghost use Rattle.machine_desc.specs.Rules.{IsAccepted, HasFitting};
+ghost use Rattle.machine_desc.specs.Rules.{IsAccepted, HasFittingUuid};
 ghost use Rattle.table_model.specs.declared.header.Head.{Head};
 ghost use Rattle.table_model.specs.declared.acpi.AcpiTables.{AcpiTables};
 ghost use Rattle.table_model.specs.declared.acpi.Table.{Table};
@@ -27,9 +27,9 @@ pub fn one_inventory_is_shown()
     ensures { (top : ℕ) (view : View) (a b : Inventory) → Shows top view a → Shows top view b → a ≡ b }
 {}
 
-/// States that two accepted machines, whose numbers fit their types, with the same inventory are the same machine.
+/// States that two accepted machines, whose UUIDs fit their type, with the same inventory are the same machine.
 pub fn no_two_machines_are_alike()
-    ensures { (a b : Machine) → HasFitting a → HasFitting b → IsAccepted a → IsAccepted b → inventory_of a ≡ inventory_of b → a ≡ b }
+    ensures { (a b : Machine) → HasFittingUuid a → HasFittingUuid b → IsAccepted a → IsAccepted b → inventory_of a ≡ inventory_of b → a ≡ b }
 {}
 
 /// States that at most one table of a known kind stands at an address.

@@ -2,7 +2,8 @@
 //!
 //! The definitions say which records a view of memory shows (DSP0134; ACPI 6.5, 5.2; IA-PC HPET 1.0a, 3.2.4). The contract is that
 //! `inventory_of` gives the inventory of a machine exactly, and the laws are that a view shows at most one inventory, and that no
-//! two machines have the same one. A kind of structures is a record with its rows and its texts.
+//! two machines have the same one. Other laws say that what is written by its rows is what a reader finds. A kind of structures is a
+//! record with its rows and its texts.
 #![tactic(auto)]
 
 mod acpi;

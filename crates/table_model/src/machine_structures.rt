@@ -8,7 +8,7 @@ use crate::bios_information::bios_of;
 use crate::boot_information::boot_info;
 use crate::chassis_information::chassis_of;
 use crate::mapped_address::mapped_of;
-use crate::memory_array::array_of;
+use crate::memory_array::{ARRAY_HANDLE, array_of};
 use crate::memory_device::device_of;
 use crate::oem_strings::oem_strings_of;
 use crate::processor_information::processor_of;
@@ -20,19 +20,30 @@ use std::alloc::Global;
 use vt_outside::{List, OutOfMemory, Text};
 
 /// Returns the structures of `machine`, which is accepted, in order: those of its firmware, its system, its chassis, its processors,
-/// its slots, its maker's texts, its memory and its boot, and the end. The list takes its memory from `alloc`. Returns
-/// `OutOfMemory` when memory runs out.
+/// its slots, its maker's texts, its memory and its boot, and the end. Lists take their memory from `alloc`, and each copy of a text
+/// from that text's allocator. Returns `OutOfMemory` when memory runs out.
 pub fn structures_of(alloc: Global, machine: &Machine) -> Result<List<Structure>, OutOfMemory>
     requires { IsAccepted machine.now }
     ensures { IfOk result (λ structures. structures ≡ structures_of machine.now) }
 {
     let mut structures = List::new(alloc);
-    push_product(&mut structures, machine)?;
-    push_board(alloc, &mut structures, machine)?;
-    push_memory(&mut structures, machine)?;
-    push_boot(&mut structures, &machine.firmware)?;
-    push(&mut structures, 0x7F00, Body::End)?;
+    push_structures(alloc, &mut structures, machine)?;
     Ok(structures)
+}
+
+fn push_structures(
+    alloc: Global,
+    structures: &mut List<Structure>,
+    machine: &Machine,
+) -> Result<(), OutOfMemory>
+    requires { IsAccepted machine.now }
+    ensures { OnOk result (structures.new ≡ structures.old ++ structures_of machine.now) }
+{
+    push_product(structures, machine)?;
+    push_board(alloc, structures, machine)?;
+    push_memory(structures, machine)?;
+    push_boot(structures, &machine.firmware)?;
+    push(structures, 0x7F00, Body::End)
 }
 
 // Appends those of the machine's firmware, its system and its chassis.
@@ -47,7 +58,6 @@ fn push_product(structures: &mut List<Structure>, machine: &Machine) -> Result<(
 }
 
 // Appends those of its processors, its slots and its maker's texts.
-#[tactic(auto, using(crate::proofs::AcceptedParts::lawful_parts))]
 fn push_board(
     alloc: Global,
     structures: &mut List<Structure>,
@@ -63,7 +73,6 @@ fn push_board(
 }
 
 // Appends those of its memory.
-#[tactic(auto, using(crate::proofs::AcceptedParts::lawful_parts))]
 fn push_memory(structures: &mut List<Structure>, machine: &Machine) -> Result<(), OutOfMemory>
     requires { IsAccepted machine.now }
     ensures { OnOk result (structures.new ≡ structures.old
@@ -159,7 +168,7 @@ fn push_array(structures: &mut List<Structure>, dimms: &[Dimm]) -> Result<(), Ou
     if dimms.is_empty() {
         return Ok(());
     }
-    push(structures, 0x1000, Body::Array(array_of(dimms)))
+    push(structures, ARRAY_HANDLE, Body::Array(array_of(dimms)))
 }
 
 fn push_devices(structures: &mut List<Structure>, dimms: &[Dimm]) -> Result<(), OutOfMemory>

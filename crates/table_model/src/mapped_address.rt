@@ -4,11 +4,12 @@ ghost use Rattle.vt_layout.specs.Rows.{IsRow};
 ghost use Rattle.table_model.specs.MappedAddress.{mapped_rows, mapped_of, in_kib, in_bytes};
 
 use crate::fields::{byte, dword, qword, word};
+use crate::memory_array::ARRAY_HANDLE;
 use crate::units::{BYTES_IN_MIB, KIB_IN_MIB};
 use machine_desc::MemRange;
 use vt_layout::Row;
 
-// The first fields of a range that the others tell.
+// What the first fields hold where the extended fields tell the range.
 const EXTENDED_ADDRESS: u32 = 0xFFFF_FFFF;
 
 /// Memory Array Mapped Address (DSP0134 7.20).
@@ -66,7 +67,7 @@ fn in_kib(base: u64, end: u64) -> MappedInfo
     MappedInfo {
         start: (base * KIB_IN_MIB) as u32,
         end: (end * KIB_IN_MIB).saturating_sub(1) as u32,
-        array: 0x1000,
+        array: ARRAY_HANDLE,
         width: 1,
         ext_start: 0,
         ext_end: 0,
@@ -82,7 +83,7 @@ fn in_bytes(base: u64, end: u64) -> MappedInfo
     MappedInfo {
         start: EXTENDED_ADDRESS,
         end: EXTENDED_ADDRESS,
-        array: 0x1000,
+        array: ARRAY_HANDLE,
         width: 1,
         ext_start: base * BYTES_IN_MIB,
         ext_end: (end * BYTES_IN_MIB).saturating_sub(1),

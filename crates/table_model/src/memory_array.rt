@@ -1,4 +1,4 @@
-ghost use Rattle.std.specs.Prelude.{◌≡◌, ◌^◌, ◌<◌, ◌≤◌, length};
+ghost use Rattle.std.specs.Prelude.{◌≡◌, ◌^◌, ◌≤◌, length};
 ghost use Rattle.std.specs.List.{AllByRecursion};
 ghost use Rattle.vt_layout.specs.Rows.{IsRow};
 ghost use Rattle.table_model.specs.MemoryArray.{array_rows, array_of, capacity_of, total_mib};
@@ -8,10 +8,13 @@ use crate::units::{BYTES_IN_MIB, KIB_IN_MIB};
 use machine_desc::Dimm;
 use vt_layout::Row;
 
+/// The handle of a machine's array, by which its devices and its mapped addresses name it.
+pub(crate) const ARRAY_HANDLE: u16 = 0x1000;
+
 // 2 TiB in MiB, which is a capacity of 0x80000000 KiB.
 const TWO_TIB: u64 = 0x20_0000;
 
-// The capacity of an array that the second field tells.
+// What the first field holds where the second field tells the capacity.
 const EXTENDED_CAPACITY: u32 = 0x8000_0000;
 
 /// Physical Memory Array (DSP0134 7.17).

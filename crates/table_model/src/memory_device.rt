@@ -1,15 +1,16 @@
-ghost use Rattle.std.specs.Prelude.{◌≡◌, ◌<◌, map, IfOk};
+ghost use Rattle.std.specs.Prelude.{◌≡◌, map, IfOk};
 ghost use Rattle.std.specs.List.{AllByRecursion};
 ghost use Rattle.vt_layout.specs.Rows.{IsRow};
 ghost use Rattle.table_model.specs.MemoryDevice.{device_rows, device_texts, device_of, size_field, extended_field};
 
 use crate::fields::{byte, dword, string, word};
-use crate::texts::copies_of;
+use crate::memory_array::ARRAY_HANDLE;
+use crate::texts::three_copies_of;
 use machine_desc::Dimm;
 use vt_layout::Row;
 use vt_outside::{OutOfMemory, Text};
 
-// The size of a device that the second field tells.
+// What the first field holds where the second field tells the size.
 const EXTENDED_SIZE: u16 = 0x7FFF;
 
 /// Memory Device (DSP0134 7.18). An empty text is no text.
@@ -23,7 +24,8 @@ pub struct DeviceInfo {
     pub total_width: u16,
     /// Its width in bits without them, or 0xFFFF where it is unknown.
     pub data_width: u16,
-    /// Its size in MiB, or 0x7FFF where the second field tells.
+    /// Its size in MiB, or in KiB with bit 15 set; 0 where none is installed, 0x7FFF where the second field tells, and 0xFFFF
+    /// where it is unknown.
     pub size: u16,
     /// Its form (7.18.1).
     pub form: u8,
@@ -111,10 +113,14 @@ pub fn device_texts(info: &DeviceInfo) -> [&Text; 6]
 pub fn device_of(dimm: &Dimm) -> Result<DeviceInfo, OutOfMemory>
     ensures { IfOk result (λ info. info ≡ device_of dimm.now) }
 {
-    let (locator, bank, manufacturer) = copies_of(&dimm.locator, &dimm.bank, &dimm.manufacturer)?;
-    let (serial, asset, part) = copies_of(&dimm.serial, &dimm.asset, &dimm.part)?;
+    let (locator, bank, manufacturer) = three_copies_of(
+        &dimm.locator,
+        &dimm.bank,
+        &dimm.manufacturer,
+    )?;
+    let (serial, asset, part) = three_copies_of(&dimm.serial, &dimm.asset, &dimm.part)?;
     Ok(DeviceInfo {
-        array: 0x1000,
+        array: ARRAY_HANDLE,
         error: 0xFFFE,
         total_width: 0xFFFF,
         data_width: 0xFFFF,

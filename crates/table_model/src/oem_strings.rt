@@ -1,4 +1,4 @@
-ghost use Rattle.std.specs.Prelude.{◌≡◌, ◌<◌, ◌≤◌, length, IfOk};
+ghost use Rattle.std.specs.Prelude.{◌≡◌, ◌≤◌, length, IfOk};
 ghost use Rattle.std.specs.List.{AllByRecursion};
 ghost use Rattle.vt_layout.specs.Rows.{IsRow};
 ghost use Rattle.table_model.specs.OemStrings.{oem_rows};
@@ -17,7 +17,7 @@ pub fn oem_rows(strings: &[Text]) -> [Row; 1]
 }
 
 /// Returns copies of `texts`, in order. The list takes its memory from `alloc`. Returns `OutOfMemory` when memory runs out.
-pub fn oem_strings_of(alloc: Global, texts: &[Text]) -> Result<List<Text>, OutOfMemory>
+pub(crate) fn oem_strings_of(alloc: Global, texts: &[Text]) -> Result<List<Text>, OutOfMemory>
     ensures { IfOk result (λ copies. copies ≡ texts.now) }
 {
     let mut copies = List::new(alloc);

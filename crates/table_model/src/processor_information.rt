@@ -1,10 +1,10 @@
-ghost use Rattle.std.specs.Prelude.{◌≡◌, ◌<◌, map, IfOk};
+ghost use Rattle.std.specs.Prelude.{◌≡◌, map, IfOk};
 ghost use Rattle.std.specs.List.{AllByRecursion};
 ghost use Rattle.vt_layout.specs.Rows.{IsRow};
 ghost use Rattle.table_model.specs.ProcessorInformation.{processor_rows, processor_texts, processor_of, count_byte};
 
 use crate::fields::{byte, qword, string, word};
-use crate::texts::copies_of;
+use crate::texts::three_copies_of;
 use machine_desc::Socket;
 use vt_layout::Row;
 use vt_outside::{OutOfMemory, Text};
@@ -36,11 +36,11 @@ pub struct ProcessorInfo {
     pub status: u8,
     /// The socket's form (7.5.5).
     pub upgrade: u8,
-    /// The handle of its first cache, or 0xFFFF.
+    /// The handle of its level 1 cache, or 0xFFFF where none is told.
     pub l1: u16,
-    /// The handle of its second cache, or 0xFFFF.
+    /// The handle of its level 2 cache, or 0xFFFF where none is told.
     pub l2: u16,
-    /// The handle of its third cache, or 0xFFFF.
+    /// The handle of its level 3 cache, or 0xFFFF where none is told.
     pub l3: u16,
     /// The serial number.
     pub serial: Text,
@@ -56,7 +56,7 @@ pub struct ProcessorInfo {
     pub threads: u8,
     /// What it supports, a bit each (7.5.9).
     pub characteristics: u16,
-    /// Its family.
+    /// Its family (7.5.2).
     pub family2: u16,
     /// How many cores it has.
     pub cores2: u16,
@@ -115,17 +115,17 @@ pub fn processor_texts(info: &ProcessorInfo) -> [&Text; 6]
     ]
 }
 
-/// Returns the Processor Information of a machine's `socket`, with copies of its texts. Its processor is a central one, of another
-/// family and without caches, and is enabled, with all its cores. Returns `OutOfMemory` when memory runs out.
+/// Returns the Processor Information of a machine's `socket`, with copies of its texts. Its processor is a central one, of the family
+/// "other" and without caches, and is enabled, with all its cores. Returns `OutOfMemory` when memory runs out.
 pub fn processor_of(socket: &Socket) -> Result<ProcessorInfo, OutOfMemory>
     ensures { IfOk result (λ info. info ≡ processor_of socket.now) }
 {
-    let (designation, manufacturer, version) = copies_of(
+    let (designation, manufacturer, version) = three_copies_of(
         &socket.designation,
         &socket.manufacturer,
         &socket.version,
     )?;
-    let (serial, asset, part) = copies_of(&socket.serial, &socket.asset, &socket.part)?;
+    let (serial, asset, part) = three_copies_of(&socket.serial, &socket.asset, &socket.part)?;
     Ok(ProcessorInfo {
         designation,
         kind: 3,

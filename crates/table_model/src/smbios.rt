@@ -29,7 +29,7 @@ pub struct SmbiosTable {
     pub structures: List<Structure>,
 }
 
-/// A structure (6.1.2).
+/// A structure (DSP0134 6.1.2).
 #[derive(Debug, Drop)]
 pub struct Structure {
     /// Its handle.
@@ -74,9 +74,9 @@ pub enum Body {
     },
 }
 
-/// Returns the SMBIOS table of `machine`, which is accepted: version 3.0 and the machine's structures. It takes its memory from
-/// `alloc`. Returns `OutOfMemory` when memory runs out.
-pub fn smbios_of(alloc: Global, machine: &Machine) -> Result<SmbiosTable, OutOfMemory>
+/// Returns the SMBIOS table of `machine`, which is accepted: version 3.0 and the machine's structures. Its lists take their memory
+/// from `alloc`, and each copy of a text from that text's allocator. Returns `OutOfMemory` when memory runs out.
+pub(crate) fn smbios_of(alloc: Global, machine: &Machine) -> Result<SmbiosTable, OutOfMemory>
     requires { IsAccepted machine.now }
     ensures { IfOk result (λ table. table ≡ smbios_of machine.now) }
 {

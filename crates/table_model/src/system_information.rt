@@ -1,10 +1,10 @@
-ghost use Rattle.std.specs.Prelude.{◌≡◌, ◌<◌, map, IfOk};
+ghost use Rattle.std.specs.Prelude.{◌≡◌, map, IfOk};
 ghost use Rattle.std.specs.List.{AllByRecursion};
 ghost use Rattle.vt_layout.specs.Rows.{IsRow};
 ghost use Rattle.table_model.specs.SystemInformation.{system_rows, system_texts, system_of, uuid_field};
 
 use crate::fields::{byte, string};
-use crate::texts::copies_of;
+use crate::texts::three_copies_of;
 use machine_desc::System;
 use uuid::Uuid;
 use vt_layout::{Row, ShortBytes};
@@ -67,12 +67,12 @@ pub fn system_texts(info: &SystemInfo) -> [&Text; 6]
 pub fn system_of(system: &System) -> Result<SystemInfo, OutOfMemory>
     ensures { IfOk result (λ info. info ≡ system_of system.now) }
 {
-    let (manufacturer, product, version) = copies_of(
+    let (manufacturer, product, version) = three_copies_of(
         &system.manufacturer,
         &system.product,
         &system.version,
     )?;
-    let (serial, sku, family) = copies_of(&system.serial, &system.sku, &system.family)?;
+    let (serial, sku, family) = three_copies_of(&system.serial, &system.sku, &system.family)?;
     Ok(SystemInfo {
         manufacturer,
         product,

@@ -1,6 +1,6 @@
 //! Descriptions that are refused, and those on the border that are accepted.
 
-use fixtures::{BOOTED, boot, copy_of, ends, put_text, refused};
+use fixtures::{BOOTED, Ending, boot, copy_of, ends, put_text, refused};
 use std::alloc::Global;
 use std::test::Fail;
 use vt_outside::{Bytes, OutOfMemory};
@@ -383,30 +383,18 @@ const HEAD: &[u8] = b"version = 1\ntop_mib = 64\n[system]\n";
 
 #[test]
 fn refused_descriptions(rt: HostRuntime) -> Result<(), Fail> {
-    are_refused(rt.alloc(), &REFUSED)?;
-    are_refused_systems(rt.alloc(), &REFUSED_SYSTEMS)
-}
-
-fn are_refused(alloc: Global, rows: &[(&str, &str)]) -> Result<(), Fail> {
-    for (description, line) in rows {
-        is_refused_with(alloc, description, line)?;
+    for (description, line) in &REFUSED {
+        is_refused(rt.alloc(), description, description.as_bytes(), line)?;
     }
     Ok(())
 }
 
-fn is_refused_with(alloc: Global, description: &str, line: &str) -> Result<(), Fail> {
-    is_refused(alloc, description, description.as_bytes(), line)
-}
-
-fn are_refused_systems(alloc: Global, rows: &[(&str, &str)]) -> Result<(), Fail> {
-    for (system, line) in rows {
-        is_refused_system_with(alloc, system, line)?;
+#[test]
+fn refused_systems(rt: HostRuntime) -> Result<(), Fail> {
+    for (system, line) in &REFUSED_SYSTEMS {
+        is_refused_system(rt.alloc(), system, system.as_bytes(), line)?;
     }
     Ok(())
-}
-
-fn is_refused_system_with(alloc: Global, system: &str, line: &str) -> Result<(), Fail> {
-    is_refused_system(alloc, system, system.as_bytes(), line)
 }
 
 #[test]
@@ -435,13 +423,13 @@ fn texts_on_the_border(rt: HostRuntime) -> Result<(), Fail> {
 #[test]
 fn accepted_descriptions(rt: HostRuntime) -> Result<(), Fail> {
     for description in &ACCEPTED {
-        is_accepted_document(rt.alloc(), description)?;
+        is_accepted(rt.alloc(), description)?;
     }
     Ok(())
 }
 
-fn is_accepted_document(alloc: Global, description: &str) -> Result<(), Fail> {
-    is_accepted(alloc, description, description.as_bytes())
+fn is_accepted(alloc: Global, description: &str) -> Result<(), Fail> {
+    ends(alloc, &boot(description, description.as_bytes()), &BOOTED)
 }
 
 // The description is refused with this line.
@@ -455,29 +443,21 @@ fn is_refused_system(alloc: Global, case: &str, system: &[u8], line: &str) -> Re
     is_refused(alloc, case, description.as_slice(), line)
 }
 
-fn is_accepted(alloc: Global, case: &str, description: &[u8]) -> Result<(), Fail> {
-    ends(alloc, &boot(case, description), &BOOTED)
-}
-
 // A text may have 64 bytes and no more.
 fn is_accepted_to_64_bytes(alloc: Global, key: &str) -> Result<(), Fail> {
-    is_refused_text(alloc, key, &[b'x'; 65])?;
-    is_accepted_text(alloc, key, &[b'x'; 64])
-}
-
-fn is_refused_text(alloc: Global, key: &str, text: &[u8]) -> Result<(), Fail> {
-    let description = with_text(alloc, key, text)?;
-    is_refused(
+    text_ends(
         alloc,
         key,
-        description.as_slice(),
-        "description: rule 3 index 0\n",
-    )
+        &[b'x'; 65],
+        &refused(b"description: rule 3 index 0\n"),
+    )?;
+    text_ends(alloc, key, &[b'x'; 64], &BOOTED)
 }
 
-fn is_accepted_text(alloc: Global, key: &str, text: &[u8]) -> Result<(), Fail> {
+// The boot of a description whose `system` has this text ends so.
+fn text_ends(alloc: Global, key: &str, text: &[u8], ending: &Ending) -> Result<(), Fail> {
     let description = with_text(alloc, key, text)?;
-    is_accepted(alloc, key, description.as_slice())
+    ends(alloc, &boot(key, description.as_slice()), ending)
 }
 
 fn are_refused_arrays(alloc: Global, depth: u32) -> Result<(), Fail> {

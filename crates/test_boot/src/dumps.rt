@@ -1,9 +1,9 @@
 //! Descriptions, and the dumps of the machines that they describe.
 
 use fixtures::{
-    EMPTY, EMPTY_DUMP, FULL_DUMP, MINIMAL, MINIMAL_DUMP, ON_THE_BORDER, ON_THE_BORDER_DUMP, QUOTES,
-    QUOTES_DUMP, WITH_ACPI, WITH_ACPI_AND_HPET, WITH_ACPI_AND_HPET_DUMP, WITH_ACPI_DUMP, boot,
-    booted, ends, full_description,
+    EMPTY, EMPTY_DUMP, LONG_TEXTS_DUMP, MINIMAL, MINIMAL_DUMP, ON_THE_BORDER, ON_THE_BORDER_DUMP,
+    QUOTES, QUOTES_DUMP, WITH_ACPI, WITH_ACPI_AND_HPET, WITH_ACPI_AND_HPET_DUMP, WITH_ACPI_DUMP,
+    boot, booted, ends, long_texts_description,
 };
 use std::alloc::Global;
 use std::test::Fail;
@@ -30,54 +30,49 @@ static SPELLINGS: [&str; 9] = [
     "system.uuid = \"00112233-4455-6677-8899-aabbccddeeff\"\ntop_mib = 64\nsystem.product = \"VM\"\nversion = 1\nsystem.manufacturer = \"ACME\"\n",
 ];
 
+static MACHINES: [(&str, &str); 6] = [
+    (MINIMAL, MINIMAL_DUMP),
+    (EMPTY, EMPTY_DUMP),
+    (QUOTES, QUOTES_DUMP),
+    // with ACPI tables
+    (WITH_ACPI_AND_HPET, WITH_ACPI_AND_HPET_DUMP),
+    (WITH_ACPI, WITH_ACPI_DUMP),
+    (ON_THE_BORDER, ON_THE_BORDER_DUMP),
+];
+
 #[test]
 fn machines_and_their_dumps(rt: HostRuntime) -> Result<(), Fail> {
-    are_dumped(
-        rt.alloc(),
-        &[
-            (MINIMAL, MINIMAL_DUMP),
-            (EMPTY, EMPTY_DUMP),
-            (QUOTES, QUOTES_DUMP),
-        ],
-    )
-}
-
-#[test]
-fn machines_with_acpi_tables_and_their_dumps(rt: HostRuntime) -> Result<(), Fail> {
-    are_dumped(
-        rt.alloc(),
-        &[
-            (WITH_ACPI_AND_HPET, WITH_ACPI_AND_HPET_DUMP),
-            (WITH_ACPI, WITH_ACPI_DUMP),
-            (ON_THE_BORDER, ON_THE_BORDER_DUMP),
-        ],
-    )
-}
-
-// Each description's machine has the dump beside it.
-pub(crate) fn are_dumped(alloc: Global, worked: &[(&str, &str)]) -> Result<(), Fail> {
-    for (description, dump) in worked {
-        is_dumped(alloc, description, dump)?;
+    for (description, dump) in &MACHINES {
+        is_dumped(rt.alloc(), description, description.as_bytes(), dump)?;
     }
     Ok(())
 }
 
-fn is_dumped(alloc: Global, description: &str, dump: &str) -> Result<(), Fail> {
-    let run = boot(description, description.as_bytes());
-    ends(alloc, &run, &booted(dump))
+// The machine of a description has this dump.
+pub(crate) fn is_dumped(
+    alloc: Global,
+    case: &str,
+    description: &[u8],
+    dump: &str,
+) -> Result<(), Fail> {
+    ends(alloc, &boot(case, description), &booted(dump))
 }
 
 #[test]
 fn spellings_of_one_machine(rt: HostRuntime) -> Result<(), Fail> {
     for spelling in &SPELLINGS {
-        is_dumped(rt.alloc(), spelling, MINIMAL_DUMP)?;
+        is_dumped(rt.alloc(), spelling, spelling.as_bytes(), MINIMAL_DUMP)?;
     }
     Ok(())
 }
 
 #[test]
 fn texts_of_64_bytes(rt: HostRuntime) -> Result<(), Fail> {
-    let description = full_description(rt.alloc())?;
-    let run = boot("texts of 64 bytes", description.as_slice());
-    ends(rt.alloc(), &run, &booted(FULL_DUMP))
+    let description = long_texts_description(rt.alloc())?;
+    is_dumped(
+        rt.alloc(),
+        "texts of 64 bytes",
+        description.as_slice(),
+        LONG_TEXTS_DUMP,
+    )
 }

@@ -49,7 +49,9 @@ fn a_plan_of_no_events(rt: HostRuntime) -> Result<(), Fail> {
 
 fn ends_in_turns(alloc: Global, times: usize, dump: &str) -> Result<(), Fail> {
     let mut plan = plan_of(alloc, &TURN, times)?;
-    ends_over_plan(alloc, &mut plan, &booted(dump))
+    let ended = ends_over_plan(alloc, &mut plan, &booted(dump));
+    drop(plan);
+    ended
 }
 
 fn ends_over_plan(alloc: Global, plan: &mut ListSchedule, ending: &Ending) -> Result<(), Fail> {
@@ -58,6 +60,7 @@ fn ends_over_plan(alloc: Global, plan: &mut ListSchedule, ending: &Ending) -> Re
     let mut world = World::idle();
     let ended = ends_over(alloc, &run, &mut place, plan, &mut world, ending);
     drop(world);
+    drop(place);
     ended
 }
 
@@ -99,11 +102,13 @@ fn places_at_the_top(rt: HostRuntime) -> Result<(), Fail> {
     Ok(())
 }
 
+static POLICIES: [&str; 3] = ["low", "top", "scatter"];
+
 static SEEDS: [&str; 4] = ["0", "1", "77", "18446744073709551615"];
 
 #[test]
 fn each_policy_with_seeds(rt: HostRuntime) -> Result<(), Fail> {
-    for policy in ["low", "top", "scatter"] {
+    for policy in &POLICIES {
         all_boot(rt.alloc(), policy)?;
     }
     Ok(())

@@ -38,7 +38,9 @@ fn no_room_at(index: u32, say: &[u8]) -> Ending<'_> {
 
 fn ends_placed(alloc: Global, fails: &[u32], ending: &Ending) -> Result<(), Fail> {
     let mut place = failing_places(alloc, fails)?;
-    ends_with_places(alloc, &mut place, ending)
+    let ended = ends_with_places(alloc, &mut place, ending);
+    drop(place);
+    ended
 }
 
 fn ends_with_places(alloc: Global, place: &mut FailingAlloc, ending: &Ending) -> Result<(), Fail> {

@@ -64,7 +64,13 @@ fn a_flush_that_fails(rt: HostRuntime) -> Result<(), Fail> {
     let mut writer = StuckWriter {
         taken: Vec::new(rt.alloc()),
     };
-    boot_to_writer(rt.alloc(), &mut writer)?;
+    let done = boot_fails_to_flush(rt.alloc(), &mut writer);
+    drop(writer);
+    done
+}
+
+fn boot_fails_to_flush(alloc: Global, writer: &mut StuckWriter) -> Result<(), Fail> {
+    boot_to_writer(alloc, writer)?;
     is_same(
         "a flush that fails",
         "standard output",
@@ -76,7 +82,9 @@ fn a_flush_that_fails(rt: HostRuntime) -> Result<(), Fail> {
 // Boots the minimal machine to a writer whose flush fails.
 fn boot_to_writer(alloc: Global, writer: &mut StuckWriter) -> Result<(), Fail> {
     let mut say = sink(alloc, ROOM, &[])?;
-    boot_to_writers(alloc, writer, &mut say)
+    let done = boot_to_writers(alloc, writer, &mut say);
+    drop(say);
+    done
 }
 
 fn boot_to_writers(
@@ -100,7 +108,9 @@ fn status_to_writer(
     say: &mut ListSink,
 ) -> Result<Status, OutOfMemory> {
     let mut source = SureSource::new(copy_of(alloc, MINIMAL.as_bytes())?);
-    status_from(alloc, &mut source, writer, say)
+    let status = status_from(alloc, &mut source, writer, say);
+    drop(source);
+    status
 }
 
 fn status_from(

@@ -10,7 +10,7 @@ static FAILING: [(&str, usize, &[u32]); 5] = [
     ("each piece", 117, &[0, 1, 2, 3]),
     ("the end", 117, &[1]),
     ("the end, after pieces of one byte", 1, &[117]),
-    ("the last piece of seven bytes", 7, &[16, 17]),
+    ("the last piece, in pieces of seven bytes", 7, &[16, 17]),
 ];
 
 // The same, of calls that are never made: the first is the one after the end.

@@ -1,15 +1,17 @@
 //! The container of the minimal machine, worked by hand: `build` writes it, and it is read again.
 
 use crate::endings::{build, built};
-use cfg_directory::read_image;
-use fixtures::{MINIMAL, ends, is_same, put_allocate, put_checksum, put_file, put_pointer};
+use cfg_directory::{Item, read_image};
+use fixtures::{MINIMAL, ends, is_same, put_allocate, put_checksum, put_entry, put_pointer};
 use std::alloc::Global;
 use std::test::Fail;
-use vt_outside::{Bytes, OutOfMemory};
+use vt_outside::{Bytes, Name, OutOfMemory};
 
 const ANCHOR: &str = "etc/smbios/smbios-anchor";
 
 const STRUCTURES: &str = "etc/smbios/smbios-tables";
+
+const SCRIPT: &str = "etc/table-loader";
 
 // The anchor before it is linked, with zeros for its sum and for the address of the structures.
 const ANCHOR_BYTES: [u8; 24] = [
@@ -44,9 +46,23 @@ fn is_built(alloc: Global, container: &[u8]) -> Result<(), Fail> {
 
 fn has_files(alloc: Global, container: &[u8]) -> Result<(), Fail> {
     match read_image(alloc, container) {
-        Ok(items) => is_same("minimal", "files", &items.all().len(), &3),
+        Ok(items) => are_files(items.all()),
         Err(_) => Err(Fail::new("no container")),
     }
+}
+
+fn are_files(items: &[Item]) -> Result<(), Fail> {
+    let [anchor, structures, script] = items else {
+        return Err(Fail::new("another number of files than three"));
+    };
+    is_file(anchor, ANCHOR, 24)?;
+    is_file(structures, STRUCTURES, 42)?;
+    is_file(script, SCRIPT, 512)
+}
+
+fn is_file(item: &Item, name: &str, size: usize) -> Result<(), Fail> {
+    is_same(name, "name", &item.name, &Name::of(name)?)?;
+    is_same(name, "size", &item.bytes.len(), &size)
 }
 
 fn minimal_container(alloc: Global) -> Result<Bytes, OutOfMemory> {
@@ -60,9 +76,9 @@ fn minimal_container(alloc: Global) -> Result<Bytes, OutOfMemory> {
 // Three files, none of which a guest may write.
 fn put_directory(bytes: &mut Bytes) -> Result<(), OutOfMemory> {
     bytes.extend(&[0, 0, 0, 3])?;
-    put_file(bytes, 24, 0x20, ANCHOR)?;
-    put_file(bytes, 42, 0x21, STRUCTURES)?;
-    put_file(bytes, 512, 0x22, "etc/table-loader")?;
+    put_entry(bytes, 24, 0x20, ANCHOR)?;
+    put_entry(bytes, 42, 0x21, STRUCTURES)?;
+    put_entry(bytes, 512, 0x22, SCRIPT)?;
     bytes.extend(&[0, 0, 0])
 }
 

@@ -24,7 +24,7 @@ pub(crate) fn build<'a>(case: &'a str, input: &'a [u8]) -> Run<'a> {
 }
 
 // Descriptions that are refused, and the lines of their first faults.
-const REFUSED: [(&str, &str); 3] = [
+const REFUSED: &[(&str, &str)] = &[
     ("[", "description: not TOML\n"),
     (
         "version = 1\ntop_mib = 63\nsystem = {}\n",
@@ -38,14 +38,18 @@ const REFUSED: [(&str, &str); 3] = [
 
 #[test]
 fn descriptions_that_are_refused(rt: HostRuntime) -> Result<(), Fail> {
-    for (text, line) in &REFUSED {
-        ends(
-            rt.alloc(),
-            &build(text, text.as_bytes()),
-            &refused(line.as_bytes()),
-        )?;
+    for (text, line) in REFUSED {
+        is_refused(rt.alloc(), text, line)?;
     }
     Ok(())
+}
+
+fn is_refused(alloc: Global, text: &str, line: &str) -> Result<(), Fail> {
+    ends(
+        alloc,
+        &build(text, text.as_bytes()),
+        &refused(line.as_bytes()),
+    )
 }
 
 #[test]
@@ -58,7 +62,7 @@ fn a_read_that_fails(rt: HostRuntime) -> Result<(), Fail> {
 }
 
 // Room for so many bytes, the writes that fail, and what is taken: of the first four bytes, the number of files.
-const FAILING: [(&str, usize, &[u32], &[u8]); 3] = [
+const FAILING: &[(&str, usize, &[u32], &[u8])] = &[
     ("a write", ROOM, &[0], &[]),
     ("no room", 0, &[], &[]),
     ("room for the number of files", 4, &[], &[0, 0, 0, 3]),
@@ -66,7 +70,7 @@ const FAILING: [(&str, usize, &[u32], &[u8]); 3] = [
 
 #[test]
 fn sinks_that_fail(rt: HostRuntime) -> Result<(), Fail> {
-    for (case, room, fails, taken) in &FAILING {
+    for (case, room, fails, taken) in FAILING {
         fails_after(rt.alloc(), case, *room, fails, taken)?;
     }
     Ok(())
@@ -96,16 +100,14 @@ fn fails_after(
 #[test]
 fn a_world_that_was_booted(rt: HostRuntime) -> Result<(), Fail> {
     let mut world = World::idle();
-    ends_in(
-        rt.alloc(),
-        &boot("boot", MINIMAL.as_bytes()),
-        &mut world,
-        &BOOTED,
-    )?;
-    ends_in(
-        rt.alloc(),
-        &build("build", MINIMAL.as_bytes()),
-        &mut world,
-        &BOOTED,
-    )
+    let ended = boots_and_builds(rt.alloc(), &mut world);
+    // where it ends in place, each of its many parts is a step of this proof
+    drop(world);
+    ended
+}
+
+fn boots_and_builds(alloc: Global, world: &mut World) -> Result<(), Fail> {
+    let description = MINIMAL.as_bytes();
+    ends_in(alloc, &boot("boot", description), world, &BOOTED)?;
+    ends_in(alloc, &build("build", description), world, &BOOTED)
 }

@@ -1,17 +1,19 @@
-//! Words that are commands: each command, its defaults, each bound of a value, and each order of options.
+//! Words that are commands: each command, its defaults, each bound of a value, and options in several orders.
 
-use crate::reading::is_read;
+use crate::reading::{is_read, is_read_around};
+use std::alloc::{AllocError, Global};
+use std::process::Abort;
 use std::test::Fail;
 use vt_words::{Command, PolicyName};
 
-/// Words, and the command that they are.
-struct Row(&'static [&'static str], Command);
+// Words, each behind a bar, and the command that they are.
+struct Row(&'static str, Command);
 
-const COMMANDS: [Row; 16] = [
+const COMMANDS: &[Row] = &[
     // each command with its defaults
-    Row(&["build"], Command::Build),
+    Row("|build", Command::Build),
     Row(
-        &["boot"],
+        "|boot",
         Command::Boot {
             fill: 0,
             policy: PolicyName::Low,
@@ -19,7 +21,7 @@ const COMMANDS: [Row; 16] = [
         },
     ),
     Row(
-        &["load"],
+        "|load",
         Command::Load {
             fill: 0,
             top_mib: 64,
@@ -29,7 +31,7 @@ const COMMANDS: [Row; 16] = [
     ),
     // one option
     Row(
-        &["boot", "--policy", "top"],
+        "|boot|--policy|top",
         Command::Boot {
             fill: 0,
             policy: PolicyName::Top,
@@ -37,7 +39,7 @@ const COMMANDS: [Row; 16] = [
         },
     ),
     Row(
-        &["boot", "--seed", "7"],
+        "|boot|--seed|7",
         Command::Boot {
             fill: 0,
             policy: PolicyName::Low,
@@ -46,7 +48,7 @@ const COMMANDS: [Row; 16] = [
     ),
     // two options, in each order
     Row(
-        &["load", "--fill", "a5", "--top", "128"],
+        "|load|--fill|a5|--top|128",
         Command::Load {
             fill: 0xA5,
             top_mib: 128,
@@ -55,7 +57,7 @@ const COMMANDS: [Row; 16] = [
         },
     ),
     Row(
-        &["load", "--top", "128", "--fill", "a5"],
+        "|load|--top|128|--fill|a5",
         Command::Load {
             fill: 0xA5,
             top_mib: 128,
@@ -64,7 +66,7 @@ const COMMANDS: [Row; 16] = [
         },
     ),
     Row(
-        &["load", "--seed", "18446744073709551615", "--top", "65"],
+        "|load|--seed|18446744073709551615|--top|65",
         Command::Load {
             fill: 0,
             top_mib: 65,
@@ -73,7 +75,7 @@ const COMMANDS: [Row; 16] = [
         },
     ),
     Row(
-        &["boot", "--policy", "scatter", "--seed", "12"],
+        "|boot|--policy|scatter|--seed|12",
         Command::Boot {
             fill: 0,
             policy: PolicyName::Scatter,
@@ -81,7 +83,7 @@ const COMMANDS: [Row; 16] = [
         },
     ),
     Row(
-        &["boot", "--seed", "12", "--policy", "scatter"],
+        "|boot|--seed|12|--policy|scatter",
         Command::Boot {
             fill: 0,
             policy: PolicyName::Scatter,
@@ -90,7 +92,7 @@ const COMMANDS: [Row; 16] = [
     ),
     // all options, in some orders
     Row(
-        &["boot", "--seed", "12", "--fill", "a5", "--policy", "top"],
+        "|boot|--seed|12|--fill|a5|--policy|top",
         Command::Boot {
             fill: 0xA5,
             policy: PolicyName::Top,
@@ -98,9 +100,7 @@ const COMMANDS: [Row; 16] = [
         },
     ),
     Row(
-        &[
-            "load", "--policy", "scatter", "--top", "128", "--seed", "12", "--fill", "a5",
-        ],
+        "|load|--policy|scatter|--top|128|--seed|12|--fill|a5",
         Command::Load {
             fill: 0xA5,
             top_mib: 128,
@@ -109,9 +109,7 @@ const COMMANDS: [Row; 16] = [
         },
     ),
     Row(
-        &[
-            "load", "--fill", "a5", "--seed", "12", "--top", "128", "--policy", "top",
-        ],
+        "|load|--fill|a5|--seed|12|--top|128|--policy|top",
         Command::Load {
             fill: 0xA5,
             top_mib: 128,
@@ -121,7 +119,7 @@ const COMMANDS: [Row; 16] = [
     ),
     // all options, each with its default
     Row(
-        &["boot", "--fill", "00", "--policy", "low", "--seed", "0"],
+        "|boot|--fill|00|--policy|low|--seed|0",
         Command::Boot {
             fill: 0,
             policy: PolicyName::Low,
@@ -129,9 +127,7 @@ const COMMANDS: [Row; 16] = [
         },
     ),
     Row(
-        &[
-            "load", "--fill", "00", "--top", "64", "--policy", "low", "--seed", "0",
-        ],
+        "|load|--fill|00|--top|64|--policy|low|--seed|0",
         Command::Load {
             fill: 0,
             top_mib: 64,
@@ -141,7 +137,7 @@ const COMMANDS: [Row; 16] = [
     ),
     // digits that are each of the values, read as what their name says
     Row(
-        &["load", "--top", "99", "--seed", "99", "--fill", "99"],
+        "|load|--top|99|--seed|99|--fill|99",
         Command::Load {
             fill: 0x99,
             top_mib: 99,
@@ -151,7 +147,7 @@ const COMMANDS: [Row; 16] = [
     ),
 ];
 
-const FILLS: [(&str, u8); 9] = [
+const FILLS: &[(&str, u8)] = &[
     ("00", 0),
     ("01", 1),
     ("0f", 0x0F),
@@ -163,7 +159,7 @@ const FILLS: [(&str, u8); 9] = [
     ("ff", 0xFF),
 ];
 
-const TOPS: [(&str, u32); 9] = [
+const TOPS: &[(&str, u32)] = &[
     ("64", 64),
     ("65", 65),
     ("99", 99),
@@ -175,13 +171,13 @@ const TOPS: [(&str, u32); 9] = [
     ("3072", 3072),
 ];
 
-const POLICIES: [(&str, PolicyName); 3] = [
+const POLICIES: &[(&str, PolicyName)] = &[
     ("low", PolicyName::Low),
     ("top", PolicyName::Top),
     ("scatter", PolicyName::Scatter),
 ];
 
-const SEEDS: [(&str, u64); 9] = [
+const SEEDS: &[(&str, u64)] = &[
     ("0", 0),
     ("1", 1),
     ("9", 9),
@@ -195,7 +191,7 @@ const SEEDS: [(&str, u64); 9] = [
 
 #[test]
 fn commands(rt: HostRuntime) -> Result<(), Fail> {
-    for Row(words, command) in &COMMANDS {
+    for Row(words, command) in COMMANDS {
         is_read(&rt, rt.alloc(), words, Some(*command))?;
     }
     Ok(())
@@ -204,19 +200,15 @@ fn commands(rt: HostRuntime) -> Result<(), Fail> {
 #[test]
 fn fill_bytes(rt: HostRuntime) -> Result<(), Fail> {
     for (value, fill) in FILLS {
-        let booted = booted(fill, PolicyName::Low, 0);
-        let loaded = loaded(fill, 64, PolicyName::Low, 0);
-        is_read(&rt, rt.alloc(), &["boot", "--fill", value], Some(booted))?;
-        is_read(&rt, rt.alloc(), &["load", "--fill", value], Some(loaded))?;
-    }
-    Ok(())
-}
-
-#[test]
-fn tops(rt: HostRuntime) -> Result<(), Fail> {
-    for (value, top_mib) in TOPS {
-        let loaded = loaded(0, top_mib, PolicyName::Low, 0);
-        is_read(&rt, rt.alloc(), &["load", "--top", value], Some(loaded))?;
+        are_read(
+            &rt,
+            rt.alloc(),
+            BEFORE_FILL,
+            value,
+            *fill,
+            PolicyName::Low,
+            0,
+        )?;
     }
     Ok(())
 }
@@ -224,10 +216,7 @@ fn tops(rt: HostRuntime) -> Result<(), Fail> {
 #[test]
 fn policies(rt: HostRuntime) -> Result<(), Fail> {
     for (value, policy) in POLICIES {
-        let booted = booted(0, policy, 0);
-        let loaded = loaded(0, 64, policy, 0);
-        is_read(&rt, rt.alloc(), &["boot", "--policy", value], Some(booted))?;
-        is_read(&rt, rt.alloc(), &["load", "--policy", value], Some(loaded))?;
+        are_read(&rt, rt.alloc(), BEFORE_POLICY, value, 0, *policy, 0)?;
     }
     Ok(())
 }
@@ -235,23 +224,63 @@ fn policies(rt: HostRuntime) -> Result<(), Fail> {
 #[test]
 fn seeds(rt: HostRuntime) -> Result<(), Fail> {
     for (value, seed) in SEEDS {
-        let booted = booted(0, PolicyName::Low, seed);
-        let loaded = loaded(0, 64, PolicyName::Low, seed);
-        is_read(&rt, rt.alloc(), &["boot", "--seed", value], Some(booted))?;
-        is_read(&rt, rt.alloc(), &["load", "--seed", value], Some(loaded))?;
+        are_read(
+            &rt,
+            rt.alloc(),
+            BEFORE_SEED,
+            value,
+            0,
+            PolicyName::Low,
+            *seed,
+        )?;
     }
     Ok(())
 }
 
-fn booted(fill: u8, policy: PolicyName, seed: u64) -> Command {
-    Command::Boot { fill, policy, seed }
-}
+// The words before the value of an option: those of a boot, and those of a load.
+type Before<'a> = (&'a str, &'a str);
 
-fn loaded(fill: u8, top_mib: u32, policy: PolicyName, seed: u64) -> Command {
-    Command::Load {
+const BEFORE_FILL: Before = ("|boot|--fill", "|load|--fill");
+
+const BEFORE_POLICY: Before = ("|boot|--policy", "|load|--policy");
+
+const BEFORE_SEED: Before = ("|boot|--seed", "|load|--seed");
+
+// With this value the words are a boot, and a load at the least top.
+fn are_read(
+    rt: &impl Abort,
+    alloc: Global,
+    before: Before,
+    value: &str,
+    fill: u8,
+    policy: PolicyName,
+    seed: u64,
+) -> Result<(), AllocError> {
+    let boot = Command::Boot { fill, policy, seed };
+    let load = Command::Load {
         fill,
-        top_mib,
+        top_mib: 64,
         policy,
         seed,
+    };
+    is_read_around(rt, alloc, before.0, value, "", Some(boot))?;
+    is_read_around(rt, alloc, before.1, value, "", Some(load))
+}
+
+#[test]
+fn tops(rt: HostRuntime) -> Result<(), Fail> {
+    for (value, top_mib) in TOPS {
+        is_top(&rt, rt.alloc(), value, *top_mib)?;
     }
+    Ok(())
+}
+
+fn is_top(rt: &impl Abort, alloc: Global, value: &str, top_mib: u32) -> Result<(), AllocError> {
+    let load = Command::Load {
+        fill: 0,
+        top_mib,
+        policy: PolicyName::Low,
+        seed: 0,
+    };
+    is_read_around(rt, alloc, "|load|--top", value, "", Some(load))
 }

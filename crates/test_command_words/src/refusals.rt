@@ -1,113 +1,99 @@
-//! Words that are no command.
+//! Words that are no command, each behind a bar.
 
-use crate::reading::is_read;
-use std::alloc::{AllocError, Global};
+use crate::reading::{is_read, is_read_around};
+use std::alloc::Global;
 use std::process::Abort;
 use std::test::Fail;
 
-// Words of which the first is no command's name.
-const NAMES: [&[&str]; 18] = [
-    &[],
-    &[""],
-    &["Boot"],
-    &["BOOT"],
-    &["boo"],
-    &["boots"],
-    &["boot "],
-    &[" boot"],
-    &["boot\0"],
-    &["load\n"],
-    &["Load"],
-    &["Build"],
-    &["gen"],
-    &["--help"],
-    &["--fill"],
-    &["--fill", "a5"],
-    &["--fill", "a5", "boot"],
-    &["--top", "64", "load"],
-];
-
-// Words with a word that names no option of the command.
-const OPTIONS: [&[&str]; 22] = [
-    &["build", "build"],
-    &["boot", "boot"],
-    &["boot", ""],
-    &["load", ""],
-    &["boot", "a5"],
-    &["load", "64"],
-    &["boot", "--"],
-    &["load", "--fill", "a5", "--"],
-    &["load", "load", "--top", "64"],
-    &["load", "--help", "a5"],
-    &["boot", "-fill", "a5"],
-    &["boot", "--Fill", "a5"],
-    &["boot", "--fill=a5"],
-    &["boot", "fill", "a5"],
-    &["load", "--tops", "64"],
-    &["load", "--to", "64"],
-    &["load", "", "64"],
-    &["boot", "top"],
-    &["boot", "--Seed", "1"],
-    &["boot", "--seed=1"],
-    &["load", "--policies", "low"],
-    &["load", "-policy", "low"],
-];
-
-// Words with an option of another command.
-const OTHERS: [&[&str]; 8] = [
-    &["build", "--fill", "a5"],
-    &["build", "--top", "64"],
-    &["boot", "--top", "64"],
-    &["boot", "--fill", "a5", "--top", "64"],
-    &["boot", "--top", "64", "--fill", "a5"],
-    &["build", "--seed", "1"],
-    &["build", "--policy", "low"],
-    &["boot", "--policy", "low", "--top", "64", "--seed", "1"],
-];
-
-// Words with a name without its value.
-const NO_VALUE: [&[&str]; 13] = [
-    &["build", "--fill"],
-    &["boot", "--fill"],
-    &["load", "--fill"],
-    &["load", "--top"],
-    &["load", "--fill", "a5", "--top"],
-    &["load", "--top", "64", "--fill"],
-    &["load", "--fill", "--top", "64"],
-    &["boot", "--fill", "a5", "--fill"],
-    &["load", "--fill", "--top"],
-    &["boot", "--policy"],
-    &["load", "--seed"],
-    &["boot", "--policy", "--seed", "1"],
-    &["load", "--policy", "top", "--seed"],
-];
-
-// Words with an option that is given twice.
-const TWICE: [&[&str]; 12] = [
-    &["boot", "--fill", "a5", "--fill", "a5"],
-    &["boot", "--fill", "00", "--fill", "01"],
-    &["load", "--fill", "00", "--fill", "00"],
-    &["load", "--top", "64", "--top", "64"],
-    &["load", "--fill", "a5", "--top", "64", "--fill", "a5"],
-    &["load", "--top", "64", "--fill", "a5", "--top", "128"],
-    &["boot", "--fill", "a5", "--fill", "a5", "--fill", "a5"],
-    &["boot", "--seed", "1", "--seed", "1"],
-    &["load", "--seed", "0", "--top", "64", "--seed", "1"],
-    &["boot", "--policy", "low", "--policy", "low"],
-    &["load", "--policy", "low", "--fill", "a5", "--policy", "top"],
-    &[
-        "boot", "--policy", "scatter", "--seed", "1", "--policy", "scatter", "--seed", "1",
-    ],
+const NO_COMMANDS: &[&str] = &[
+    // the first is no command's name
+    "",
+    "|",
+    "|Boot",
+    "|BOOT",
+    "|boo",
+    "|boots",
+    "|boot ",
+    "| boot",
+    "|boot\0",
+    "|load\n",
+    "|Load",
+    "|Build",
+    "|gen",
+    "|--help",
+    "|--fill",
+    "|--fill|a5",
+    "|--fill|a5|boot",
+    "|--top|64|load",
+    // a word that names no option of the command
+    "|build|build",
+    "|boot|boot",
+    "|boot|",
+    "|load|",
+    "|boot|a5",
+    "|load|64",
+    "|boot|--",
+    "|load|--fill|a5|--",
+    "|load|load|--top|64",
+    "|load|--help|a5",
+    "|boot|-fill|a5",
+    "|boot|--Fill|a5",
+    "|boot|--fill=a5",
+    "|boot|fill|a5",
+    "|load|--tops|64",
+    "|load|--to|64",
+    "|load||64",
+    "|boot|top",
+    "|boot|--Seed|1",
+    "|boot|--seed=1",
+    "|load|--policies|low",
+    "|load|-policy|low",
+    // an option of another command
+    "|build|--fill|a5",
+    "|build|--top|64",
+    "|boot|--top|64",
+    "|boot|--fill|a5|--top|64",
+    "|boot|--top|64|--fill|a5",
+    "|build|--seed|1",
+    "|build|--policy|low",
+    "|boot|--policy|low|--top|64|--seed|1",
+    // a name without its value
+    "|build|--fill",
+    "|boot|--fill",
+    "|load|--fill",
+    "|load|--top",
+    "|load|--fill|a5|--top",
+    "|load|--top|64|--fill",
+    "|load|--fill|--top|64",
+    "|boot|--fill|a5|--fill",
+    "|load|--fill|--top",
+    "|boot|--policy",
+    "|load|--seed",
+    "|boot|--policy|--seed|1",
+    "|load|--policy|top|--seed",
+    // an option that is given twice
+    "|boot|--fill|a5|--fill|a5",
+    "|boot|--fill|00|--fill|01",
+    "|load|--fill|00|--fill|00",
+    "|load|--top|64|--top|64",
+    "|load|--fill|a5|--top|64|--fill|a5",
+    "|load|--top|64|--fill|a5|--top|128",
+    "|boot|--fill|a5|--fill|a5|--fill|a5",
+    "|boot|--seed|1|--seed|1",
+    "|load|--seed|0|--top|64|--seed|1",
+    "|boot|--policy|low|--policy|low",
+    "|load|--policy|low|--fill|a5|--policy|top",
+    "|boot|--policy|scatter|--seed|1|--policy|scatter|--seed|1",
 ];
 
 // What isn't two lower-case hexadecimal digits.
-const NO_FILLS: [&str; 22] = [
+const NO_FILLS: &[&str] = &[
     "", "0", "a", "000", "0000a5", "A5", "aF", "fF", "g0", "0g", "0/", ":0", "`0", "0G", "0x",
     "x0", " 5", "5 ", "+5", "-5", "é", "a\0",
 ];
 
 // What isn't a number from 64 to 3072, in digits without a sign or a zero in front.
-const NO_TOPS: [&str; 37] = [
+const NO_TOPS: &[&str] = &[
     "",
     "0",
     "1",
@@ -148,7 +134,7 @@ const NO_TOPS: [&str; 37] = [
 ];
 
 // What names no policy.
-const NO_POLICIES: [&str; 14] = [
+const NO_POLICIES: &[&str] = &[
     "",
     "Low",
     "LOW",
@@ -166,7 +152,7 @@ const NO_POLICIES: [&str; 14] = [
 ];
 
 // What isn't a number of 64 bits, in digits without a sign or a zero in front.
-const NO_SEEDS: [&str; 18] = [
+const NO_SEEDS: &[&str] = &[
     "",
     "00",
     "01",
@@ -187,95 +173,75 @@ const NO_SEEDS: [&str; 18] = [
     "123456789012345678901234567890",
 ];
 
-#[test]
-fn names(rt: HostRuntime) -> Result<(), Fail> {
-    are_no_commands(&rt, rt.alloc(), &NAMES)?;
-    Ok(())
+// Values that an option doesn't take, and what stands before and behind each.
+struct Refused {
+    before: &'static str,
+    values: &'static [&'static str],
+    behind: &'static str,
 }
 
-#[test]
-fn options(rt: HostRuntime) -> Result<(), Fail> {
-    are_no_commands(&rt, rt.alloc(), &OPTIONS)?;
-    Ok(())
-}
+const REFUSED: &[Refused] = &[
+    Refused {
+        before: "|boot|--fill",
+        values: NO_FILLS,
+        behind: "",
+    },
+    Refused {
+        before: "|load|--top|64|--fill",
+        values: NO_FILLS,
+        behind: "",
+    },
+    Refused {
+        before: "|load|--top",
+        values: NO_TOPS,
+        behind: "",
+    },
+    Refused {
+        before: "|load|--top",
+        values: NO_TOPS,
+        behind: "|--fill|a5",
+    },
+    Refused {
+        before: "|boot|--policy",
+        values: NO_POLICIES,
+        behind: "",
+    },
+    Refused {
+        before: "|load|--seed|1|--policy",
+        values: NO_POLICIES,
+        behind: "",
+    },
+    Refused {
+        before: "|boot|--seed",
+        values: NO_SEEDS,
+        behind: "",
+    },
+    Refused {
+        before: "|load|--seed",
+        values: NO_SEEDS,
+        behind: "|--policy|top",
+    },
+];
 
 #[test]
-fn options_of_another_command(rt: HostRuntime) -> Result<(), Fail> {
-    are_no_commands(&rt, rt.alloc(), &OTHERS)?;
-    Ok(())
-}
-
-#[test]
-fn names_without_values(rt: HostRuntime) -> Result<(), Fail> {
-    are_no_commands(&rt, rt.alloc(), &NO_VALUE)?;
-    Ok(())
-}
-
-#[test]
-fn options_that_are_given_twice(rt: HostRuntime) -> Result<(), Fail> {
-    are_no_commands(&rt, rt.alloc(), &TWICE)?;
-    Ok(())
-}
-
-#[test]
-fn fill_bytes(rt: HostRuntime) -> Result<(), Fail> {
-    for value in NO_FILLS {
-        is_read(&rt, rt.alloc(), &["boot", "--fill", value], None)?;
-        is_read(
-            &rt,
-            rt.alloc(),
-            &["load", "--top", "64", "--fill", value],
-            None,
-        )?;
+fn words(rt: HostRuntime) -> Result<(), Fail> {
+    for words in NO_COMMANDS {
+        is_read(&rt, rt.alloc(), words, None)?;
     }
     Ok(())
 }
 
 #[test]
-fn tops(rt: HostRuntime) -> Result<(), Fail> {
-    for value in NO_TOPS {
-        is_read(&rt, rt.alloc(), &["load", "--top", value], None)?;
-        is_read(
-            &rt,
-            rt.alloc(),
-            &["load", "--top", value, "--fill", "a5"],
-            None,
-        )?;
+fn values(rt: HostRuntime) -> Result<(), Fail> {
+    for refused in REFUSED {
+        are_refused(&rt, rt.alloc(), refused)?;
     }
     Ok(())
 }
 
-#[test]
-fn policies(rt: HostRuntime) -> Result<(), Fail> {
-    for value in NO_POLICIES {
-        is_read(&rt, rt.alloc(), &["boot", "--policy", value], None)?;
-        is_read(
-            &rt,
-            rt.alloc(),
-            &["load", "--seed", "1", "--policy", value],
-            None,
-        )?;
-    }
-    Ok(())
-}
-
-#[test]
-fn seeds(rt: HostRuntime) -> Result<(), Fail> {
-    for value in NO_SEEDS {
-        is_read(&rt, rt.alloc(), &["boot", "--seed", value], None)?;
-        is_read(
-            &rt,
-            rt.alloc(),
-            &["load", "--seed", value, "--policy", "top"],
-            None,
-        )?;
-    }
-    Ok(())
-}
-
-fn are_no_commands(rt: &impl Abort, alloc: Global, lines: &[&[&str]]) -> Result<(), AllocError> {
-    for words in lines {
-        is_read(rt, alloc, words, None)?;
+fn are_refused(rt: &impl Abort, alloc: Global, refused: &Refused) -> Result<(), Fail> {
+    for value in refused.values {
+        is_read_around(rt, alloc, refused.before, value, refused.behind, None)?;
     }
     Ok(())
 }

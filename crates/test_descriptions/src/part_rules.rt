@@ -6,7 +6,7 @@ use std::alloc::Global;
 use std::process::Abort;
 use std::test::Fail;
 
-// Texts that are too long, or don't show.
+// Texts that are too long, or have a byte below 0x20 or above 0x7E.
 static OF_TEXTS: [(&str, &str); 25] = [
     ("oem_strings = [\"\\n\"]", "rule 3 index 0"),
     (
@@ -242,7 +242,8 @@ static OF_RANGES: [(&str, &str); 30] = [
     ),
 ];
 
-// What stands before, so often, and behind a list's elements, and what its description is read as.
+// A list in a description: what stands before its elements, the element, how often it stands there, and what stands behind; and what the
+// description is read as.
 struct Long {
     before: &'static str,
     element: &'static str,
@@ -251,6 +252,7 @@ struct Long {
     wanted: &'static str,
 }
 
+// Lists that are longer than they may be, and lists of as many elements as they may have, whose descriptions break a later rule.
 static LISTS: [Long; 12] = [
     Long {
         before: "oem_strings = [",
@@ -353,22 +355,16 @@ fn is_told(rt: &impl Abort, alloc: Global, list: &Long) -> Result<(), Fail> {
 }
 
 #[test]
-fn lists_that_are_too_long(rt: HostRuntime) -> Result<(), Fail> {
+fn lists_about_their_limits(rt: HostRuntime) -> Result<(), Fail> {
     for list in &LISTS {
         is_told(&rt, rt.alloc(), list)?;
     }
     Ok(())
 }
 
-// The tables: a static can't refer to others.
-fn tables() -> [&'static [(&'static str, &'static str)]; 3] {
-    [&OF_TEXTS, &OF_NUMBERS, &OF_RANGES]
-}
-
 #[test]
 fn rules_on_parts(rt: HostRuntime) -> Result<(), Fail> {
-    for rows in tables() {
-        are_told(&rt, rt.alloc(), FRONT, rows)?;
-    }
-    Ok(())
+    are_told(&rt, rt.alloc(), FRONT, &OF_TEXTS)?;
+    are_told(&rt, rt.alloc(), FRONT, &OF_NUMBERS)?;
+    are_told(&rt, rt.alloc(), FRONT, &OF_RANGES)
 }

@@ -165,7 +165,8 @@ fn push_numbers(alloc: Global, told: &mut String, numbers: &[u64]) -> Result<(),
     Ok(())
 }
 
-fn push_number(alloc: Global, told: &mut String, number: u64) -> Result<(), Fail> {
+// A number behind a space.
+pub(crate) fn push_number(alloc: Global, told: &mut String, number: u64) -> Result<(), Fail> {
     let number = format!(in alloc; " {number}")?;
     told.push_str(number.as_str())?;
     Ok(())

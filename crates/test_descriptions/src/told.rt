@@ -1,3 +1,5 @@
+//! What a description is read as, in words.
+
 use crate::words::told_machine;
 use desc_toml::{DescFault, read_machine};
 use machine_desc::Machine;
@@ -54,7 +56,9 @@ pub(crate) fn are_bytes_told(
 
 // Compares a text. A failure names what it is told of.
 pub(crate) fn is_text(rt: &impl Abort, text: &str, wanted: &str, of: &str) {
-    assert_eq!(rt; text, wanted, "of {of}");
+    if text != wanted {
+        panic!(rt; "{text} in place of {wanted}, of {of}");
+    }
 }
 
 // What bytes are read as, in words: a machine, or the first fault. A machine has twenty parts to drop: it is proved once, in the call.
@@ -94,7 +98,7 @@ fn told_fault(alloc: Global, fault: &DescFault) -> Result<String, Fail> {
 }
 
 fn told_words(alloc: Global, words: &str) -> Result<String, Fail> {
-    Ok(format!(in alloc; "{words}")?)
+    Ok(String::from_str(alloc, words)?)
 }
 
 fn told_at(alloc: Global, what: &str, table: u8, index: u32, key: u8) -> Result<String, Fail> {

@@ -1,6 +1,6 @@
 //! Machines in words.
 
-use crate::part_words::push_parts;
+use crate::part_words::{push_number, push_parts};
 use machine_desc::{Acpi, Hpet, Machine, System};
 use std::alloc::Global;
 use std::test::Fail;
@@ -23,9 +23,8 @@ fn push_machine(alloc: Global, told: &mut String, machine: &Machine) -> Result<(
 }
 
 fn push_top(alloc: Global, told: &mut String, top_mib: u32) -> Result<(), Fail> {
-    let top = format!(in alloc; "top {top_mib}")?;
-    told.push_str(top.as_str())?;
-    Ok(())
+    told.push_str("top")?;
+    push_number(alloc, told, u64::from(top_mib))
 }
 
 fn push_oem_strings(told: &mut String, texts: &[Text]) -> Result<(), Fail> {

@@ -70,27 +70,25 @@ fn a_new_device(rt: HostRuntime) -> Result<(), Fail> {
     Ok(())
 }
 
+// Items by their selectors, and whether the host sees each. It sees files alone.
+static SEEN: [(u16, bool); 6] = [
+    (0x0000, false),
+    (0x0001, false),
+    (0x0019, false),
+    (0x0020, true),
+    (0x0021, true),
+    (0x0022, false),
+];
+
 fn is_new(rt: &impl Abort, device: &mut Device) {
     assert_eq!(rt; device.read_address(), 0x5145_4D55_2043_4647);
     next_is(rt, device, 0x51);
-    are_files(rt, device);
+    are_seen(rt, device);
 }
 
-// The host sees files alone.
-fn are_files(rt: &impl Abort, device: &Device) {
+fn are_seen(rt: &impl Abort, device: &Device) {
     assert!(rt; device.finished().is_empty());
-    for select in [0x0000, 0x0001, 0x0019, 0x0022] {
-        is_no_file(rt, device, select);
+    for (select, is_seen) in &SEEN {
+        assert_eq!(rt; device.item(*select).is_some(), *is_seen, "{select}");
     }
-    for select in [0x0020, 0x0021] {
-        is_file(rt, device, select);
-    }
-}
-
-fn is_no_file(rt: &impl Abort, device: &Device, select: u16) {
-    assert!(rt; device.item(select).is_none(), "{select}");
-}
-
-fn is_file(rt: &impl Abort, device: &Device, select: u16) {
-    assert!(rt; device.item(select).is_some(), "{select}");
 }

@@ -4,7 +4,7 @@ ghost use Rattle.std.specs.Prelude.{◌≡◌};
 ghost use Rattle.cfg_dma.specs.Transfers.{room_of};
 
 use crate::rig::{
-    Asked, DIRECTORY, ERROR, FIXED, READ, SELECT, SKIP, TARGET, WRITABLE, WRITE, finish,
+    Asked, DIRECTORY, ERROR, FIXED, READ, SELECT, SKIP, TARGET, WRITABLE, WRITE, finish, has_begun,
     has_control, has_finished, has_target, new_rig, start, transfer,
 };
 use cfg_dma::{Device, Finished, Kind};
@@ -22,8 +22,8 @@ const SIGNATURE: Asked = Asked {
 
 #[test]
 fn the_signature_in_pieces(rt: HostRuntime) -> Result<(), Fail> {
-    for bytes in [1, 3, u32::MAX] {
-        is_signature_in(&rt, rt.alloc(), bytes)?;
+    for bytes in &[1, 3, u32::MAX] {
+        is_signature_in(&rt, rt.alloc(), *bytes)?;
     }
     Ok(())
 }
@@ -40,8 +40,7 @@ fn is_signature(rt: &impl Abort, device: &mut Device, memory: &mut GuestMemory, 
     requires { room_of device.old ≡ 8 }
 {
     start(rt, device, memory, SIGNATURE);
-    assert!(rt; device.busy());
-    assert!(rt; device.finished().is_empty());
+    has_begun(rt, device, true, 0);
     has_control(rt, memory, READ | SELECT);
     finish(rt, device, memory, bytes);
     is_read(rt, device, memory);
@@ -123,6 +122,30 @@ fn leaves(
     has_target(rt, memory, *target);
 }
 
+// The second read is of the same bytes as the first.
+#[test]
+fn a_select_resets_the_offset(rt: HostRuntime) -> Result<(), Fail> {
+    let mut rig = new_rig(rt.alloc())?;
+    read_two(&rt, &mut rig.device, &mut rig.memory);
+    read_two(&rt, &mut rig.device, &mut rig.memory);
+    drop(rig);
+    Ok(())
+}
+
+fn read_two(rt: &impl Abort, device: &mut Device, memory: &mut GuestMemory)
+    requires { room_of device.old ≡ 8 }
+    ensures { room_of device.new ≡ 8 }
+{
+    let asked = Asked {
+        control: READ | SELECT | FIXED,
+        length: 2,
+        address: TARGET,
+    };
+    start(rt, device, memory, asked);
+    finish(rt, device, memory, 1);
+    has_target(rt, memory, [5, 6, 0xEE, 0xEE, 0xEE, 0xEE, 0xEE, 0xEE]);
+}
+
 #[test]
 fn a_skip_past_the_end(rt: HostRuntime) -> Result<(), Fail> {
     let mut rig = new_rig(rt.alloc())?;
@@ -177,8 +200,8 @@ fn is_at_end(rt: &impl Abort, device: &mut Device, memory: &mut GuestMemory)
 
 #[test]
 fn many_zeros_over_frames(rt: HostRuntime) -> Result<(), Fail> {
-    for bytes in [700, u32::MAX] {
-        are_zeros_in(&rt, rt.alloc(), bytes)?;
+    for bytes in &[700, u32::MAX] {
+        are_zeros_in(&rt, rt.alloc(), *bytes)?;
     }
     Ok(())
 }
@@ -205,8 +228,11 @@ fn are_zeros(rt: &impl Abort, device: &mut Device, memory: &mut GuestMemory, byt
 }
 
 fn have_sums_of_zeros(rt: &impl Abort, memory: &GuestMemory) {
-    assert_eq!(rt; memory.sum_range(0x8FFE, 9000), 0x38);
-    assert_eq!(rt; memory.sum_range(0x8FFD, 9002), 0x14);
+    let sums = (
+        memory.sum_range(0x8FFE, 9000),
+        memory.sum_range(0x8FFD, 9002),
+    );
+    assert_eq!(rt; sums, (0x38, 0x14));
 }
 
 #[test]

@@ -5,7 +5,7 @@ ghost use Rattle.cfg_dma.specs.Transfers.{room_of};
 
 use crate::rig::{
     Asked, DESCRIPTOR, FIXED, READ, SELECT, TARGET, WRITABLE, WRITE, describe, device, finish,
-    has_bytes, has_control, has_target, memory, new_rig, start, start_at, start_low,
+    has_begun, has_bytes, has_control, has_target, memory, start, start_at, start_low,
 };
 use cfg_dma::Device;
 use guest_memory::GuestMemory;
@@ -67,8 +67,7 @@ fn is_passed_over(
     };
     describe(memory, asked);
     start_at(rt, device, memory, high, low);
-    assert!(rt; !device.busy());
-    assert!(rt; device.finished().is_empty());
+    has_begun(rt, device, false, 0);
     has_control(rt, memory, READ | SELECT | FIXED);
     start_low(rt, device, memory, DESCRIPTOR);
     finish(rt, device, memory, 2);
@@ -110,9 +109,9 @@ fn is_over_at_once_both_ways(
     length: u32,
     left: u32,
 ) -> Result<(), Fail> {
-    for control in [READ | SELECT | FIXED, WRITE | SELECT | WRITABLE] {
+    for control in &[READ | SELECT | FIXED, WRITE | SELECT | WRITABLE] {
         let asked = Asked {
-            control,
+            control: *control,
             length,
             address,
         };
@@ -145,33 +144,8 @@ fn is_over_at_once(
     requires { room_of device.old ≡ 8 }
 {
     start(rt, device, memory, asked);
-    assert!(rt; !device.busy());
-    assert_eq!(rt; device.finished().len(), 1);
+    has_begun(rt, device, false, 1);
     has_control(rt, memory, left);
     has_target(rt, memory, [0xEE; 8]);
     has_bytes(rt, device, 0x21, &[1, 2, 3, 4, 5, 6]);
-}
-
-// The second read is of the same bytes as the first.
-#[test]
-fn a_select_resets_the_offset(rt: HostRuntime) -> Result<(), Fail> {
-    let mut rig = new_rig(rt.alloc())?;
-    read_two(&rt, &mut rig.device, &mut rig.memory);
-    read_two(&rt, &mut rig.device, &mut rig.memory);
-    drop(rig);
-    Ok(())
-}
-
-fn read_two(rt: &impl Abort, device: &mut Device, memory: &mut GuestMemory)
-    requires { room_of device.old ≡ 8 }
-    ensures { room_of device.new ≡ 8 }
-{
-    let asked = Asked {
-        control: READ | SELECT | FIXED,
-        length: 2,
-        address: TARGET,
-    };
-    start(rt, device, memory, asked);
-    finish(rt, device, memory, 1);
-    has_target(rt, memory, [5, 6, 0xEE, 0xEE, 0xEE, 0xEE, 0xEE, 0xEE]);
 }

@@ -170,12 +170,17 @@ pub(crate) fn has_target(rt: &impl Abort, memory: &GuestMemory, target: [u8; 8])
     assert_eq!(rt; bytes, target);
 }
 
+/// Compares whether a transfer is in flight, and how many are over.
+pub(crate) fn has_begun(rt: &impl Abort, device: &Device, busy: bool, count: usize) {
+    assert_eq!(rt; (device.busy(), device.finished().len()), (busy, count));
+}
+
 /// Compares how many transfers are over, and the last one.
 pub(crate) fn has_finished(rt: &impl Abort, device: &Device, count: usize, last: Finished) {
     assert_eq!(rt; device.finished().len(), count);
     match device.finished().last() {
         Some(finished) => assert_eq!(rt; *finished, last),
-        None => panic!(rt; "a transfer that is over"),
+        None => panic!(rt; "no transfer is over"),
     }
 }
 
@@ -183,6 +188,6 @@ pub(crate) fn has_finished(rt: &impl Abort, device: &Device, count: usize, last:
 pub(crate) fn has_bytes(rt: &impl Abort, device: &Device, select: u16, bytes: &[u8]) {
     match device.item(select) {
         Some(item) => assert_eq!(rt; item.bytes.as_slice(), bytes),
-        None => panic!(rt; "a file"),
+        None => panic!(rt; "no file"),
     }
 }

@@ -15,8 +15,8 @@ use std::test::Fail;
 
 #[test]
 fn a_write_in_pieces(rt: HostRuntime) -> Result<(), Fail> {
-    for bytes in [1, 3, u32::MAX] {
-        is_written_in(&rt, rt.alloc(), bytes)?;
+    for bytes in &[1, 3, u32::MAX] {
+        is_written_in(&rt, rt.alloc(), *bytes)?;
     }
     Ok(())
 }

@@ -72,7 +72,7 @@ fn entries_one_by_one(rt: HostRuntime) -> Result<(), Fail> {
     are_listed(&rt, listed.as_slice())
 }
 
-// The entries of both files, and again behind the NUL.
+// The entries of both files, and again with the NUL.
 fn listed(alloc: Global) -> Result<Vec<Listed>, OutOfMemory> {
     let mut image = image();
     let mut listed = Vec::with_capacity(alloc, 4)?;
@@ -84,7 +84,7 @@ fn listed(alloc: Global) -> Result<Vec<Listed>, OutOfMemory> {
 
 fn are_listed(rt: &impl Abort, listed: &[Listed]) -> Result<(), Fail> {
     let [first, second, third] = listed else {
-        panic!(rt; "three files");
+        panic!(rt; "not three files");
     };
     let (a, b) = (Name::of("a")?, Name::of("b")?);
     says(rt, first, &a, 0x20, 3);

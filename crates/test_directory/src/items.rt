@@ -41,7 +41,7 @@ fn is_added(
 fn is_found(rt: &impl Abort, items: &Items, first: &Name, second: &Name) {
     match items.find(first) {
         Some(item) => is_the_file(rt, item),
-        None => panic!(rt; "a file that was added"),
+        None => panic!(rt; "the file that was added isn't found"),
     }
     assert!(rt; items.find(second).is_none());
 }
@@ -55,7 +55,7 @@ fn is_the_file(rt: &impl Abort, item: &Item) {
 fn is_selected(rt: &impl Abort, items: &Items, first: &Name) {
     match items.by_select(0x20) {
         Some(item) => assert!(rt; item.name == *first),
-        None => panic!(rt; "a file that was added"),
+        None => panic!(rt; "the file that was added isn't found"),
     }
     assert!(rt; items.by_select(0x21).is_none());
 }
@@ -69,21 +69,26 @@ fn five_bytes(alloc: Global) -> Result<Bytes, OutOfMemory>
 }
 
 #[test]
-fn one_more_file(rt: HostRuntime) -> Result<(), Fail> {
-    let name = Name::of("etc/table-loader")?;
-    let mut items = Items::new(rt.alloc());
-    let added = items.add(name, false, Bytes::new(rt.alloc()));
-    drop(items);
-    assert_eq!(rt; added?, 0x20);
-    Ok(())
-}
-
-#[test]
-fn one_more_file_with_a_selector(rt: HostRuntime) -> Result<(), Fail> {
+fn a_file_with_a_selector(rt: HostRuntime) -> Result<(), Fail> {
     let name = Name::of("etc/table-loader")?;
     let mut items = Items::new(rt.alloc());
     let added = items.add_at(name, 0x3FFF, true, Bytes::new(rt.alloc()));
+    is_the_only_file(&rt, &items, &name);
     drop(items);
     added?;
     Ok(())
+}
+
+// The file has the selector that it was given, may be written and has no bytes, and no other has the first selector.
+fn is_the_only_file(rt: &impl Abort, items: &Items, name: &Name) {
+    match items.by_select(0x3FFF) {
+        Some(item) => is_empty(rt, item, name),
+        None => panic!(rt; "the file that was added isn't found"),
+    }
+    assert!(rt; items.by_select(0x20).is_none());
+}
+
+fn is_empty(rt: &impl Abort, item: &Item, name: &Name) {
+    assert!(rt; item.name == *name);
+    assert_eq!(rt; (item.writable, item.bytes.len()), (true, 0));
 }

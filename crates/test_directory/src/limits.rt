@@ -14,12 +14,8 @@ use vt_outside::{Bytes, Name, OutOfMemory};
 const CHUNK: usize = 65_536;
 
 #[test]
-fn the_largest_container_of_one_file(rt: HostRuntime) -> Result<(), Fail> {
-    is_read_and_written(&rt, rt.alloc(), 1, 1024)
-}
-
-#[test]
-fn the_largest_container_of_1024_files(rt: HostRuntime) -> Result<(), Fail> {
+fn the_largest_containers_of_one_file_and_of_1024(rt: HostRuntime) -> Result<(), Fail> {
+    is_read_and_written(&rt, rt.alloc(), 1, 1024)?;
     is_read_and_written(&rt, rt.alloc(), 1024, 1)
 }
 
@@ -80,12 +76,8 @@ fn is_front(rt: &impl Abort, directory: &[u8], items: &Items, image: &[u8]) {
 }
 
 #[test]
-fn the_largest_file_is_added(rt: HostRuntime) -> Result<(), Fail> {
-    is_added_and_written(&rt, rt.alloc(), 1, 1024)
-}
-
-#[test]
-fn files_are_added_up_to_1024(rt: HostRuntime) -> Result<(), Fail> {
+fn the_largest_file_and_1024_files_are_added(rt: HostRuntime) -> Result<(), Fail> {
+    is_added_and_written(&rt, rt.alloc(), 1, 1024)?;
     is_added_and_written(&rt, rt.alloc(), 1024, 1)
 }
 
@@ -102,7 +94,7 @@ fn is_added_and_written(rt: &impl Abort, alloc: Global, count: u16, chunks: u16)
     done
 }
 
-// A device of so many files of so many chunks each.
+// The files of a device, so many of so many chunks each.
 fn device(alloc: Global, count: u16, chunks: u16) -> Result<Items, Fail>
     requires few { count ≤ 1024 }
     requires small { count * (chunks * 65536) ≤ 67108864 }

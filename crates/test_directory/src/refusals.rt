@@ -46,45 +46,39 @@ fn longer(alloc: Global) -> Result<Bytes, OutOfMemory> {
     Ok(bytes)
 }
 
-#[test]
-fn counts_and_sizes(rt: HostRuntime) {
-    let mut many = one_file();
-    many[2] = 4;
-    let too_many = Some(ImageFault::TooMany);
-    has_fault(&rt, rt.alloc(), "1,025 files", &many, too_many);
-    many[..4].fill(0xFF);
-    has_fault(&rt, rt.alloc(), "2 ^ 32 - 1 files", &many, too_many);
-    let mut large = one_file();
-    large[4] = 4;
-    has_fault(
-        &rt,
-        rt.alloc(),
-        "a file of 67,108,867 bytes",
-        &large,
-        Some(ImageFault::TooLarge),
-    );
-}
+// What is changed in the container of one file from a place on, and its fault then.
+static CHANGED: [(&str, usize, &[u8], ImageFault); 5] = [
+    ("1,025 files", 2, &[4], ImageFault::TooMany),
+    ("2 ^ 32 - 1 files", 0, &[0xFF; 4], ImageFault::TooMany),
+    ("a file of 67,108,867 bytes", 4, &[4], ImageFault::TooLarge),
+    (
+        "a name of 56 bytes without a NUL",
+        4,
+        &[0x41; 68],
+        ImageFault::BadName(0),
+    ),
+    ("a selector of 0x1F", 9, &[0x1F], ImageFault::BadSelect(0)),
+];
 
 #[test]
-fn names_and_selectors(rt: HostRuntime) {
-    let mut no_nul = [0x41; 72];
-    no_nul[..4].copy_from_slice(&[0, 0, 0, 1]);
-    has_fault(
-        &rt,
-        rt.alloc(),
-        "a name of 56 bytes without a NUL",
-        &no_nul,
-        Some(ImageFault::BadName(0)),
-    );
-    let mut low = one_file();
-    low[9] = 0x1F;
-    has_fault(
-        &rt,
-        rt.alloc(),
-        "a selector of 0x1F",
-        &low,
-        Some(ImageFault::BadSelect(0)),
-    );
+fn changed_containers(rt: HostRuntime) {
+    for (case, place, bytes, fault) in &CHANGED {
+        has_fault_where_changed(&rt, rt.alloc(), case, *place, bytes, *fault);
+    }
+}
+
+fn has_fault_where_changed(
+    rt: &impl Abort,
+    alloc: Global,
+    case: &str,
+    place: usize,
+    bytes: &[u8],
+    fault: ImageFault,
+) {
+    assert!(rt; place <= 72 && bytes.len() <= 72 - place, "{case}");
+    let mut image = one_file();
+    image[place..place + bytes.len()].copy_from_slice(bytes);
+    has_fault(rt, alloc, case, &image, Some(fault));
 }
 
 // In each the fault before is still there, and the new one comes first.

@@ -35,7 +35,7 @@ pub(crate) const POINT: Line = Line(1, 2, &["etc/anchor", "etc/tables"], b"\x02\
 
 pub(crate) const SUM: Line = Line(1, 3, &["etc/anchor"], b"\x08\0\0\0\0\0\0\0\x09\0\0\0");
 
-/// Makes a device of the files above, of so many that are empty, and of a last one with this name and these commands.
+/// Makes the files of a device: those above, so many that are empty, and a last one with this name and these commands.
 pub(crate) fn items_of(
     alloc: Global,
     empties: u8,
@@ -54,7 +54,7 @@ fn put_lines(script: &mut Bytes, lines: &[Line]) -> Result<(), OutOfMemory> {
     Ok(())
 }
 
-/// Makes a device of the same files, where the last one has these bytes.
+/// Makes the same files, where the last one has these bytes.
 pub(crate) fn items_with(
     alloc: Global,
     empties: u8,

@@ -7,9 +7,9 @@ mod ends;
 #[cfg(test)]
 mod files;
 #[cfg(test)]
-mod pieces;
-#[cfg(test)]
 mod plans;
+#[cfg(test)]
+mod reads;
 #[cfg(test)]
 mod rig;
 #[cfg(test)]

@@ -14,7 +14,7 @@ use std::process::Abort;
 use std::test::Fail;
 use vt_outside::{List, OutOfMemory};
 
-/// Commands that change nothing, as QEMU pads its scripts.
+/// A command that changes nothing, as QEMU pads its scripts with.
 pub(crate) const PADDING: Line = Line(1, 0, &[], b"");
 
 /// What the small load leaves: 5 + 0x3000000 is 0x3000005, and 0x41 + 0x42 + 5 + 3 + 0x77 + 0x88 + 0x76 is 0x200.
@@ -22,7 +22,7 @@ pub(crate) const ANCHOR: Held = Held(0xF_0000, b"\x41\x42\x05\0\0\x03\x77\x88\x7
 
 pub(crate) const TABLES: Held = Held(0x300_0000, b"\xc1\xc2\xc3\xc4\xc5");
 
-/// Makes the device of the small load.
+/// Makes the files of the small load's device.
 pub(crate) fn small_items(alloc: Global) -> Result<Items, Fail> {
     let lines = [PLACE_ANCHOR, PLACE_TABLES, POINT, SUM, PADDING];
     items_of(alloc, 0, LOADER, &lines)

@@ -99,7 +99,7 @@ fn image(alloc: Global, sketch: &Sketch) -> Result<Image, Fail> {
 
 fn image_of_lawful(alloc: Global, machine: &Machine) -> Result<Image, Fail> {
     if machine.check().is_err() {
-        return Err(Fail::from("a lawful machine"));
+        return Err(Fail::from("a machine that breaks a rule"));
     }
     match image_of(alloc, machine, 0) {
         Ok(image) => Ok(image),

@@ -16,8 +16,11 @@ const PLACED: [Command; 2] = [
     Command::Allocate(TARGET, 64, 1),
 ];
 
-// A cause, its line, and commands that are refused for it behind these two.
-static REFUSED: [(Cause, &[u8], &[Command]); 8] = [
+// A cause, its line, and commands that are refused for it.
+type Refusal = (Cause, &'static [u8], &'static [Command<'static>]);
+
+// Those that are refused behind the two that place files.
+static REFUSED: [Refusal; 8] = [
     (
         Cause::BadName,
         b"command 2: cause 1\n",
@@ -87,34 +90,8 @@ static REFUSED: [(Cause, &[u8], &[Command]); 8] = [
     ),
 ];
 
-#[test]
-fn commands_that_are_refused(rt: HostRuntime) -> Result<(), Fail> {
-    for (cause, say, commands) in &REFUSED {
-        are_refused(rt.alloc(), *cause, say, commands)?;
-    }
-    Ok(())
-}
-
-fn are_refused(alloc: Global, cause: Cause, say: &[u8], commands: &[Command]) -> Result<(), Fail> {
-    for command in commands {
-        is_refused(alloc, cause, say, *command)?;
-    }
-    Ok(())
-}
-
-// The command is refused at index 2, whatever follows it.
-fn is_refused(alloc: Global, cause: Cause, say: &[u8], command: Command) -> Result<(), Fail> {
-    let [first, second] = PLACED;
-    files_end(
-        alloc,
-        &load("behind two that place files", &[]),
-        &[first, second, command, command],
-        &refused_at(2, cause, say),
-    )
-}
-
-// A cause, its line, and commands that are refused for it with none before.
-static REFUSED_AT_ONCE: [(Cause, &[u8], &[Command]); 3] = [
+// Those that are refused with none before.
+static REFUSED_AT_ONCE: [Refusal; 3] = [
     (
         Cause::NotPlaced,
         b"command 0: cause 4\n",
@@ -142,37 +119,52 @@ static REFUSED_AT_ONCE: [(Cause, &[u8], &[Command]); 3] = [
 ];
 
 #[test]
-fn first_commands_that_are_refused(rt: HostRuntime) -> Result<(), Fail> {
-    for (cause, say, commands) in &REFUSED_AT_ONCE {
-        are_refused_at_once(rt.alloc(), *cause, say, commands)?;
+fn commands_that_are_refused(rt: HostRuntime) -> Result<(), Fail> {
+    are_refused(rt.alloc(), 2, &REFUSED)?;
+    are_refused(rt.alloc(), 0, &REFUSED_AT_ONCE)
+}
+
+// The commands are refused at this index.
+fn are_refused(alloc: Global, index: u32, rows: &[Refusal]) -> Result<(), Fail> {
+    for (cause, say, commands) in rows {
+        are_refused_so(alloc, commands, &refused_at(index, *cause, say), index == 0)?;
     }
     Ok(())
 }
 
-fn are_refused_at_once(
+fn are_refused_so(
     alloc: Global,
-    cause: Cause,
-    say: &[u8],
     commands: &[Command],
+    ending: &Ending,
+    at_once: bool,
 ) -> Result<(), Fail> {
     for command in commands {
-        is_refused_at_once(alloc, cause, say, *command)?;
+        is_refused(alloc, *command, ending, at_once)?;
     }
     Ok(())
 }
 
-fn is_refused_at_once(
+// The command is refused, at once or behind the two that place files, whatever follows it.
+fn is_refused(alloc: Global, command: Command, ending: &Ending, at_once: bool) -> Result<(), Fail> {
+    let case = format!(in alloc; "{command:?}")?;
+    let done = script_is_refused(alloc, case.as_str(), command, ending, at_once);
+    drop(case);
+    done
+}
+
+fn script_is_refused(
     alloc: Global,
-    cause: Cause,
-    say: &[u8],
+    case: &str,
     command: Command,
+    ending: &Ending,
+    at_once: bool,
 ) -> Result<(), Fail> {
-    files_end(
-        alloc,
-        &load("alone", &[]),
-        &[command],
-        &refused_at(0, cause, say),
-    )
+    let [first, second] = PLACED;
+    let run = load(case, &[]);
+    if at_once {
+        return files_end(alloc, &run, &[command], ending);
+    }
+    files_end(alloc, &run, &[first, second, command, command], ending)
 }
 
 // Commands of which the last is refused for want of a file, its index, the line, and what the 16 bytes are from 0xF0000 on.

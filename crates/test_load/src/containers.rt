@@ -1,7 +1,7 @@
 //! Containers that are put together from their files and the commands of their script, runs that load one, and the files that most of them
 //! have.
 
-use fixtures::{Ending, Run, ends, put_allocate, put_checksum, put_file, put_pointer};
+use fixtures::{Ending, Run, ends, put_allocate, put_checksum, put_entry, put_pointer};
 use std::alloc::Global;
 use std::test::Fail;
 use vt_outside::{Bytes, OutOfMemory};
@@ -10,7 +10,7 @@ use vt_outside::{Bytes, OutOfMemory};
 pub(crate) type FileOf<'a> = (&'a str, &'a [u8]);
 
 // A command of a script.
-#[derive(Clone, Copy)]
+#[derive(Clone, Copy, Debug)]
 pub(crate) enum Command<'a> {
     Allocate(&'a str, u32, u8),
     // dest, src, offset and size
@@ -96,7 +96,7 @@ pub(crate) fn container_with(
 fn put_container(bytes: &mut Bytes, files: &[FileOf], script: &[u8]) -> Result<(), OutOfMemory> {
     bytes.extend(&size_of(files.len().saturating_add(1)).to_be_bytes())?;
     put_entries(bytes, files)?;
-    put_file(bytes, size_of(script.len()), 0x1000, SCRIPT)?;
+    put_entry(bytes, size_of(script.len()), 0x1000, SCRIPT)?;
     put_flags(bytes, files)?;
     put_contents(bytes, files)?;
     bytes.extend(script)
@@ -106,7 +106,7 @@ fn put_container(bytes: &mut Bytes, files: &[FileOf], script: &[u8]) -> Result<(
 fn put_entries(bytes: &mut Bytes, files: &[FileOf]) -> Result<(), OutOfMemory> {
     let mut select: u16 = 0x20;
     for (name, content) in files {
-        put_file(bytes, size_of(content.len()), select, name)?;
+        put_entry(bytes, size_of(content.len()), select, name)?;
         select = select.saturating_add(1);
     }
     Ok(())

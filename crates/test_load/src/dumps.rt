@@ -4,6 +4,7 @@
 //! bytes sum to 07, and the checksum is EF. At 128 MiB it begins at 0x07000000, the pointer's bytes sum to 0B, and the checksum is EB.
 
 use crate::containers::{ANCHOR, Command, TARGET, container_ends, files_end};
+use crate::endings::NO_ROWS;
 use fixtures::{BOOTED, Run, SEEDED_ROOM, booted, load};
 use std::alloc::Global;
 use std::test::Fail;
@@ -61,9 +62,7 @@ const TOP_DUMP: &str = "top 04000000 fill 00
 end
 ";
 
-const NO_ROWS: &str = "top 04000000 fill 00\nend\n";
-
-// The options, the commands, and the dump.
+// A case, the words, the commands, and the dump.
 static DUMPS: [(&str, &[&str], &[Command], &str); 10] = [
     ("default options", &["load"], &LINKED, LINKED_DUMP),
     (

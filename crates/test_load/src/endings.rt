@@ -1,8 +1,11 @@
-//! How a load ends that wasn't done.
+//! How a load ends that wasn't done, and the dump of one that leaves nothing.
 
 use fixtures::Ending;
 use loader_script::Cause;
 use vmtables::{LoadFault, State, Status};
+
+// The dump of a load that leaves nothing.
+pub(crate) const NO_ROWS: &str = "top 04000000 fill 00\nend\n";
 
 // A container that is refused with this line, in a world in which nothing was begun.
 pub(crate) fn no_container(say: &[u8]) -> Ending<'_> {

@@ -1,10 +1,10 @@
 //! Machines of which `build` makes a container: loaded, it leaves the memory that `boot` leaves, and it loads over events.
 
 use fixtures::{
-    BOOTED, EMPTY, EMPTY_DUMP, Ending, FULL_DUMP, MINIMAL, MINIMAL_DUMP, ON_THE_BORDER,
+    BOOTED, EMPTY, EMPTY_DUMP, Ending, LONG_TEXTS_DUMP, MINIMAL, MINIMAL_DUMP, ON_THE_BORDER,
     ON_THE_BORDER_DUMP, QUOTES, QUOTES_DUMP, ROOM, Run, SEEDED_ROOM, WITH_ACPI, WITH_ACPI_AND_HPET,
-    WITH_ACPI_AND_HPET_DUMP, WITH_ACPI_DUMP, booted, ends, full_description, is_same, load, sink,
-    source, status_of,
+    WITH_ACPI_AND_HPET_DUMP, WITH_ACPI_DUMP, booted, ends, is_same, load, long_texts_description,
+    sink, source, status_of,
 };
 use std::alloc::Global;
 use std::test::Fail;
@@ -31,8 +31,8 @@ fn built_and_loaded(rt: HostRuntime) -> Result<(), Fail> {
 
 #[test]
 fn the_longest_texts(rt: HostRuntime) -> Result<(), Fail> {
-    let description = full_description(rt.alloc())?;
-    is_loaded(rt.alloc(), description.as_slice(), "3072", FULL_DUMP)
+    let description = long_texts_description(rt.alloc())?;
+    is_loaded(rt.alloc(), description.as_slice(), "3072", LONG_TEXTS_DUMP)
 }
 
 fn is_loaded(alloc: Global, description: &[u8], top: &str, dump: &str) -> Result<(), Fail> {

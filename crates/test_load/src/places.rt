@@ -3,14 +3,12 @@
 use crate::containers::{
     ANCHOR, Command, FileOf, SCRIPT, TARGET, container_ends, container_of_files,
 };
-use crate::endings::no_room_at;
+use crate::endings::{NO_ROWS, no_room_at};
 use fixtures::{Ending, Run, booted, ends_with, failing_places, load};
 use std::alloc::Global;
 use std::test::Fail;
 use vmtables::World;
 use zone_alloc::FailingAlloc;
-
-const NO_ROWS: &str = "top 04000000 fill 00\nend\n";
 
 static COMMANDS: [Command; 3] = [
     Command::Skipped,
@@ -84,7 +82,8 @@ fn ends_with_places(
     done
 }
 
-// Files of zeros and their commands, by the size of the first and the second file. Each zone is too small for the last of them.
+// Two files of zeros, by their sizes and their zone, in which the last one that is asked for has no room; the index of its command, and
+// the line.
 static SIZES: [(&str, usize, usize, u8, u32, &[u8]); 5] = [
     (
         "above the F segment",
@@ -142,7 +141,7 @@ fn files_that_are_too_large(rt: HostRuntime) -> Result<(), Fail> {
     Ok(())
 }
 
-// Files of zeros that fill their zone to the last byte.
+// Files of zeros that fill their zone, or all of it but the last byte.
 static FITTING: [(&str, usize, usize, u8); 3] = [
     ("the F segment", 65_520, 16, 2),
     ("the F segment but for a byte", 65_520, 15, 2),

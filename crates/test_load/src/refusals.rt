@@ -2,7 +2,7 @@
 
 use crate::containers::{FILES, container_with};
 use crate::endings::{no_container, no_script};
-use fixtures::{Ending, ends, load, put_file};
+use fixtures::{Ending, ends, load, put_entry};
 use std::alloc::Global;
 use std::test::Fail;
 use vmtables::LoadFault;
@@ -39,15 +39,24 @@ const NONE: Parts = Parts {
     rest: &[],
 };
 
-// They end within a part or before it: fault 1.
-static TRUNCATED: [(&str, Parts); 11] = [
-    ("no bytes", Parts { count: &[], ..NONE }),
+// A case, bytes that are no container, and what is said of them.
+type Refusal = (&'static str, Parts<'static>, &'static [u8]);
+
+// The faults in the order of their numbers.
+static REFUSED: [Refusal; 29] = [
+    // they end within a part or before it
+    (
+        "no bytes",
+        Parts { count: &[], ..NONE },
+        b"container: fault 1\n",
+    ),
     (
         "three bytes",
         Parts {
             count: &[0, 0, 0],
             ..NONE
         },
+        b"container: fault 1\n",
     ),
     (
         "no entry of one",
@@ -55,6 +64,7 @@ static TRUNCATED: [(&str, Parts); 11] = [
             count: &[0, 0, 0, 1],
             ..NONE
         },
+        b"container: fault 1\n",
     ),
     (
         "63 bytes of an entry",
@@ -63,6 +73,7 @@ static TRUNCATED: [(&str, Parts); 11] = [
             rest: &[0x20; 63],
             ..ONE
         },
+        b"container: fault 1\n",
     ),
     (
         "an entry of two",
@@ -70,6 +81,7 @@ static TRUNCATED: [(&str, Parts); 11] = [
             entries: &[(0, 0x20, "etc/a")],
             ..TWO
         },
+        b"container: fault 1\n",
     ),
     (
         "no entry of the most files",
@@ -77,16 +89,30 @@ static TRUNCATED: [(&str, Parts); 11] = [
             count: &[0, 0, 4, 0],
             ..NONE
         },
+        b"container: fault 1\n",
     ),
-    ("no flag", Parts { rest: &[], ..ONE }),
-    ("a flag of two", Parts { rest: &[0], ..TWO }),
-    ("no byte of two", Parts { rest: &[0], ..ONE }),
+    (
+        "no flag",
+        Parts { rest: &[], ..ONE },
+        b"container: fault 1\n",
+    ),
+    (
+        "a flag of two",
+        Parts { rest: &[0], ..TWO },
+        b"container: fault 1\n",
+    ),
+    (
+        "no byte of two",
+        Parts { rest: &[0], ..ONE },
+        b"container: fault 1\n",
+    ),
     (
         "a byte of two",
         Parts {
             rest: &[1, 0xA1],
             ..ONE
         },
+        b"container: fault 1\n",
     ),
     (
         "the most bytes, which aren't there",
@@ -94,14 +120,9 @@ static TRUNCATED: [(&str, Parts); 11] = [
             entries: &[(0x0400_0000, 0x20, "etc/a")],
             ..ONE
         },
+        b"container: fault 1\n",
     ),
-];
-
-// Other faults, by their number.
-// A container that is none, and what is said of it.
-type Refusal = (&'static str, Parts<'static>, &'static [u8]);
-
-static REFUSED: [Refusal; 18] = [
+    // the other faults
     (
         "1,025 files",
         Parts {
@@ -249,21 +270,9 @@ static REFUSED: [Refusal; 18] = [
 ];
 
 #[test]
-fn containers_that_are_truncated(rt: HostRuntime) -> Result<(), Fail> {
-    for (case, parts) in &TRUNCATED {
-        is_refused(rt.alloc(), case, parts, b"container: fault 1\n")?;
-    }
-    Ok(())
-}
-
-#[test]
 fn bytes_that_are_no_container(rt: HostRuntime) -> Result<(), Fail> {
-    are_refused(rt.alloc(), &REFUSED)
-}
-
-fn are_refused(alloc: Global, rows: &[Refusal]) -> Result<(), Fail> {
-    for (case, parts, say) in rows {
-        is_refused(alloc, case, parts, say)?;
+    for (case, parts, say) in &REFUSED {
+        is_refused(rt.alloc(), case, parts, say)?;
     }
     Ok(())
 }
@@ -303,7 +312,7 @@ fn joined(alloc: Global, parts: &Parts) -> Result<Bytes, OutOfMemory> {
 fn put_parts(bytes: &mut Bytes, parts: &Parts) -> Result<(), OutOfMemory> {
     bytes.extend(parts.count)?;
     for (size, select, name) in parts.entries {
-        put_file(bytes, *size, *select, name)?;
+        put_entry(bytes, *size, *select, name)?;
     }
     bytes.extend(parts.rest)
 }

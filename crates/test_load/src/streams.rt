@@ -18,7 +18,7 @@ end
 
 static COMMANDS: [Command; 1] = [Command::Allocate(ANCHOR, 16, 2)];
 
-// The container that places the anchor.
+// The load of the container that places the anchor ends so.
 fn anchor_ends(alloc: Global, run: &Run, ending: &Ending) -> Result<(), Fail> {
     files_end(alloc, run, &COMMANDS, ending)
 }
@@ -30,77 +30,101 @@ fn streams_that_fail(rt: HostRuntime) -> Result<(), Fail> {
     says_fail(rt.alloc())
 }
 
-// The reads that fail: the first, and the one at the end.
+// The reads that fail.
+static READS: [(&str, &[u32]); 2] = [
+    ("the first read fails", &[0]),
+    ("the read at the end fails", &[1]),
+];
+
 fn reads_fail(alloc: Global) -> Result<(), Fail> {
-    for fails in [&[0], &[1]] {
-        read_fails(alloc, fails)?;
+    for (case, fails) in &READS {
+        read_fails(alloc, case, fails)?;
     }
     Ok(())
 }
 
-fn read_fails(alloc: Global, failing_reads: &[u32]) -> Result<(), Fail> {
+fn read_fails(alloc: Global, case: &str, failing_reads: &[u32]) -> Result<(), Fail> {
     let run = Run {
         failing_reads,
-        ..load("a read that fails", &[])
+        ..load(case, &[])
     };
     anchor_ends(alloc, &run, &READ_FAULT)
 }
 
 // Room for so many bytes, and the writes that fail.
-static WRITES: [(usize, &[u32]); 3] = [(ROOM, &[0]), (0, &[]), (30, &[])];
+static WRITES: [(&str, usize, &[u32]); 3] = [
+    ("the first write fails", ROOM, &[0]),
+    ("no room", 0, &[]),
+    ("room for a part of the dump", 30, &[]),
+];
 
 fn writes_fail(alloc: Global) -> Result<(), Fail> {
-    for (room, fails) in &WRITES {
-        write_fails(alloc, *room, fails)?;
+    for (case, room, fails) in &WRITES {
+        write_fails(alloc, case, *room, fails)?;
     }
     Ok(())
 }
 
-fn write_fails(alloc: Global, room: usize, failing_writes: &[u32]) -> Result<(), Fail> {
+fn write_fails(alloc: Global, case: &str, room: usize, failing_writes: &[u32]) -> Result<(), Fail> {
     let run = Run {
         room,
         failing_writes,
-        ..load("a write that fails", &[])
+        ..load(case, &[])
     };
     let count = if failing_writes.is_empty() { room } else { 0 };
     anchor_ends(alloc, &run, &write_fault(DUMP, count))
 }
 
-// The status is that of the fault, whatever becomes of its line.
+// Room for so many bytes of a line, the writes of it that fail, and what is taken of it. The status is that of the fault, whatever
+// becomes of its line.
+static SAYS: [(&str, usize, &[u32], &[u8]); 2] = [
+    ("a line that fails", ROOM, &[0], b""),
+    ("room for a part of a line", 9, &[], b"container"),
+];
+
 fn says_fail(alloc: Global) -> Result<(), Fail> {
-    no_byte_is_said(alloc)?;
-    nine_bytes_are_said(alloc)
-}
-
-fn no_byte_is_said(alloc: Global) -> Result<(), Fail> {
-    let run = Run {
-        failing_says: &[0],
-        ..load("a line that fails", b"")
-    };
-    ends(alloc, &run, &no_container(b""))
-}
-
-fn nine_bytes_are_said(alloc: Global) -> Result<(), Fail> {
-    let run = Run {
-        say_room: 9,
-        ..load("room for a part of a line", b"")
-    };
-    ends(alloc, &run, &no_container(b"container"))
-}
-
-// In pieces of any size the same container is read.
-#[test]
-fn containers_in_pieces(rt: HostRuntime) -> Result<(), Fail> {
-    for piece in [1, 2, 3, 127, 128] {
-        is_read(rt.alloc(), piece)?;
+    for (case, room, fails, taken) in &SAYS {
+        say_fails(alloc, case, *room, fails, taken)?;
     }
     Ok(())
 }
 
-fn is_read(alloc: Global, piece: usize) -> Result<(), Fail> {
+fn say_fails(
+    alloc: Global,
+    case: &str,
+    say_room: usize,
+    failing_says: &[u32],
+    taken: &[u8],
+) -> Result<(), Fail> {
+    let run = Run {
+        say_room,
+        failing_says,
+        ..load(case, b"")
+    };
+    ends(alloc, &run, &no_container(taken))
+}
+
+// In pieces of any size the same container is read.
+static PIECES: [(&str, usize); 5] = [
+    ("pieces of a byte", 1),
+    ("pieces of 2 bytes", 2),
+    ("pieces of 3 bytes", 3),
+    ("pieces of 127 bytes", 127),
+    ("pieces of 128 bytes", 128),
+];
+
+#[test]
+fn containers_in_pieces(rt: HostRuntime) -> Result<(), Fail> {
+    for (case, piece) in &PIECES {
+        is_read(rt.alloc(), case, *piece)?;
+    }
+    Ok(())
+}
+
+fn is_read(alloc: Global, case: &str, piece: usize) -> Result<(), Fail> {
     let run = Run {
         piece,
-        ..load("in pieces", &[])
+        ..load(case, &[])
     };
     anchor_ends(alloc, &run, &booted(DUMP))
 }

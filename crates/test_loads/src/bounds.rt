@@ -7,8 +7,8 @@ use loader_script::Cause;
 use script_load::LoadFault;
 use std::test::Fail;
 
-static POINTERS: [Case<'static>; 4] = [
-    // The last four bytes, and then the last eight: 0x55443300 + 0x3000009 is 0x58443309, and 0x822 + 0x3000000 is 0x3000822.
+static CASES: [Case<'static>; 14] = [
+    // Pointers in the last four bytes, and then in the last eight: 0x55443300 + 0x3000009 is 0x58443309, and 0x822 + 0x3000000 is 0x3000822.
     Case {
         script: &[
             Allocate("etc/holder", 1, HIGH),
@@ -63,9 +63,7 @@ static POINTERS: [Case<'static>; 4] = [
             Held(0x300_0008, b"\x11\x22\x08\0\0\0\x33\x44\x55"),
         ],
     },
-];
-
-static TOO_FAR: [Case<'static>; 4] = [
+    // Numbers that do not fit.
     Case {
         script: &[
             Allocate("etc/holder", 1, HIGH),
@@ -113,11 +111,8 @@ static TOO_FAR: [Case<'static>; 4] = [
         }),
         left: &[Held(0x300_0000, b"\xff\xff\xff\xff\xff\xff\xff\xff")],
     },
-];
-
-static SUMS: [Case<'static>; 6] = [
-    // A range up to the end of its file, with its byte there: 0x33 + 0x44 + 0x89 is 0x100. A whole file: 9 + 0xFF + 0xFF + 0xFC + 0xFD
-    // is 0x400. No byte, from the end of a file on.
+    // The sum of a range up to the end of its file, with its byte there: 0x33 + 0x44 + 0x89 is 0x100. A whole file: 9 + 0xFF + 0xFF + 0xFC +
+    // 0xFD is 0x400. No byte, from the end of a file on.
     Case {
         script: &[
             Allocate("etc/holder", 16, HIGH),
@@ -191,16 +186,6 @@ static SUMS: [Case<'static>; 6] = [
 ];
 
 #[test]
-fn pointers(rt: HostRuntime) -> Result<(), Fail> {
-    all_end(&rt, rt.alloc(), &POINTERS)
-}
-
-#[test]
-fn numbers_that_do_not_fit(rt: HostRuntime) -> Result<(), Fail> {
-    all_end(&rt, rt.alloc(), &TOO_FAR)
-}
-
-#[test]
-fn sums(rt: HostRuntime) -> Result<(), Fail> {
-    all_end(&rt, rt.alloc(), &SUMS)
+fn bounds(rt: HostRuntime) -> Result<(), Fail> {
+    all_end(&rt, rt.alloc(), &CASES)
 }

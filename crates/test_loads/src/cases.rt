@@ -1,7 +1,6 @@
 //! Loads of the files that all cases have, and what they leave.
 
-ghost use Rattle.std.specs.Prelude.{◌≡◌, true, [], IfOk, IfSome, IsSome, IsSomeAnd, OnOk};
-ghost use Rattle.vt_bytes.specs.Memory.{IsTop};
+ghost use Rattle.std.specs.Prelude.{◌≡◌, true, [], IfSome, IsSome, IsSomeAnd, OnOk};
 ghost use Rattle.script_load.specs.Allocators.{AreZonesOf};
 ghost use Rattle.script_load.specs.declared.state.State.TheVariants.{Running};
 
@@ -38,7 +37,7 @@ pub(crate) struct Case<'a> {
     pub(crate) left: &'a [Held],
 }
 
-/// Makes a device of the files of all cases and of a script.
+/// Makes the files of a device: those of all cases, and a script.
 pub(crate) fn items_of(alloc: Global, lines: &[Line]) -> Result<Items, Fail> {
     let script = script_of(alloc, lines)?;
     let loader = File {
@@ -76,7 +75,20 @@ pub(crate) fn all_end(rt: &impl Abort, alloc: Global, cases: &[Case<'_>]) -> Res
 /// The load of a case, with places from a shelf, ends as it says.
 pub(crate) fn ends(rt: &impl Abort, alloc: Global, case: &Case<'_>) -> Result<(), Fail> {
     let items = items_of(alloc, case.script)?;
-    loads(rt, alloc, items, &mut ShelfAlloc::new(), case)
+    loads_on_shelf(rt, alloc, items, case)
+}
+
+/// The load of a device's files, with places from a shelf, ends as a case says.
+pub(crate) fn loads_on_shelf(
+    rt: &impl Abort,
+    alloc: Global,
+    items: Items,
+    case: &Case<'_>,
+) -> Result<(), Fail> {
+    let mut shelf = ShelfAlloc::new();
+    let done = loads(rt, alloc, items, &mut shelf, case);
+    drop(shelf);
+    done
 }
 
 /// The load of a device's files, with places from an allocator, ends as a case says.
@@ -88,7 +100,9 @@ pub(crate) fn loads<A: ZoneAlloc>(
     case: &Case<'_>,
 ) -> Result<(), Fail> {
     let mut world = World::idle();
-    loads_in(rt, alloc, &mut world, items, place, case)
+    let done = loads_in(rt, alloc, &mut world, items, place, case);
+    drop(world);
+    done
 }
 
 // Apart from the function that owns the world, since each step that may fail costs more to prove beside it.
@@ -140,9 +154,9 @@ pub(crate) fn ends_as<A: ZoneAlloc>(
 fn is_ended(rt: &impl Abort, world: &World, answer: Result<(), LoadFault>, case: &Case<'_>)
     requires { IsSome world.now }
 {
-    is(rt, &answer, &case.answer);
-    is(rt, &world.state(), &ended(answer));
-    is_left(rt, world.memory(), case.left);
+    is(rt, case.script, &answer, &case.answer);
+    is(rt, case.script, &world.state(), &ended(answer));
+    is_left(rt, case.script, world.memory(), case.left);
 }
 
 fn ended(answer: Result<(), LoadFault>) -> State {
@@ -152,23 +166,23 @@ fn ended(answer: Result<(), LoadFault>) -> State {
     }
 }
 
-/// What is found is what is wanted.
-pub(crate) fn is<T: Debug + PartialEq>(rt: &impl Abort, found: &T, wanted: &T) {
-    assert_eq!(rt; *found, *wanted);
+/// What is found after a script is what is wanted.
+pub(crate) fn is<T: Debug + PartialEq>(rt: &impl Abort, script: &[Line], found: &T, wanted: &T) {
+    assert_eq!(rt; *found, *wanted, "after {script:?}");
 }
 
-/// Memory holds the fill byte, but for these bytes, none of which is the fill byte.
-pub(crate) fn is_left(rt: &impl Abort, memory: &GuestMemory, left: &[Held]) {
+/// After a script memory holds the fill byte, but for these bytes, none of which is the fill byte.
+pub(crate) fn is_left(rt: &impl Abort, script: &[Line], memory: &GuestMemory, left: &[Held]) {
     let mut count = 0u64;
     for held in left {
-        holds(rt, memory, held);
+        holds(rt, script, memory, held);
         count = count.saturating_add(held.1.len() as u64);
     }
-    is(rt, &count_others(memory), &count);
+    is(rt, script, &count_others(memory), &count);
 }
 
 // All of its bytes are in one frame.
-fn holds(rt: &impl Abort, memory: &GuestMemory, held: &Held) {
+fn holds(rt: &impl Abort, script: &[Line], memory: &GuestMemory, held: &Held) {
     let Held(address, bytes) = held;
     assert!(rt;
         bytes.len() <= 16 && memory.is_ram(*address) && *address % 4096 <= 4080,
@@ -176,15 +190,15 @@ fn holds(rt: &impl Abort, memory: &GuestMemory, held: &Held) {
     );
     are_bytes(
         rt,
+        script,
         memory.window(*address, bytes.len() as u32),
         bytes,
-        *address,
     );
 }
 
-/// What memory holds at an address is `wanted`.
-pub(crate) fn are_bytes(rt: &impl Abort, bytes: &[u8], wanted: &[u8], address: u64) {
-    assert_eq!(rt; bytes, wanted, "at {address}");
+/// What memory holds after a script is `wanted`.
+pub(crate) fn are_bytes(rt: &impl Abort, script: &[Line], bytes: &[u8], wanted: &[u8]) {
+    assert_eq!(rt; bytes, wanted, "after {script:?}");
 }
 
 /// How many bytes of RAM aren't the fill byte.

@@ -22,7 +22,8 @@ static LEFT: [Held; 2] = [
     Held(0x300_0010, b"\xff\xff\xff\xfc\0\0\0\xfd"),
 ];
 
-static OF_ALLOCATES: [(Line, Cause); 11] = [
+static REFUSED: [(Line, Cause); 33] = [
+    // of Allocates
     (Number(1), Cause::BadName),
     (Allocate("etc/none", 1, HIGH), Cause::NoFile),
     (Allocate("etc/holder", 16, HIGH), Cause::AlreadyPlaced),
@@ -34,9 +35,7 @@ static OF_ALLOCATES: [(Line, Cause); 11] = [
     (Allocate("etc/target", 1, 0), Cause::BadZone),
     (Allocate("etc/target", 1, 3), Cause::BadZone),
     (Allocate("etc/target", 1, 0xFF), Cause::BadZone),
-];
-
-static OF_POINTERS: [(Line, Cause); 9] = [
+    // of pointers
     (Number(2), Cause::BadName),
     (AddPointer("etc/none", "etc/holder", 0, 4), Cause::NoFile),
     (AddPointer("etc/holder", "etc/none", 0, 4), Cause::NoFile),
@@ -55,17 +54,12 @@ static OF_POINTERS: [(Line, Cause); 9] = [
         Cause::OutOfRange,
     ),
     (AddPointer("etc/holder", "etc/edge", 0, 1), Cause::TooFar),
-];
-
-static OF_CHECKSUMS: [(Line, Cause); 4] = [
+    // of checksums
     (Number(3), Cause::BadName),
     (AddChecksum("etc/none", 0, 0, 1), Cause::NoFile),
     (AddChecksum("etc/target", 0, 0, 1), Cause::NotPlaced),
     (AddChecksum("etc/holder", 9, 0, 1), Cause::OutOfRange),
-];
-
-// The first cause of several.
-static OF_SEVERAL: [(Line, Cause); 9] = [
+    // the first cause of several
     (Allocate("etc/none", 3, 9), Cause::NoFile),
     (Allocate("etc/holder", 0, 0), Cause::AlreadyPlaced),
     (Allocate("etc/empty", 3, 9), Cause::Empty),
@@ -88,16 +82,8 @@ static OF_SEVERAL: [(Line, Cause); 9] = [
 
 #[test]
 fn causes(rt: HostRuntime) -> Result<(), Fail> {
-    are_refused(&rt, rt.alloc(), &OF_ALLOCATES)?;
-    are_refused(&rt, rt.alloc(), &OF_POINTERS)?;
-    are_refused(&rt, rt.alloc(), &OF_CHECKSUMS)?;
-    are_refused(&rt, rt.alloc(), &OF_SEVERAL)
-}
-
-// Each command is refused for its cause.
-fn are_refused(rt: &impl Abort, alloc: Global, rows: &[(Line, Cause)]) -> Result<(), Fail> {
-    for (line, cause) in rows {
-        is_refused(rt, alloc, line, *cause)?;
+    for (line, cause) in &REFUSED {
+        is_refused(&rt, rt.alloc(), line, *cause)?;
     }
     Ok(())
 }

@@ -1,7 +1,7 @@
 //! Scripts that are carried out, and what they leave.
 
 use crate::cases::{Case, Held, all_end};
-use crate::scripts::Line::{AddChecksum, AddPointer, Allocate, Number, Padding};
+use crate::scripts::Line::{AddChecksum, AddPointer, Allocate, Number, Zeros};
 use crate::scripts::{FSEG, HIGH};
 use std::test::Fail;
 
@@ -9,7 +9,7 @@ use std::test::Fail;
 pub(crate) const SMALL: Case<'static> = Case {
     script: &[
         Allocate("etc/holder", 16, HIGH),
-        Padding(1),
+        Zeros(128),
         Allocate("etc/target", 64, HIGH),
         AddPointer("etc/holder", "etc/target", 2, 4),
         AddChecksum("etc/holder", 0, 0, 8),
@@ -24,7 +24,7 @@ const SMALL_LEFT: &[Held] = &[
     Held(0x300_0040, b"\xa1\xa2\xa3"),
 ];
 
-static CASES: [Case<'static>; 4] = [
+static CASES: [Case<'static>; 6] = [
     SMALL,
     // The same in 32 commands, to which QEMU pads a script.
     Case {
@@ -33,7 +33,7 @@ static CASES: [Case<'static>; 4] = [
             Allocate("etc/target", 64, HIGH),
             AddPointer("etc/holder", "etc/target", 2, 4),
             AddChecksum("etc/holder", 0, 0, 8),
-            Padding(28),
+            Zeros(28 * 128),
         ],
         answer: Ok(()),
         left: SMALL_LEFT,
@@ -45,13 +45,10 @@ static CASES: [Case<'static>; 4] = [
         left: &[],
     },
     Case {
-        script: &[Number(5), Padding(1), Number(0xFFFF_FFFF)],
+        script: &[Number(5), Zeros(128), Number(0xFFFF_FFFF)],
         answer: Ok(()),
         left: &[],
     },
-];
-
-static PLACES: [Case<'static>; 2] = [
     // The third file fits between the two others.
     Case {
         script: &[
@@ -86,9 +83,4 @@ static PLACES: [Case<'static>; 2] = [
 #[test]
 fn whole_scripts(rt: HostRuntime) -> Result<(), Fail> {
     all_end(&rt, rt.alloc(), &CASES)
-}
-
-#[test]
-fn places(rt: HostRuntime) -> Result<(), Fail> {
-    all_end(&rt, rt.alloc(), &PLACES)
 }

@@ -5,15 +5,15 @@ use std::alloc::Global;
 use std::test::Fail;
 use vt_outside::{Bytes, Name, OutOfMemory};
 
-/// A file, of which each command's files are some.
+/// A file of a container: its name and its bytes.
 #[derive(Clone, Copy)]
 pub(crate) struct File<'a> {
     pub(crate) name: &'a str,
     pub(crate) bytes: &'a [u8],
 }
 
-/// The files that scripts place: one that holds numbers, one that they point to, one of numbers that are nearly too large, and
-/// one of no bytes.
+/// The files that scripts place: one that holds numbers, one that they point to, one of numbers that are nearly too large, one of the
+/// greatest number of eight bytes, and one of no bytes.
 pub(crate) static FILES: [File<'static>; 5] = [
     File {
         name: "etc/holder",
@@ -37,7 +37,7 @@ pub(crate) static FILES: [File<'static>; 5] = [
     },
 ];
 
-/// Makes a device of these files, and those of [`FILES`].
+/// Makes the files of a device: those of [`FILES`], and these.
 pub(crate) fn items_with(alloc: Global, files: &[File<'_>]) -> Result<Items, Fail> {
     let container = container_with(alloc, files)?;
     Ok(read_image(alloc, container.as_slice())?)

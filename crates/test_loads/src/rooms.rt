@@ -7,7 +7,7 @@ use crate::cases::{
 };
 use crate::done::SMALL;
 use crate::files::{File, items_with};
-use crate::scripts::Line::{AddPointer, Allocate, Padding};
+use crate::scripts::Line::{self, AddPointer, Allocate, Zeros};
 use crate::scripts::{FSEG, HIGH, script_of};
 use cfg_directory::Items;
 use guest_memory::GuestMemory;
@@ -34,7 +34,7 @@ static NO_ROOM: [Case<'static>; 3] = [
     // The only multiple of 16 MiB is another file's.
     Case {
         script: &[
-            Padding(1),
+            Zeros(128),
             Allocate("etc/holder", 0x100_0000, HIGH),
             Allocate("etc/target", 0x100_0000, HIGH),
             AddPointer("etc/holder", "etc/holder", 2, 4),
@@ -55,9 +55,9 @@ static FAILING: [(&[u32], Case<'static>); 4] = [
         &[1],
         Case {
             script: &[
-                Padding(1),
+                Zeros(128),
                 Allocate("etc/holder", 1, HIGH),
-                Padding(1),
+                Zeros(128),
                 Allocate("etc/target", 1, HIGH),
                 Allocate("etc/edge", 1, HIGH),
             ],
@@ -97,8 +97,10 @@ fn refused_requests(rt: HostRuntime) -> Result<(), Fail> {
 }
 
 fn ends(rt: &impl Abort, alloc: Global, fails: &[u32], case: &Case<'_>) -> Result<(), Fail> {
-    let mut failing = FailingAlloc::new(listed(alloc, fails)?);
-    ends_with(rt, alloc, &mut failing, case)
+    let mut failing = failing_at(alloc, fails)?;
+    let done = ends_with(rt, alloc, &mut failing, case);
+    drop(failing);
+    done
 }
 
 fn ends_with(
@@ -111,11 +113,13 @@ fn ends_with(
     loads(rt, alloc, items, failing, case)
 }
 
-fn listed(alloc: Global, numbers: &[u32]) -> Result<List<u32>, OutOfMemory> {
+fn failing_at(alloc: Global, numbers: &[u32]) -> Result<FailingAlloc, OutOfMemory> {
     let mut fails = List::new(alloc);
     fails.extend(numbers)?;
-    Ok(fails)
+    Ok(FailingAlloc::new(fails))
 }
+
+static LARGE_SCRIPT: [Line; 1] = [Allocate("etc/large", 1, HIGH)];
 
 // Bytes of a file past 16 MiB, how its load ends, and how many bytes of RAM are changed.
 type Large = (u8, Result<(), LoadFault>, u64);
@@ -135,13 +139,23 @@ fn files_as_large_as_a_zone(rt: HostRuntime) -> Result<(), Fail> {
 
 fn changes(rt: &impl Abort, alloc: Global, row: &Large) -> Result<(), Fail> {
     let mut world = World::idle();
-    changes_in(rt, alloc, &mut world, row)
+    let mut shelf = ShelfAlloc::new();
+    let done = changes_in(rt, alloc, &mut world, &mut shelf, row);
+    drop(shelf);
+    drop(world);
+    done
 }
 
 // Apart from the function that owns the world, since each step that may fail costs more to prove beside it.
-fn changes_in(rt: &impl Abort, alloc: Global, world: &mut World, row: &Large) -> Result<(), Fail> {
+fn changes_in(
+    rt: &impl Abort,
+    alloc: Global,
+    world: &mut World,
+    shelf: &mut ShelfAlloc,
+    row: &Large,
+) -> Result<(), Fail> {
     let items = large_items(alloc, row.0)?;
-    let answer = answer_in(alloc, world, items, &mut ShelfAlloc::new())?;
+    let answer = answer_in(alloc, world, items, shelf)?;
     is_large(rt, world, answer, row);
     Ok(())
 }
@@ -150,13 +164,13 @@ fn is_large(rt: &impl Abort, world: &World, given: Result<(), LoadFault>, row: &
     requires { IsSome world.now }
 {
     let (_, answer, count) = row;
-    is(rt, &given, answer);
-    are_changed(rt, world.memory(), *count);
+    let changed = (given, count_others(world.memory()));
+    is(rt, &LARGE_SCRIPT, &changed, &(*answer, *count));
+    is_all_or_none(rt, world.memory(), *count);
 }
 
-// So many bytes are changed, and all are in high memory or none is.
-fn are_changed(rt: &impl Abort, memory: &GuestMemory, count: u64) {
-    is(rt, &count_others(memory), &count);
+// All bytes of high memory are changed, or none is.
+fn is_all_or_none(rt: &impl Abort, memory: &GuestMemory, count: u64) {
     let byte = if count == 0 { FILL } else { BYTE };
     is_filled_at(rt, memory, 0x300_0000, byte);
     is_filled_at(rt, memory, 0x3FF_FFF0, byte);
@@ -165,20 +179,20 @@ fn are_changed(rt: &impl Abort, memory: &GuestMemory, count: u64) {
 // Sixteen bytes of one frame are all `byte`.
 fn is_filled_at(rt: &impl Abort, memory: &GuestMemory, address: u64, byte: u8) {
     assert!(rt; memory.is_ram(address) && address % 4096 <= 4080);
-    are_bytes(rt, memory.window(address, 16), &[byte; 16], address);
+    are_bytes(rt, &LARGE_SCRIPT, memory.window(address, 16), &[byte; 16]);
 }
 
 // What the large file holds.
 const BYTE: u8 = 0x5C;
 
-// A device with a file of 16 MiB and some bytes more, and a script that places it.
+// The files of a device: one of 16 MiB and some bytes more, and a script that places it.
 fn large_items(alloc: Global, more: u8) -> Result<Items, Fail> {
     let large = large_bytes(alloc, more)?;
     items_with_large(alloc, large.as_slice())
 }
 
 fn items_with_large(alloc: Global, large: &[u8]) -> Result<Items, Fail> {
-    let script = script_of(alloc, &[Allocate("etc/large", 1, HIGH)])?;
+    let script = script_of(alloc, &LARGE_SCRIPT)?;
     let loader = File {
         name: LOADER,
         bytes: script.as_slice(),

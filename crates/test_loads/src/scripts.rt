@@ -14,7 +14,7 @@ pub(crate) const HIGH: u8 = 1;
 pub(crate) const FSEG: u8 = 2;
 
 /// A command of a script, with its files as text.
-#[derive(Clone, Copy)]
+#[derive(Clone, Copy, Debug)]
 pub(crate) enum Line {
     /// A file, its align and its zone.
     Allocate(&'static str, u32, u8),
@@ -24,8 +24,8 @@ pub(crate) enum Line {
     AddChecksum(&'static str, u32, u32, u32),
     /// A command's number, with zeros behind it, which are no name.
     Number(u32),
-    /// So many commands of zeros.
-    Padding(u16),
+    /// So many zeros, of which 128 are a command that changes nothing.
+    Zeros(u32),
 }
 
 /// Returns the bytes of a script.
@@ -40,7 +40,7 @@ pub(crate) fn script_of(alloc: Global, lines: &[Line]) -> Result<Bytes, Fail> {
 fn put_line(alloc: Global, script: &mut Bytes, line: &Line) -> Result<(), Fail> {
     match line {
         Line::Number(number) => put_number(script, *number),
-        Line::Padding(count) => put_padding(script, *count),
+        Line::Zeros(count) => put_zeros(script, *count),
         Line::Allocate(file, align, zone) => {
             put_entry(alloc, script, allocate(file, *align, *zone))
         }
@@ -99,9 +99,9 @@ fn put_number(script: &mut Bytes, number: u32) -> Result<(), Fail> {
     Ok(())
 }
 
-fn put_padding(script: &mut Bytes, count: u16) -> Result<(), Fail> {
+fn put_zeros(script: &mut Bytes, count: u32) -> Result<(), Fail> {
     for _ in 0..count {
-        script.extend(&[0; 128])?;
+        script.push(0)?;
     }
     Ok(())
 }

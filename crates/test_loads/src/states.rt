@@ -7,7 +7,7 @@ ghost use Rattle.script_load.specs.declared.state.State.TheVariants.{Running};
 use crate::cases::{Case, FILL, Held, TOP, begin, begin_zones, ends_as, is, is_left, items_of};
 use crate::done::SMALL;
 use crate::scripts::HIGH;
-use crate::scripts::Line::Allocate;
+use crate::scripts::Line::{self, Allocate};
 use guest_memory::GuestMemory;
 use loader_script::Cause;
 use script_load::{LoadFault, State, World};
@@ -37,14 +37,27 @@ static LOADS: [Case<'static>; 4] = [
 #[test]
 fn loads_in_one_world(rt: HostRuntime) -> Result<(), Fail> {
     let mut world = World::idle();
-    is(&rt, &world.state(), &State::Idle);
-    are_loaded(&rt, rt.alloc(), &mut world)
+    let done = begin_idle(&rt, rt.alloc(), &mut world);
+    drop(world);
+    done
 }
 
-fn are_loaded(rt: &impl Abort, alloc: Global, world: &mut World) -> Result<(), Fail> {
+fn begin_idle(rt: &impl Abort, alloc: Global, world: &mut World) -> Result<(), Fail> {
+    is(rt, &[], &world.state(), &State::Idle);
     let mut shelf = ShelfAlloc::new();
+    let done = are_loaded(rt, alloc, world, &mut shelf);
+    drop(shelf);
+    done
+}
+
+fn are_loaded(
+    rt: &impl Abort,
+    alloc: Global,
+    world: &mut World,
+    shelf: &mut ShelfAlloc,
+) -> Result<(), Fail> {
     for case in &LOADS {
-        is_loaded(rt, alloc, world, &mut shelf, case)?;
+        is_loaded(rt, alloc, world, shelf, case)?;
     }
     Ok(())
 }
@@ -60,22 +73,22 @@ fn is_loaded(
     begin_zones(alloc, shelf)?;
     let items = items_of(alloc, case.script)?;
     begin(alloc, world, items)?;
-    is_begun(rt, world);
+    is_begun(rt, world, case.script);
     ends_as(rt, world, shelf, case);
     Ok(())
 }
 
-fn is_begun(rt: &impl Abort, world: &World)
+// A load of a script was begun.
+fn is_begun(rt: &impl Abort, world: &World, script: &[Line])
     requires { IsSome world.now }
 {
-    is(rt, &world.state(), &State::Running);
-    is_filled(rt, world.memory(), TOP, FILL);
+    is(rt, script, &world.state(), &State::Running);
+    is_filled(rt, world.memory(), script);
 }
 
-fn is_filled(rt: &impl Abort, memory: &GuestMemory, top: u32, fill: u8) {
-    is(rt, &memory.top(), &top);
-    is(rt, &memory.fill(), &fill);
-    is_left(rt, memory, &[]);
+fn is_filled(rt: &impl Abort, memory: &GuestMemory, script: &[Line]) {
+    is(rt, script, &(memory.top(), memory.fill()), &(TOP, FILL));
+    is_left(rt, script, memory, &[]);
 }
 
 // A top, an align, and the place of a file. The second align has a multiple in high memory only below the third top.
@@ -100,7 +113,10 @@ fn is_placed(rt: &impl Abort, alloc: Global, top: u32, align: u32, place: u64) -
         answer: Ok(()),
         left: &[Held(place, b"\xa1\xa2\xa3")],
     };
-    loads_below(rt, alloc, top, &mut World::idle(), &case)
+    let mut world = World::idle();
+    let done = loads_below(rt, alloc, top, &mut world, &case);
+    drop(world);
+    done
 }
 
 // Apart from the function that owns the world, since each step that may fail costs more to prove beside it.
@@ -129,7 +145,25 @@ fn loads_begun(
     requires top { IfSome world.old (λ w. w.memory.top ≡ top) }
 {
     let mut shelf = ShelfAlloc::new();
+    let done = loads_begun_on(rt, alloc, top, world, &mut shelf, case);
+    drop(shelf);
+    done
+}
+
+// Apart from the function that owns the shelf, for the same reason.
+fn loads_begun_on(
+    rt: &impl Abort,
+    alloc: Global,
+    top: u32,
+    world: &mut World,
+    shelf: &mut ShelfAlloc,
+    case: &Case<'_>,
+) -> Result<(), Fail>
+    requires lawful { IsTop top }
+    requires running { IsSomeAnd world.old (λ w. w.state ≡ Running) }
+    requires top { IfSome world.old (λ w. w.memory.top ≡ top) }
+{
     shelf.begin(alloc, zones_of(top), Policy::Low)?;
-    ends_as(rt, world, &mut shelf, case);
+    ends_as(rt, world, shelf, case);
     Ok(())
 }

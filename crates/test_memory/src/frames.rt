@@ -5,7 +5,7 @@ use std::process::Abort;
 use std::test::Fail;
 
 // Runs of bytes by their address and their number, and whether each byte is RAM where the top is 64 MiB.
-const RUNS: [(u64, u32, bool); 18] = [
+static RUNS: [(u64, u32, bool); 18] = [
     (0, 0xA_0000, true),
     (0, 0xA_0001, false),
     (0, u32::MAX, false),
@@ -29,28 +29,33 @@ const RUNS: [(u64, u32, bool); 18] = [
 #[test]
 fn runs_of_ram(rt: HostRuntime) -> Result<(), Fail> {
     let memory = GuestMemory::begin(rt.alloc(), 0x400_0000, 0)?;
-    for (address, len, is_ram) in RUNS {
+    are_runs(&rt, &memory);
+    drop(memory);
+    Ok(())
+}
+
+fn are_runs(rt: &impl Abort, memory: &GuestMemory) {
+    for (address, len, is_ram) in &RUNS {
         assert_eq!(rt;
-            memory.is_ram_range(address, len),
-            is_ram,
+            memory.is_ram_range(*address, *len),
+            *is_ram,
             "{len} from {address}"
         );
     }
-    Ok(())
 }
 
 #[test]
 fn each_frame_counts_as_touched(rt: HostRuntime) -> Result<(), Fail> {
     let memory = GuestMemory::begin(rt.alloc(), 0x400_0000, 0)?;
-    for frame in [0, 0xA0, 255, 256, 8447] {
-        is_touched(&rt, &memory, frame);
-    }
+    are_touched(&rt, &memory, &[0, 0xA0, 255, 256, 8447]);
+    drop(memory);
     Ok(())
 }
 
-fn is_touched(rt: &impl Abort, memory: &GuestMemory, frame: u32) {
-    if frame < 8448 {
-        assert!(rt; memory.touched(frame), "{frame}");
+// There are 8,448 frames.
+fn are_touched(rt: &impl Abort, memory: &GuestMemory, frames: &[u32]) {
+    for frame in frames {
+        assert!(rt; *frame < 8448 && memory.touched(*frame), "{frame}");
     }
 }
 
@@ -59,13 +64,24 @@ fn bytes_over_a_frame_are_read(rt: HostRuntime) -> Result<(), Fail> {
     let mut memory = GuestMemory::begin(rt.alloc(), 0x400_0000, 9)?;
     memory.copy_in(0xFFE, &[1, 2, 3, 4, 5]);
     are_read(&rt, &memory);
+    drop(memory);
     Ok(())
 }
 
 fn are_read(rt: &impl Abort, memory: &GuestMemory) {
     let mut bytes = [0; 7];
     memory.copy_out(0xFFD, &mut bytes);
-    assert_eq!(rt; bytes, [9, 1, 2, 3, 4, 5, 9]);
-    assert_eq!(rt; memory.part_in_frame(0xFFD, 7), [9, 1, 2].as_slice());
-    assert_eq!(rt; memory.part_in_frame(0x1000, 4), [3, 4, 5, 9].as_slice());
+    are_bytes(rt, &bytes, &[9, 1, 2, 3, 4, 5, 9]);
+    is_part(rt, memory, 0xFFD, 7, &[9, 1, 2]);
+    is_part(rt, memory, 0x1000, 4, &[3, 4, 5, 9]);
+}
+
+// The part in one frame of so many bytes from an address on.
+fn is_part(rt: &impl Abort, memory: &GuestMemory, address: u64, len: usize, part: &[u8]) {
+    assert!(rt; len > 0 && memory.is_ram(address));
+    are_bytes(rt, memory.part_in_frame(address, len), part);
+}
+
+fn are_bytes(rt: &impl Abort, bytes: &[u8], wanted: &[u8]) {
+    assert_eq!(rt; bytes, wanted);
 }

@@ -1,6 +1,7 @@
 //! Guest memory, address by address and in ranges.
 
 ghost use Rattle.std.specs.Prelude.{◌≡◌, ◌≤◌, ◌⊎◌, length};
+ghost use Rattle.vt_bytes.specs.Memory.{IsRamRange};
 
 use guest_memory::{FRAME_BYTES, GuestMemory, TooFar, ram_ranges};
 use std::process::Abort;
@@ -8,7 +9,7 @@ use std::test::Fail;
 use vt_bytes::AddressRange;
 
 // Addresses on both sides of each border, and whether each is RAM where the top is 64 MiB.
-const ADDRESSES: [(u64, bool); 14] = [
+static ADDRESSES: [(u64, bool); 14] = [
     (0, true),
     (0x9_FFFF, true),
     (0xA_0000, false),
@@ -28,11 +29,16 @@ const ADDRESSES: [(u64, bool); 14] = [
 #[test]
 fn memory(rt: HostRuntime) -> Result<(), Fail> {
     let mut memory = GuestMemory::begin(rt.alloc(), 0x400_0000, 0xAB)?;
-    assert_eq!(rt; memory.top(), 0x400_0000);
-    for (address, is_ram) in ADDRESSES {
-        is_address(&rt, &mut memory, address, is_ram);
-    }
+    are_addresses(&rt, &mut memory);
+    drop(memory);
     Ok(())
+}
+
+fn are_addresses(rt: &impl Abort, memory: &mut GuestMemory) {
+    assert_eq!(rt; memory.top(), 0x400_0000);
+    for (address, is_ram) in &ADDRESSES {
+        is_address(rt, memory, *address, *is_ram);
+    }
 }
 
 // An address is RAM or not, and holds the fill byte until another is written there.
@@ -74,7 +80,7 @@ fn is_range(rt: &impl Abort, range: AddressRange, start: u64, end: u64) {
 }
 
 // What the ranges of memory hold once bytes were put there and numbers were added.
-const LEFT: [(u64, u8); 14] = [
+static LEFT: [(u64, u8); 14] = [
     (0xFFD, 0),
     (0xFFE, 0xFF),
     (0xFFF, 0xFF),
@@ -94,22 +100,34 @@ const LEFT: [(u64, u8); 14] = [
 #[test]
 fn ranges_of_memory(rt: HostRuntime) -> Result<(), Fail> {
     let mut memory = GuestMemory::begin(rt.alloc(), 0x400_0000, 0)?;
-    put_ranges(&mut memory);
-    are_sums(&rt, &memory);
-    are_windows(&rt, &memory);
-    add_numbers(&rt, &mut memory);
-    add_long_numbers(&rt, &mut memory);
-    for (address, byte) in LEFT {
-        holds(&rt, &memory, address, byte);
-    }
+    change_ranges(&rt, &mut memory);
+    hold(&rt, &memory, &LEFT);
+    drop(memory);
     Ok(())
+}
+
+fn change_ranges(rt: &impl Abort, memory: &mut GuestMemory)
+    requires { memory.old.top ≡ 0x4000000 }
+{
+    put_ranges(memory);
+    are_sums(rt, memory);
+    are_windows(rt, memory);
+    add_numbers(rt, memory);
+    add_long_numbers(rt, memory);
+}
+
+// Addresses are RAM, and each holds a byte.
+fn hold(rt: &impl Abort, memory: &GuestMemory, rows: &[(u64, u8)]) {
+    for (address, byte) in rows {
+        holds(rt, memory, *address, *byte);
+    }
 }
 
 fn put_ranges(memory: &mut GuestMemory)
     requires { memory.old.top ≡ 0x4000000 }
     ensures { memory.new.top ≡ 0x4000000 }
 {
-    // over the end of a page of 4096 bytes
+    // over the end of a frame
     memory.copy_in(0xFFE, &[0xFF, 2, 3, 4, 5]);
     memory.copy_in(0x3FF_FFFE, &[6, 7]);
     memory.copy_in(0x5000, &[]);
@@ -118,24 +136,42 @@ fn put_ranges(memory: &mut GuestMemory)
 fn are_sums(rt: &impl Abort, memory: &GuestMemory)
     requires { memory.now.top ≡ 0x4000000 }
 {
-    assert_eq!(rt; memory.sum_range(0xFFE, 5), 13);
-    assert_eq!(rt; memory.sum_range(0x3FF_FFFE, 2), 13);
-    assert_eq!(rt; memory.sum_range(0, 0), 0);
+    is_sum(rt, memory, 0xFFE, 5, 13);
+    is_sum(rt, memory, 0x3FF_FFFE, 2, 13);
+    is_sum(rt, memory, 0, 0, 0);
 }
 
-// Each window is in one frame: to the frame's end, from its start, and none at all.
-fn are_windows(rt: &impl Abort, memory: &GuestMemory)
-    requires { memory.now.top ≡ 0x4000000 }
+// The sum of so many bytes from an address on, modulo 256.
+fn is_sum(rt: &impl Abort, memory: &GuestMemory, address: u64, len: u32, sum: u8)
+    requires { IsRamRange memory.now.top address len }
 {
+    assert_eq!(rt; memory.sum_range(address, len), sum, "at {address}");
+}
+
+// Bytes that memory holds from an address on. Each window is in one frame: to the frame's end, from its start, and none at all.
+static WINDOWS: [(u64, &[u8]); 4] = [
+    (0xFFD, &[0, 0xFF, 2]),
+    (0x1000, &[3, 4, 5, 0]),
+    (0x3FF_FFFD, &[0, 6, 7]),
+    (0x1000, &[]),
+];
+
+fn are_windows(rt: &impl Abort, memory: &GuestMemory) {
     assert_eq!(rt; FRAME_BYTES, 4096);
-    assert_eq!(rt; memory.window(0xFFD, 3), [0, 0xFF, 2].as_slice());
-    assert_eq!(rt; memory.window(0x1000, 4), [3, 4, 5, 0].as_slice());
-    assert_eq!(rt; memory.window(0x3FF_FFFD, 3), [0, 6, 7].as_slice());
-    assert_eq!(rt; memory.window(0x1000, 0), [].as_slice());
+    for (address, bytes) in &WINDOWS {
+        is_window(rt, memory, *address, bytes);
+    }
+}
+
+fn is_window(rt: &impl Abort, memory: &GuestMemory, address: u64, bytes: &[u8]) {
+    assert!(rt; bytes.len() <= 4 && memory.is_ram(address), "at {address}");
+    let len = bytes.len() as u32;
+    assert!(rt; address % 4096 + u64::from(len) <= 4096, "at {address}");
+    assert_eq!(rt; memory.window(address, len), bytes, "at {address}");
 }
 
 // What the frames of memory hold once bytes were put over three ends of frames, and others at the ends of RAM's ranges.
-const IN_FRAMES: [(u64, u8); 11] = [
+static IN_FRAMES: [(u64, u8); 11] = [
     (0x7FEF, 0),
     (0x7FF0, 9),
     (0x8FFF, 9),
@@ -155,9 +191,8 @@ fn frames_of_memory(rt: HostRuntime) -> Result<(), Fail> {
     let bytes = vec![in rt.alloc(); 9; 9000]?;
     put_frames(&rt, &mut memory, bytes.as_slice());
     change_windows(&rt, &mut memory);
-    for (address, byte) in IN_FRAMES {
-        holds(&rt, &memory, address, byte);
-    }
+    hold(&rt, &memory, &IN_FRAMES);
+    drop(memory);
     Ok(())
 }
 
@@ -165,16 +200,16 @@ fn put_frames(rt: &impl Abort, memory: &mut GuestMemory, bytes: &[u8])
     requires { length bytes.now ≡ 9000 }
 {
     memory.copy_in(0x7FF0, bytes);
-    assert_eq!(rt; memory.sum_range(0x7FF0, 9000), 104);
-    assert_eq!(rt; memory.sum_range(0x7FEF, 9002), 104);
-    assert_eq!(rt; memory.sum_range(0x9000, 4096), 0);
+    is_sum(rt, memory, 0x7FF0, 9000, 104);
+    is_sum(rt, memory, 0x7FEF, 9002, 104);
+    is_sum(rt, memory, 0x9000, 4096, 0);
 }
 
 fn change_windows(rt: &impl Abort, memory: &mut GuestMemory) {
     memory.window_mut(0x9_FFFE, 2)[1] = 3;
     memory.window_mut(0xE_0000, 4096)[0] = 4;
     memory.window_mut(0xF_FFFE, 2).copy_from_slice(&[5, 6]);
-    assert_eq!(rt; memory.window(0xF_FFFD, 3), [0, 5, 6].as_slice());
+    is_window(rt, memory, 0xF_FFFD, &[0, 5, 6]);
 }
 
 // Adds to numbers of one byte and of two that overlap.

@@ -1,13 +1,14 @@
-//! What is asserted of a stream, which the tests of all streams share. A stream is handed by reference to one function that makes a
+//! What the tests of this crate assert in common, of streams above all. A stream is handed by reference to one function that makes a
 //! table's calls, since each assertion beside an owned stream costs more to prove.
-
-ghost use Rattle.std.specs.Prelude.{◌<◌, length};
 
 use std::process::Abort;
 use vt_outside::{Failed, Sink, Source};
 
 /// A read into four bytes: its answer, and what they are then.
 pub(crate) type Reading = (Result<usize, Failed>, &'static [u8; 4]);
+
+/// The readings of six bytes, "abcdef".
+pub(crate) static SIX: [Reading; 3] = [(Ok(4), b"abcd"), (Ok(2), b"efcd"), (Ok(0), b"efcd")];
 
 /// A call of a sink, with its answer.
 pub(crate) enum Call {

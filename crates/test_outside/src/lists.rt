@@ -12,7 +12,9 @@ use vt_outside::{Bytes, List, OutOfMemory, Text};
 fn lists(rt: HostRuntime) -> Result<(), Fail> {
     let mut list = list_of_three(rt.alloc())?;
     change_list(&rt, &mut list);
-    copy_and_cut_list(&rt, &mut list)?;
+    let done = copy_and_cut_list(&rt, &mut list);
+    drop(list);
+    done?;
     Ok(())
 }
 
@@ -42,6 +44,7 @@ fn copy_and_cut_list(rt: &impl Abort, list: &mut List<u32>) -> Result<(), OutOfM
     list.cut(2);
     are_items(rt, list.as_slice(), &[7, 5]);
     are_items(rt, copy.as_slice(), &[7, 5, 9]);
+    drop(copy);
     Ok(())
 }
 
@@ -49,7 +52,9 @@ fn copy_and_cut_list(rt: &impl Abort, list: &mut List<u32>) -> Result<(), OutOfM
 fn texts(rt: HostRuntime) -> Result<(), Fail> {
     let mut text = text_of_three(rt.alloc())?;
     change_text(&rt, &mut text);
-    copy_and_cut_text(&rt, &mut text)?;
+    let done = copy_and_cut_text(&rt, &mut text);
+    drop(text);
+    done?;
     Ok(())
 }
 
@@ -79,6 +84,7 @@ fn copy_and_cut_text(rt: &impl Abort, text: &mut Text) -> Result<(), OutOfMemory
     text.cut(2);
     are_items(rt, text.as_slice(), b"vm");
     are_items(rt, copy.as_slice(), b"vm!");
+    drop(copy);
     Ok(())
 }
 
@@ -86,7 +92,9 @@ fn copy_and_cut_text(rt: &impl Abort, text: &mut Text) -> Result<(), OutOfMemory
 fn byte_strings(rt: HostRuntime) -> Result<(), Fail> {
     let mut bytes = bytes_of_three(rt.alloc())?;
     change_bytes(&rt, &mut bytes);
-    copy_and_cut_bytes(&rt, &mut bytes)?;
+    let done = copy_and_cut_bytes(&rt, &mut bytes);
+    drop(bytes);
+    done?;
     Ok(())
 }
 
@@ -116,6 +124,7 @@ fn copy_and_cut_bytes(rt: &impl Abort, bytes: &mut Bytes) -> Result<(), OutOfMem
     bytes.cut(2);
     are_items(rt, bytes.as_slice(), &[1, 0]);
     are_items(rt, copy.as_slice(), &[1, 0, 255]);
+    drop(copy);
     Ok(())
 }
 

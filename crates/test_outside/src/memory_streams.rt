@@ -1,16 +1,17 @@
 //! Sources and sinks in memory.
 
-use crate::asserts::{Call, Reading, answers_all, are_bytes, reads_all};
+use crate::asserts::{Call, Reading, SIX, answers_all, are_bytes, reads_all};
 use std::alloc::Global;
 use std::test::Fail;
-use vt_outside::{Bytes, Failed, List, ListSink, ListSource, OutOfMemory, SureSink, SureSource};
-
-static SIX: [Reading; 3] = [(Ok(4), b"abcd"), (Ok(2), b"efcd"), (Ok(0), b"efcd")];
+use vt_outside::{
+    Bytes, Failed, List, ListSink, ListSource, OutOfMemory, SureSink, SureSource, is_listed,
+};
 
 #[test]
 fn sources_in_memory(rt: HostRuntime) -> Result<(), Fail> {
     let mut source = SureSource::new(six_bytes(rt.alloc())?);
     reads_all(&rt, &mut source, &[0; 4], &SIX);
+    drop(source);
     Ok(())
 }
 
@@ -25,6 +26,7 @@ static THREES: [Reading; 4] = [
 fn sources_that_fail(rt: HostRuntime) -> Result<(), Fail> {
     let mut source = failing_source(rt.alloc())?;
     reads_all(&rt, &mut source, &[0; 4], &THREES);
+    drop(source);
     Ok(())
 }
 
@@ -41,6 +43,7 @@ fn sinks_in_memory(rt: HostRuntime) -> Result<(), Fail> {
     let mut sink = failing_sink(rt.alloc())?;
     answers_all(&rt, &mut sink, &FIVE);
     are_bytes(&rt, sink.taken(), b"abcde");
+    drop(sink);
     Ok(())
 }
 
@@ -49,6 +52,12 @@ static SURE: [Call; 2] = [Call::Write(b"abc", Ok(3)), Call::Flush(Ok(()))];
 #[test]
 fn a_sink_that_never_fails(rt: HostRuntime) {
     answers_all(&rt, &mut SureSink::new(), &SURE);
+}
+
+#[test]
+fn calls_that_are_listed(rt: HostRuntime) {
+    assert!(rt; is_listed(&[1, 3], 3));
+    assert!(rt; !is_listed(&[1, 3], 2));
 }
 
 // A sink with room for five bytes, whose second call fails.

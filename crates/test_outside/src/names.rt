@@ -3,7 +3,7 @@
 use crate::asserts::are_bytes;
 use std::process::Abort;
 use std::test::Fail;
-use vt_outside::{Name, NameFault};
+use vt_outside::{Name, NameFault, are_printable};
 
 #[test]
 fn names(rt: HostRuntime) -> Result<(), Fail> {
@@ -72,4 +72,11 @@ fn bytes_that_are_no_name(rt: HostRuntime) {
 
 fn is_fault(rt: &impl Abort, name: Result<Name, NameFault>, fault: NameFault) {
     assert_eq!(rt; name.err(), Some(fault));
+}
+
+#[test]
+fn bytes_that_print(rt: HostRuntime) {
+    assert!(rt; are_printable(b" ~"));
+    assert!(rt; !are_printable(b" \x1f~"));
+    assert!(rt; !are_printable(b" \x7f~"));
 }

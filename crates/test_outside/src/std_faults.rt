@@ -1,6 +1,6 @@
 //! Readers and writers of std that are interrupted and then fail, with each kind of error that std has, and what is counted then.
 
-ghost use Rattle.std.specs.Prelude.{◌≡◌, ◌<◌, length, Err, OnErr, OnOk};
+ghost use Rattle.std.specs.Prelude.{◌≡◌, ◌<◌, length, OnErr, OnOk};
 
 use crate::asserts::{Call, Reading, answers_all, reads_all};
 use std::io::{self, ErrorKind, Read, Write};
@@ -140,7 +140,7 @@ fn first_read<R: Read>(reader: R, into: &mut [u8]) -> (ReadSource<R>, Result<usi
     (source, answer)
 }
 
-// A write and a flush of a new sink count one fault each where they fail.
+// The first write of a sink counts one fault where it fails, and else none: what `new` and `write` say together.
 fn first_write<W: Write>(writer: W, piece: &[u8]) -> (WriteSink<W>, Result<usize, Failed>)
     requires { 0 < length piece.now }
     ensures failed { OnErr result.1 (result.0.faults ≡ 1) }

@@ -1,6 +1,6 @@
 //! A reader and a writer of std as a source and a sink.
 
-use crate::asserts::{Call, Reading, answers_all, are_bytes, reads_all};
+use crate::asserts::{Call, Reading, SIX, answers_all, are_bytes, reads_all};
 use std::io::{self, ErrorKind, Read, Write};
 use std::process::Abort;
 use vt_outside::{Failed, ReadSource, WriteSink};
@@ -23,7 +23,7 @@ impl Read for ShakyReader<'_> {
     }
 }
 
-// A writer whose first call is interrupted, whose third fails, and whose fifth takes nothing.
+// A writer whose first and sixth calls are interrupted, whose third and eighth fail, and whose fifth takes nothing.
 #[derive(Drop)]
 struct ShakyWriter {
     calls: u32,
@@ -72,8 +72,6 @@ impl Write for ShortWriter {
     }
 }
 
-static SIX: [Reading; 3] = [(Ok(4), b"abcd"), (Ok(2), b"efcd"), (Ok(0), b"efcd")];
-
 #[test]
 fn readers_of_std(rt: HostRuntime) {
     let mut source = ReadSource::new(b"abcdef".as_slice());
@@ -98,6 +96,7 @@ fn writers_of_std(rt: HostRuntime) {
     let mut taken = Vec::new(rt.alloc());
     takes(&rt, &mut taken, &ONCE);
     are_bytes(&rt, taken.as_slice(), b"abc");
+    drop(taken);
 }
 
 // A writer as a sink answers each call as the call says.
@@ -122,6 +121,7 @@ fn writers_of_std_that_fail(rt: HostRuntime) {
     };
     takes(&rt, &mut writer, &FAILING);
     are_bytes(&rt, writer.taken.as_slice(), b"abef");
+    drop(writer);
 }
 
 static BY_TWO: [Call; 3] = [
@@ -137,4 +137,5 @@ fn writers_of_std_that_take_two_bytes(rt: HostRuntime) {
     };
     takes(&rt, &mut writer, &BY_TWO);
     are_bytes(&rt, writer.taken.as_slice(), b"abcde");
+    drop(writer);
 }

@@ -1,6 +1,6 @@
 //! What is said through the trait of the events that a schedule gives, and what follows of the events of a seed.
 
-ghost use Rattle.std.specs.Prelude.{◌≡◌, [], ◌∷◌, IfSome, IfNone, IsSome};
+ghost use Rattle.std.specs.Prelude.{◌≡◌, [], ◌∷◌, IfSome, IfNone};
 ghost use Rattle.firmware_load.specs.Schedules.{seeded_events};
 
 use firmware_load::{Schedule, SeededSchedule};
@@ -12,8 +12,10 @@ use std::test::Fail;
 #[test]
 fn a_schedule_through_the_trait(rt: HostRuntime) -> Result<(), Fail> {
     let mut schedule = SeededSchedule::new();
-    assert_eq!(rt; first_drawn(&mut schedule, 1), Some(Device(762)));
-    assert_eq!(rt; first_drawn(&mut schedule, 0), None);
+    let of_one = first_drawn(&mut schedule, 1);
+    let of_zero = first_drawn(&mut schedule, 0);
+    drop(schedule);
+    assert_eq!(rt; (of_one, of_zero), (Some(Device(762)), None));
     Ok(())
 }
 

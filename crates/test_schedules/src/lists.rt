@@ -9,7 +9,7 @@ use std::process::Abort;
 use std::test::Fail;
 use vt_outside::{List, OutOfMemory};
 
-const EVENTS: [Event; 5] = [
+static EVENTS: [Event; 5] = [
     Firmware,
     Device(0),
     Device(0xFFFF_FFFF),
@@ -24,12 +24,17 @@ const EVENTS: [Event; 5] = [
 fn a_list(rt: HostRuntime) -> Result<(), Fail> {
     let mut schedule = listed(rt.alloc(), &EVENTS)?;
     none_is_left(&rt, &mut schedule);
-    for seed in [0, 1, 0xFFFF_FFFF_FFFF_FFFF] {
-        schedule.begin(seed);
-        are_given(&rt, &mut schedule, &EVENTS);
-        none_is_left(&rt, &mut schedule);
-    }
+    are_given_by_each_seed(&rt, &mut schedule, &[0, 1, 0xFFFF_FFFF_FFFF_FFFF]);
+    drop(schedule);
     Ok(())
+}
+
+fn are_given_by_each_seed(rt: &impl Abort, schedule: &mut ListSchedule, seeds: &[u64]) {
+    for seed in seeds {
+        schedule.begin(*seed);
+        are_given(rt, schedule, &EVENTS);
+        none_is_left(rt, schedule);
+    }
 }
 
 // A begin among the events has all of them left again.

@@ -11,8 +11,8 @@ use load_machine::Event::{Device, Firmware, Other};
 use std::process::Abort;
 use std::test::Fail;
 
-// Its words begin with 33a70be6, 7dbcf3ee, cadf4751, 11ac71c0, and f8ffee3b with 291f2ee8 and ddacaf38 behind it.
-const OF_ONE: [Event; 10] = [
+// The words of seed 1 begin with 33a70be6, 7dbcf3ee, cadf4751, 11ac71c0, and f8ffee3b with 291f2ee8 and ddacaf38 behind it.
+static OF_ONE: [Event; 10] = [
     Device(762),
     Device(3324),
     Device(469),
@@ -31,7 +31,7 @@ const OF_ONE: [Event; 10] = [
     Device(2393),
 ];
 
-const OF_GREATEST: [Event; 12] = [
+static OF_GREATEST: [Event; 12] = [
     Device(1632),
     Device(2466),
     Firmware,
@@ -50,7 +50,7 @@ const OF_GREATEST: [Event; 12] = [
 ];
 
 // A seed whose low 32 bits are those of seed 0.
-const OF_HIGH: [Event; 4] = [
+static OF_HIGH: [Event; 4] = [
     Device(1992),
     Firmware,
     Device(3538),

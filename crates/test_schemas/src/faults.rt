@@ -1,3 +1,5 @@
+//! Documents, and the first fault that a walk of each tells.
+
 use crate::told::are_told;
 use std::test::Fail;
 

@@ -1,3 +1,5 @@
+//! The schema by which the tests walk documents.
+
 use desc_schema::{Key, Kind, Otherwise, Scalar, TableSchema};
 
 // A schema with each kind of value at the root, a table, an array of tables, and arrays of tables inside one another.

@@ -1,3 +1,5 @@
+//! Values of a walk that are taken out one after the other.
+
 use crate::told::walked;
 use desc_schema::{Item, Items};
 use std::alloc::Global;
@@ -14,7 +16,7 @@ const EACH_KIND: &str =
 fn each_kind(alloc: Global) -> Result<Items, Fail> {
     match walked(alloc, EACH_KIND)? {
         Ok(items) => Ok(items),
-        Err(_) => Ok(Items::new(alloc)),
+        Err(_) => Err(Fail::from("a document that isn't walked")),
     }
 }
 
@@ -28,7 +30,7 @@ fn values_are_taken_as_their_kinds(rt: HostRuntime) -> Result<(), Fail> {
 fn are_taken(rt: &impl Abort, alloc: Global, items: &mut Items) {
     is(rt, &items.len(), &11);
     is(rt, &items.take_number(0xFF), &1);
-    is_text_taken(rt, alloc, items);
+    is_text_taken(rt, alloc, items, b"a");
     is(
         rt,
         &items.take_uuid(),
@@ -40,13 +42,13 @@ fn are_taken(rt: &impl Abort, alloc: Global, items: &mut Items) {
     is(rt, &items.take_count(), &1);
 }
 
-fn is_text_taken(rt: &impl Abort, alloc: Global, items: &mut Items) {
+fn is_text_taken(rt: &impl Abort, alloc: Global, items: &mut Items, wanted: &[u8]) {
     let text = items.take_text(alloc);
-    assert_eq!(rt; text.as_slice(), b"a".as_slice());
+    is(rt, &text.as_slice(), &wanted);
 }
 
 #[test]
-fn values_of_another_kind_are_none(rt: HostRuntime) -> Result<(), Fail> {
+fn numbers_out_of_range(rt: HostRuntime) -> Result<(), Fail> {
     let mut items = Items::new(rt.alloc());
     push_two(&mut items)?;
     are_none(&rt, &mut items);
@@ -58,10 +60,38 @@ fn push_two(items: &mut Items) -> Result<(), OutOfMemory> {
     items.push(Item::Nothing)
 }
 
+// Of an empty list the count is 0 too.
 fn are_none(rt: &impl Abort, items: &mut Items) {
     is(rt, &items.take_number(0xFF), &0);
     is(rt, &items.take_optional_number(0xFF), &None);
     is(rt, &items.take_count(), &0);
+}
+
+#[test]
+fn values_of_another_kind_are_none(rt: HostRuntime) -> Result<(), Fail> {
+    let mut items = Items::new(rt.alloc());
+    push_others(&mut items)?;
+    are_of_another_kind(&rt, rt.alloc(), &mut items);
+    Ok(())
+}
+
+// A flag for each of the six kinds that aren't flags, and a number.
+fn push_others(items: &mut Items) -> Result<(), OutOfMemory> {
+    for _ in 0..6 {
+        items.push(Item::Flag(true))?;
+    }
+    items.push(Item::Number(1))
+}
+
+fn are_of_another_kind(rt: &impl Abort, alloc: Global, items: &mut Items) {
+    is(rt, &items.len(), &7);
+    is(rt, &items.take_number(0xFF), &0);
+    is_text_taken(rt, alloc, items, b"");
+    is(rt, &items.take_uuid(), &None);
+    is(rt, &items.take_word(), &0);
+    is(rt, &items.take_optional_number(0xFF), &None);
+    is(rt, &items.take_count(), &0);
+    is(rt, &items.take_flag(), &false);
 }
 
 fn is<T: Debug + PartialEq>(rt: &impl Abort, taken: &T, wanted: &T) {

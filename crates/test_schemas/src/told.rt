@@ -1,3 +1,5 @@
+//! What a walk of a document gives, in words.
+
 use crate::schema::SCHEMA;
 use desc_schema::{Item, Items, KeyPlace, Place, WalkError, WalkFault, walk_document};
 use std::alloc::Global;
@@ -20,7 +22,9 @@ fn is_told(rt: &impl Abort, alloc: Global, text: &str, wanted: &str) -> Result<(
 }
 
 fn are_words(rt: &impl Abort, told: &str, wanted: &str, text: &str) {
-    assert_eq!(rt; told, wanted, "of {text}");
+    if told != wanted {
+        panic!(rt; "{told} in place of {wanted}, of {text}");
+    }
 }
 
 // What a walk gives of a text, in words: its values, or its fault.
@@ -33,7 +37,7 @@ fn told(alloc: Global, text: &str) -> Result<String, Fail> {
 }
 
 fn told_words(alloc: Global, words: &str) -> Result<String, Fail> {
-    Ok(format!(in alloc; "{words}")?)
+    Ok(String::from_str(alloc, words)?)
 }
 
 /// What a walk gives of a text.
@@ -75,10 +79,8 @@ fn told_item(alloc: Global, item: &Item) -> Result<String, Fail> {
 }
 
 fn told_text(alloc: Global, text: &[u8]) -> Result<String, Fail> {
-    match str::from_utf8(text) {
-        Ok(text) => Ok(format!(in alloc; "{text:?}")?),
-        Err(_) => told_words(alloc, "not UTF-8"),
-    }
+    let text = str::from_utf8(text).unwrap_or("not UTF-8");
+    Ok(format!(in alloc; "{text:?}")?)
 }
 
 fn told_uuid(alloc: Global, uuid: u128) -> Result<String, Fail> {
@@ -100,10 +102,8 @@ fn told_fault(alloc: Global, fault: &WalkFault) -> Result<String, Fail> {
 
 fn told_unknown(alloc: Global, place: Place, key: &[u8]) -> Result<String, Fail> {
     let Place { table, index } = place;
-    match str::from_utf8(key) {
-        Ok(key) => Ok(format!(in alloc; "unknown {table} {index} {key}")?),
-        Err(_) => Ok(format!(in alloc; "unknown {table} {index}")?),
-    }
+    let key = str::from_utf8(key).unwrap_or("not UTF-8");
+    Ok(format!(in alloc; "unknown {table} {index} {key}")?)
 }
 
 fn told_key(alloc: Global, cause: &str, at: KeyPlace) -> Result<String, Fail> {

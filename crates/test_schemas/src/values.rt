@@ -1,3 +1,5 @@
+//! Documents, and the values that a walk of each gives.
+
 use crate::told::are_told;
 use std::test::Fail;
 

@@ -23,7 +23,7 @@ fn allocate() -> [u8; 128] {
 #[test]
 fn one_command(rt: HostRuntime) -> Result<(), Fail> {
     let Entry::Allocate { file, align, zone } = decode_entry(&allocate()) else {
-        return Err(Fail::from("an Allocate"));
+        return Err(Fail::from("no Allocate"));
     };
     assert!(rt; file == Name::of("a")?);
     assert_eq!(rt; (align, zone), (0x10, 2));

@@ -1,9 +1,11 @@
 //! The structures of machines, which are built as bytes and read again, also with other bytes behind them.
 
 ghost use Rattle.std.specs.Prelude.{IfOk};
+ghost use Rattle.machine_desc.specs.Rules.{IsAccepted};
 ghost use Rattle.smbios_build.specs.Buildable.{AreBuildable};
 
-use crate::told::read;
+use crate::told::{are_words, read};
+use desc_toml::laws::read_machine_is_accepted;
 use desc_toml::read_machine;
 use machine_desc::Machine;
 use smbios_build::build_smbios;
@@ -17,7 +19,7 @@ use vt_outside::{Bytes, List};
 // A machine of which nothing is described but what must be.
 const LEAST: &str = "version = 1\ntop_mib = 64\n[system]\n";
 
-// A machine with texts of every length that a string may have at the borders of what a machine may say.
+// A machine whose texts have no byte, one, or as many as a text may have, 64; two of them are the same.
 const SYSTEM: &str = "version = 1
 top_mib = 3072
 oem_strings = [' ', '~']
@@ -114,7 +116,9 @@ fn structures_are_read_again(rt: HostRuntime) -> Result<(), Fail> {
 
 fn is_read_again(rt: &impl Abort, alloc: Global, description: &str) -> Result<(), Fail> {
     let structures = structures(alloc, description)?;
-    are_read_again(rt, alloc, structures.as_slice())
+    let again = are_read_again(rt, alloc, structures.as_slice());
+    drop(structures);
+    again
 }
 
 // The structures of the machine that a text describes.
@@ -122,30 +126,52 @@ fn structures(alloc: Global, description: &str) -> Result<List<Structure>, Fail>
     ensures { IfOk result (λ structures. AreBuildable structures) }
 {
     let machine = machine(alloc, description)?;
-    accepted_structures(alloc, &machine)
-}
-
-fn machine(alloc: Global, description: &str) -> Result<Machine, Fail> {
-    Ok(read_machine(alloc, description.as_bytes())?)
-}
-
-fn accepted_structures(alloc: Global, machine: &Machine) -> Result<List<Structure>, Fail>
-    ensures { IfOk result (λ structures. AreBuildable structures) }
-{
-    if machine.check().is_err() {
-        return Err(Fail::from("a lawful machine"));
-    }
     accepted_structures_are_buildable();
-    Ok(structures_of(alloc, machine)?)
+    let structures = structures_of(alloc, &machine);
+    // where it ends in place, each of its many parts is a step of this proof
+    drop(machine);
+    Ok(structures?)
+}
+
+fn machine(alloc: Global, description: &str) -> Result<Machine, Fail>
+    ensures { IfOk result IsAccepted }
+{
+    read_machine_is_accepted();
+    Ok(read_machine(alloc, description.as_bytes())?)
 }
 
 fn are_read_again(rt: &impl Abort, alloc: Global, structures: &[Structure]) -> Result<(), Fail>
     requires { AreBuildable structures.now }
 {
     let mut bytes = build_smbios(alloc, structures)?;
-    is_read_as(rt, alloc, bytes.as_slice(), structures)?;
-    push_others(&mut bytes)?;
-    is_read_as(rt, alloc, bytes.as_slice(), structures)
+    let wanted = printed(alloc, structures);
+    let again = are_read_as(rt, alloc, &mut bytes, wanted);
+    drop(bytes);
+    again
+}
+
+// The bytes are read as structures whose printed form has each of their fields, also with others behind them.
+fn are_read_as(
+    rt: &impl Abort,
+    alloc: Global,
+    bytes: &mut Bytes,
+    wanted: Result<String, Fail>,
+) -> Result<(), Fail> {
+    let wanted = wanted?;
+    let again = are_printed_as(rt, alloc, bytes, wanted.as_str());
+    drop(wanted);
+    again
+}
+
+fn are_printed_as(
+    rt: &impl Abort,
+    alloc: Global,
+    bytes: &mut Bytes,
+    wanted: &str,
+) -> Result<(), Fail> {
+    is_printed_as(rt, alloc, bytes.as_slice(), wanted)?;
+    push_others(bytes)?;
+    is_printed_as(rt, alloc, bytes.as_slice(), wanted)
 }
 
 // Appends what would be a fault if it were looked at.
@@ -154,36 +180,16 @@ fn push_others(bytes: &mut Bytes) -> Result<(), Fail> {
     Ok(())
 }
 
-// The bytes are read as these structures, whose printed form has each of their fields.
-fn is_read_as(
-    rt: &impl Abort,
-    alloc: Global,
-    bytes: &[u8],
-    structures: &[Structure],
-) -> Result<(), Fail> {
+fn is_printed_as(rt: &impl Abort, alloc: Global, bytes: &[u8], wanted: &str) -> Result<(), Fail> {
     let again = printed_again(alloc, bytes)?;
-    is_printed(rt, alloc, again.as_str(), structures)
+    are_words(rt, again.as_bytes(), wanted.as_bytes(), bytes);
+    Ok(())
 }
 
 // What the bytes are read as, printed.
 fn printed_again(alloc: Global, bytes: &[u8]) -> Result<String, Fail> {
     let structures = read(alloc, bytes)?;
     printed(alloc, structures.as_slice())
-}
-
-fn is_printed(
-    rt: &impl Abort,
-    alloc: Global,
-    again: &str,
-    structures: &[Structure],
-) -> Result<(), Fail> {
-    let wanted = printed(alloc, structures)?;
-    are_equal(rt, again, wanted.as_str());
-    Ok(())
-}
-
-fn are_equal(rt: &impl Abort, again: &str, wanted: &str) {
-    assert_eq!(rt; again, wanted);
 }
 
 fn printed(alloc: Global, structures: &[Structure]) -> Result<String, Fail> {

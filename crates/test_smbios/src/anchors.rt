@@ -50,7 +50,7 @@ static MEMORIES: [Row; 18] = [
     ("a wrong sum", &[(0xF_0000, WRONG_SUM)], None),
     ("another mark", &[(0xF_0000, OTHER_MARK)], None),
     ("another form", &[(0xF_0000, OTHER_FORM)], Some(0xF_0000)),
-    ("over two pages", &[(0xF_0FF0, ANCHOR)], Some(0xF_0FF0)),
+    ("over two frames", &[(0xF_0FF0, ANCHOR)], Some(0xF_0FF0)),
     (
         "two",
         &[(0xF_0200, ANCHOR), (0xF_0100, LONG)],
@@ -66,8 +66,14 @@ static MEMORIES: [Row; 18] = [
 #[test]
 fn anchors_in_memory(rt: HostRuntime) -> Result<(), Fail> {
     let mut memory = memory(rt.alloc())?;
+    let found = are_found(&rt, rt.alloc(), &mut memory);
+    drop(memory);
+    found
+}
+
+fn are_found(rt: &impl Abort, alloc: Global, memory: &mut GuestMemory) -> Result<(), Fail> {
     for row in &MEMORIES {
-        is_found(&rt, rt.alloc(), &mut memory, row)?;
+        is_found(rt, alloc, memory, row)?;
     }
     Ok(())
 }

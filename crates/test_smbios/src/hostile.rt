@@ -8,13 +8,20 @@ use rand_pcg::Pcg32;
 use std::alloc::Global;
 use std::process::Abort;
 use std::test::Fail;
-use vt_outside::Bytes;
+use vt_outside::{Bytes, OutOfMemory};
 
 // How many inputs at random a test has.
 const INPUTS: u32 = 25_000;
 
 // How many of them have each outcome at least, so that none is left out.
 const EACH: u32 = 100;
+
+// What inputs at random are.
+#[derive(Clone, Copy)]
+enum Inputs {
+    Structures,
+    Bytes,
+}
 
 // How often each outcome came.
 #[derive(Clone, Copy, Debug)]
@@ -28,10 +35,15 @@ struct Outcomes {
 
 #[test]
 fn every_prefix(rt: HostRuntime) -> Result<(), Fail> {
-    let mut bytes = every_structure(rt.alloc())?;
-    for _ in 0..=bytes.len() {
-        agree(&rt, rt.alloc(), bytes.as_slice())?;
-        drop_last(&mut bytes);
+    let bytes = every_structure(rt.alloc())?;
+    let agreed = agree_on_prefixes(&rt, rt.alloc(), bytes.as_slice());
+    drop(bytes);
+    agreed
+}
+
+fn agree_on_prefixes(rt: &impl Abort, alloc: Global, bytes: &[u8]) -> Result<(), Fail> {
+    for size in 0..=bytes.len() {
+        agree(rt, alloc, &bytes[..size])?;
     }
     Ok(())
 }
@@ -42,11 +54,6 @@ pub fn agree(rt: &impl Abort, alloc: Global, bytes: &[u8]) -> Result<Bytes, Fail
     let wanted = told_by_the_rules(alloc, bytes)?;
     are_words(rt, told.as_slice(), wanted.as_slice(), bytes);
     Ok(told)
-}
-
-fn drop_last(bytes: &mut Bytes) {
-    let size = bytes.len();
-    bytes.cut(size.saturating_sub(1));
 }
 
 // Each byte in an eighth of the table, with every value.
@@ -92,10 +99,21 @@ fn changes_in_the_last_eighth(rt: HostRuntime) -> Result<(), Fail> {
 
 fn agree_with_changes(rt: &impl Abort, alloc: Global, eighth: usize) -> Result<(), Fail> {
     let mut bytes = every_structure(alloc)?;
+    let agreed = agree_with_changes_of(rt, alloc, &mut bytes, eighth);
+    drop(bytes);
+    agreed
+}
+
+fn agree_with_changes_of(
+    rt: &impl Abort,
+    alloc: Global,
+    bytes: &mut Bytes,
+    eighth: usize,
+) -> Result<(), Fail> {
     let count = bytes.len() / 8 + 1;
     let first = count.saturating_mul(eighth);
     for place in first..first.saturating_add(count) {
-        agree_with_each(rt, alloc, &mut bytes, place)?;
+        agree_with_each(rt, alloc, bytes, place)?;
     }
     Ok(())
 }
@@ -140,43 +158,54 @@ fn put_at(bytes: &mut Bytes, place: usize, byte: u8) {
 // Structures of three seeds, and bytes of another, each in a test of its own.
 #[test]
 fn structures_at_random(rt: HostRuntime) -> Result<(), Fail> {
-    agree_of_seed(&rt, rt.alloc(), 1)
+    agree_of_seed(&rt, rt.alloc(), Inputs::Structures, 1)
 }
 
 #[test]
 fn other_structures_at_random(rt: HostRuntime) -> Result<(), Fail> {
-    agree_of_seed(&rt, rt.alloc(), 2)
+    agree_of_seed(&rt, rt.alloc(), Inputs::Structures, 2)
 }
 
 #[test]
 fn more_structures_at_random(rt: HostRuntime) -> Result<(), Fail> {
-    agree_of_seed(&rt, rt.alloc(), 3)
+    agree_of_seed(&rt, rt.alloc(), Inputs::Structures, 3)
 }
 
-// Both readers tell the same of the structures of a seed, and each outcome comes often.
-fn agree_of_seed(rt: &impl Abort, alloc: Global, seed: u64) -> Result<(), Fail> {
-    let mut random = generator_of(seed);
+#[test]
+fn bytes_at_random(rt: HostRuntime) -> Result<(), Fail> {
+    agree_of_seed(&rt, rt.alloc(), Inputs::Bytes, 4)
+}
+
+// Both readers tell the same of the inputs of a seed, and each outcome comes often.
+fn agree_of_seed(rt: &impl Abort, alloc: Global, inputs: Inputs, seed: u64) -> Result<(), Fail> {
     let mut bytes = Bytes::new(alloc);
+    let agreed = agree_on_inputs(rt, alloc, &mut bytes, inputs, seed);
+    drop(bytes);
+    agreed
+}
+
+fn agree_on_inputs(
+    rt: &impl Abort,
+    alloc: Global,
+    bytes: &mut Bytes,
+    inputs: Inputs,
+    seed: u64,
+) -> Result<(), Fail> {
+    let mut random = generator_of(seed);
     let mut outcomes = Outcomes::none();
     for _ in 0..INPUTS {
-        put_structures(&mut random, &mut bytes)?;
+        put_input(inputs, &mut random, bytes)?;
         agree_and_count(rt, alloc, bytes.as_slice(), &mut outcomes)?;
     }
     outcomes.are_often(rt);
     Ok(())
 }
 
-#[test]
-fn bytes_at_random(rt: HostRuntime) -> Result<(), Fail> {
-    let mut random = generator_of(4);
-    let mut bytes = Bytes::new(rt.alloc());
-    let mut outcomes = Outcomes::none();
-    for _ in 0..INPUTS {
-        put_bytes(&mut random, &mut bytes)?;
-        agree_and_count(&rt, rt.alloc(), bytes.as_slice(), &mut outcomes)?;
+fn put_input(inputs: Inputs, random: &mut Pcg32, bytes: &mut Bytes) -> Result<(), OutOfMemory> {
+    match inputs {
+        Inputs::Structures => put_structures(random, bytes),
+        Inputs::Bytes => put_bytes(random, bytes),
     }
-    outcomes.are_often(&rt);
-    Ok(())
 }
 
 fn agree_and_count(

@@ -7,11 +7,12 @@ use std::process::Abort;
 use std::test::Fail;
 use vt_outside::{Bytes, OutOfMemory};
 
-// OEM Strings with a count of 255, and what ends a structure's strings and the table.
+// OEM Strings with a count of 255, and a structure of another type, which is read as a raw one.
 const OEM_STRINGS: &[u8] = b"\x0b\x05\x00\x0e\xff";
 
 const RAW: &[u8] = b"\x0c\x05\x00\x0c\xff";
 
+// What ends a structure's strings and the table.
 const END: &[u8] = b"\0\x7f\x04\x00\x7f\0\0";
 
 #[test]
@@ -98,9 +99,13 @@ fn is_size(rt: &impl Abort, size: usize, wanted: usize) {
 // So many structures without an area and strings, and the end.
 fn with_structures(alloc: Global, count: usize) -> Result<Bytes, Fail> {
     let mut bytes = Bytes::new(alloc);
+    put_structures(&mut bytes, count)?;
+    Ok(bytes)
+}
+
+fn put_structures(bytes: &mut Bytes, count: usize) -> Result<(), OutOfMemory> {
     for _ in 0..count {
         bytes.extend(b"\x02\x04\x00\x00\0\0")?;
     }
-    bytes.extend(&END[1..])?;
-    Ok(bytes)
+    bytes.extend(&END[1..])
 }

@@ -76,7 +76,7 @@ fn put_structure(random: &mut Pcg32, bytes: &mut Bytes) -> Result<(), OutOfMemor
     put_strings(random, bytes)
 }
 
-// A byte, or in one of sixteen cases a small one, and in another any one.
+// A byte, or in one of sixteen cases a small one, and in another any one but 255.
 fn seldom_other(random: &mut Pcg32, byte: u8) -> u8 {
     match below(random, 16) {
         0 => below(random, 8),
@@ -94,7 +94,7 @@ fn put_area(random: &mut Pcg32, bytes: &mut Bytes, length: u8) -> Result<(), Out
     Ok(())
 }
 
-// Up to five strings and their end. The first is seldom empty, and a string or the end may seldom lack its NUL.
+// Up to five strings and their end. A string is seldom empty, and a string or the end seldom lacks its NUL.
 fn put_strings(random: &mut Pcg32, bytes: &mut Bytes) -> Result<(), OutOfMemory> {
     let count = below(random, 6);
     for _ in 0..count {

@@ -4,6 +4,7 @@
 use crate::every::every_structure;
 use crate::told::read;
 use std::alloc::Global;
+use std::fmt::Debug;
 use std::process::Abort;
 use std::test::Fail;
 use table_model::{
@@ -98,10 +99,25 @@ fn fields_of_records(rt: HostRuntime) -> Result<(), Fail> {
 
 fn are_read_as_made(rt: &impl Abort, alloc: Global, bytes: &[u8]) -> Result<(), Fail> {
     let structures = read(alloc, bytes)?;
-    for structure in structures.as_slice() {
-        is_as_made(rt, structure);
-    }
+    are_as_made(rt, structures.as_slice());
     Ok(())
+}
+
+// Of twelve structures, all have numbers but OEM Strings, the raw one and the end.
+fn are_as_made(rt: &impl Abort, structures: &[Structure]) {
+    let mut compared = 0_usize;
+    for structure in structures {
+        is_as_made(rt, structure);
+        compared = compared.saturating_add(usize::from(has_numbers(structure)));
+    }
+    assert_eq!(rt; (structures.len(), compared), (12, 9));
+}
+
+fn has_numbers(structure: &Structure) -> bool {
+    !matches!(
+        structure.body,
+        Body::OemStrings(_) | Body::Raw { .. } | Body::End
+    )
 }
 
 fn is_as_made(rt: &impl Abort, structure: &Structure) {
@@ -319,28 +335,24 @@ fn is_boot(rt: &impl Abort, info: &BootInfo) {
 }
 
 fn are_texts(rt: &impl Abort, texts: &[&Text], record: &Record) {
-    are_as_many(rt, texts.len(), record);
+    is(rt, &texts.len(), &record.texts.len(), record);
     for (text, wanted) in texts.iter().zip(record.texts) {
-        is_text(rt, text, wanted, record);
+        is(rt, &text.as_slice(), wanted, record);
     }
 }
 
-fn are_as_many(rt: &impl Abort, texts: usize, record: &Record) {
-    assert_eq!(rt; texts, record.texts.len(), "{}", record.name);
-}
-
-fn is_text(rt: &impl Abort, text: &Text, wanted: &[u8], record: &Record) {
-    assert_eq!(rt; text.as_slice(), wanted, "{}", record.name);
-}
-
 fn are_bytes(rt: &impl Abort, bytes: &[u8], record: &Record) {
-    assert_eq!(rt; bytes, record.bytes, "{}", record.name);
+    is(rt, &bytes, &record.bytes, record);
 }
 
 fn are_words(rt: &impl Abort, words: &[u16], record: &Record) {
-    assert_eq!(rt; words, record.words, "{}", record.name);
+    is(rt, &words, &record.words, record);
 }
 
 fn is_number(rt: &impl Abort, number: u64, wanted: u64, record: &Record) {
-    assert_eq!(rt; number, wanted, "{}", record.name);
+    is(rt, &number, &wanted, record);
+}
+
+fn is<T: Debug + PartialEq>(rt: &impl Abort, is: &T, wanted: &T, record: &Record) {
+    assert_eq!(rt; *is, *wanted, "{}", record.name);
 }

@@ -1,5 +1,5 @@
-//! A second reader, plain and slow, which follows the rules of DSP0134, 6.1, word by word. It stands on nothing of the first one, and
-//! tells what it reads in the same words.
+//! A second reader, plain and slow, which follows the rules of DSP0134, 6.1, word by word. Of the first one it has the type
+//! of the faults alone, and it tells what it reads in the same words.
 
 use crate::words::{push_raw, push_record, push_text, told_fault};
 use smbios_decode::SmbiosFault;

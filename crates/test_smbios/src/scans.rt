@@ -18,7 +18,7 @@ record 7f 7f00 00";
 
 const ADDRESS: u64 = 0x300_0000;
 
-// Anchors by their maximum size and the address that they tell, where the table stands if it stands there, and what is told.
+// Anchors by their maximum size and the address that they tell, what else is put into the memory, and what is told.
 type Scan<'a> = (u32, u64, &'a [Put<'a>], &'a str);
 
 static SCANS: [Scan; 17] = [
@@ -58,8 +58,18 @@ static SCANS: [Scan; 17] = [
 #[test]
 fn tables_in_memory(rt: HostRuntime) -> Result<(), Fail> {
     let mut memory = memory(rt.alloc())?;
+    let scanned = are_scanned_behind(&rt, rt.alloc(), &mut memory);
+    drop(memory);
+    scanned
+}
+
+fn are_scanned_behind(
+    rt: &impl Abort,
+    alloc: Global,
+    memory: &mut GuestMemory,
+) -> Result<(), Fail> {
     for scan in &SCANS {
-        is_scanned_behind(&rt, rt.alloc(), &mut memory, scan)?;
+        is_scanned_behind(rt, alloc, memory, scan)?;
     }
     Ok(())
 }
@@ -166,8 +176,14 @@ static ANCHORS: [(&[Put], &str); 3] = [
 #[test]
 fn the_lowest_anchor_counts(rt: HostRuntime) -> Result<(), Fail> {
     let mut memory = memory(rt.alloc())?;
+    let scanned = are_scanned(&rt, rt.alloc(), &mut memory);
+    drop(memory);
+    scanned
+}
+
+fn are_scanned(rt: &impl Abort, alloc: Global, memory: &mut GuestMemory) -> Result<(), Fail> {
     for (puts, wanted) in &ANCHORS {
-        is_scanned(&rt, rt.alloc(), &mut memory, puts, wanted)?;
+        is_scanned(rt, alloc, memory, puts, wanted)?;
     }
     Ok(())
 }

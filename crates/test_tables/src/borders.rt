@@ -1,9 +1,9 @@
 //! Numbers of structures at their borders, where another field takes over. What is expected was made by hand from DSP0134, 7.17, 7.18
 //! and 7.20.
 
+use crate::built::is;
 use machine_desc::{Dimm, MemRange};
 use std::alloc::Global;
-use std::process::Abort;
 use std::test::Fail;
 use table_model::{ArrayInfo, MappedInfo, array_of, device_of, mapped_of};
 use vt_outside::{OutOfMemory, Text};
@@ -32,12 +32,8 @@ static ARRAYS: [(u32, ArrayInfo); 2] = [(2_097_151, BELOW_TWO_TIB), (2_097_152, 
 #[test]
 fn arrays_around_2_tib(rt: HostRuntime) {
     for (size_mib, wanted) in &ARRAYS {
-        is_array(&rt, &array(rt.alloc(), *size_mib), wanted);
+        is(&rt, &array(rt.alloc(), *size_mib), wanted);
     }
-}
-
-fn is_array(rt: &impl Abort, array: &ArrayInfo, wanted: &ArrayInfo) {
-    assert_eq!(rt; array, wanted);
 }
 
 fn array(alloc: Global, size_mib: u32) -> ArrayInfo {
@@ -68,13 +64,9 @@ static SIZES: [(u32, (u16, u32)); 4] = [
 #[test]
 fn devices_around_32767_mib(rt: HostRuntime) -> Result<(), Fail> {
     for (size_mib, wanted) in &SIZES {
-        are_size_fields(&rt, size_fields(rt.alloc(), *size_mib)?, *wanted);
+        is(&rt, &size_fields(rt.alloc(), *size_mib)?, wanted);
     }
     Ok(())
-}
-
-fn are_size_fields(rt: &impl Abort, fields: (u16, u32), wanted: (u16, u32)) {
-    assert_eq!(rt; fields, wanted);
 }
 
 fn size_fields(alloc: Global, size_mib: u32) -> Result<(u16, u32), OutOfMemory> {
@@ -117,12 +109,8 @@ static RANGES: [(u32, MappedInfo); 2] = [(4_190_207, BELOW_FOUR_TIB), (4_190_208
 #[test]
 fn ranges_around_4_tib(rt: HostRuntime) {
     for (size_mib, wanted) in &RANGES {
-        is_mapped(&rt, &mapped(*size_mib), wanted);
+        is(&rt, &mapped(*size_mib), wanted);
     }
-}
-
-fn is_mapped(rt: &impl Abort, mapped: &MappedInfo, wanted: &MappedInfo) {
-    assert_eq!(rt; mapped, wanted);
 }
 
 // A range of so many MiB from 4 GiB on.

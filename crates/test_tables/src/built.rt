@@ -11,6 +11,7 @@ use machine_desc::Machine;
 use smbios_build::build_smbios;
 use smbios_build::laws::accepted_structures_are_buildable;
 use std::alloc::Global;
+use std::fmt::Debug;
 use std::process::Abort;
 use std::test::Fail;
 use table_model::{Inventory, Structure, inventory_of, structures_of};
@@ -31,7 +32,7 @@ pub fn accepted_structures(alloc: Global, machine: &Machine) -> Result<List<Stru
     ensures { IfOk result (λ structures. AreBuildable structures) }
 {
     if machine.check().is_err() {
-        return Err(Fail::from("a lawful machine"));
+        return Err(Fail::from("a machine that breaks a rule"));
     }
     accepted_structures_are_buildable();
     Ok(structures_of(alloc, machine)?)
@@ -47,7 +48,7 @@ pub fn inventory_of_sketch(alloc: Global, sketch: &Sketch) -> Result<Inventory, 
 
 fn inventory_of_accepted(alloc: Global, machine: &Machine) -> Result<Inventory, Fail> {
     if machine.check().is_err() {
-        return Err(Fail::from("a lawful machine"));
+        return Err(Fail::from("a machine that breaks a rule"));
     }
     Ok(inventory_of(alloc, machine)?)
 }
@@ -57,9 +58,14 @@ pub fn are_built(rt: &impl Abort, alloc: Global, structures: &[Structure], wante
     requires { AreBuildable structures.now }
 {
     match build_smbios(alloc, structures) {
-        Ok(bytes) => assert_eq!(rt; bytes.as_slice(), wanted),
+        Ok(bytes) => is(rt, &bytes.as_slice(), &wanted),
         Err(_) => panic!(rt; "structures that aren't built"),
     }
+}
+
+/// Asserts that something is as it is wanted. It stands here once, since each assertion of two values is dear to prove.
+pub fn is<T: Debug + PartialEq>(rt: &impl Abort, is: &T, wanted: &T) {
+    assert_eq!(rt; *is, *wanted);
 }
 
 /// Returns a text with the bytes of `text`.

@@ -3,6 +3,7 @@
 
 ghost use Rattle.std.specs.Prelude.{◌≡◌, length, IfOk, IsSome};
 
+use crate::built::is;
 use acpi_fixed::{TABLES_FILE, append_hpet, append_rsdp, append_xsdt};
 use blob_holes::{Blob, Parts, PointerHole, SumHole};
 use fixtures::full_machine;
@@ -22,9 +23,6 @@ const FILE: &[u8] = b"\x07\x07\x07\x07\x07\0\0\0\0\0\0\0\0\0\0\0\
     \0\0\0\0\0\0\0\0\0\0\0\0\
     RSD PTR \0ACME  \x02\0\0\0\0\x24\0\0\0\
     \x50\0\0\0\0\0\0\0\0\0\0\0";
-
-// Where the two entries of the XSDT stand, and the RSDP's address of the XSDT.
-static POINTERS: [u32; 3] = [116, 124, 168];
 
 // The checksums of the HPET table, the XSDT and the RSDP, and the RSDP's extended one.
 static SUMS: [SumHole; 4] = [
@@ -52,7 +50,7 @@ static SUMS: [SumHole; 4] = [
 
 #[test]
 fn acpi_tables(rt: HostRuntime) -> Result<(), Fail> {
-    assert_eq!(rt; TABLES_FILE, "etc/acpi/tables");
+    is(&rt, &TABLES_FILE, &"etc/acpi/tables");
     let tables = Name::of("etc/acpi/tables")?;
     let parts = file(rt.alloc())?;
     are_parts(&rt, &parts, &tables);
@@ -61,29 +59,29 @@ fn acpi_tables(rt: HostRuntime) -> Result<(), Fail> {
 }
 
 fn are_parts(rt: &impl Abort, parts: &Parts, tables: &Name) {
-    is_file(rt, parts.bytes.as_slice());
+    is(rt, &parts.bytes.as_slice(), &FILE);
     are_pointers_to(rt, parts.pointers.as_slice(), tables);
-    are_sums(rt, parts.sums.as_slice());
+    is(rt, &parts.sums.as_slice(), &SUMS.as_slice());
 }
 
-fn is_file(rt: &impl Abort, bytes: &[u8]) {
-    assert_eq!(rt; bytes, FILE);
-}
-
+// They are the two entries of the XSDT, and the RSDP's address of the XSDT.
 fn are_pointers_to(rt: &impl Abort, pointers: &[PointerHole], tables: &Name) {
-    assert_eq!(rt; pointers.len(), POINTERS.len());
-    for (pointer, place) in pointers.iter().zip(&POINTERS) {
-        is_pointer_to(rt, pointer, *place, tables);
+    match pointers {
+        [first, second, address] => {
+            is_pointer_to(rt, first, 116, tables);
+            is_pointer_to(rt, second, 124, tables);
+            is_pointer_to(rt, address, 168, tables);
+        }
+        _ => panic!(rt; "another number of pointers than three"),
     }
 }
 
 fn is_pointer_to(rt: &impl Abort, pointer: &PointerHole, place: u32, tables: &Name) {
-    assert_eq!(rt; (pointer.at, pointer.size), (place, 8));
-    assert!(rt; pointer.target == *tables);
-}
-
-fn are_sums(rt: &impl Abort, sums: &[SumHole]) {
-    assert_eq!(rt; sums, SUMS.as_slice());
+    is(
+        rt,
+        &(pointer.at, pointer.size, pointer.target),
+        &(place, 8, *tables),
+    );
 }
 
 // A file that begins with five bytes, and has an HPET table, an XSDT with another entry, and an RSDP.
@@ -109,7 +107,7 @@ fn append_tables(blob: &mut Blob, machine: &Machine) -> Result<(), Fail>
     requires hpet { IsSome machine.now.hpet }
 {
     if machine.check().is_err() {
-        return Err(Fail::from("a lawful machine"));
+        return Err(Fail::from("a machine that breaks a rule"));
     }
     let hpet = append_hpet(blob, machine)?;
     let xsdt = append_xsdt(blob, machine, &[hpet, 0x0102_0340])?;

@@ -4,7 +4,7 @@
 ghost use Rattle.std.specs.Prelude.{◌<◌, ◌≤◌, ◌+◌, length, IfOk, OnOk};
 ghost use Rattle.table_model.specs.Strings.{HasNoNul};
 
-use crate::built::{are_built, inventory_of_sketch, structures_of_sketch};
+use crate::built::{are_built, inventory_of_sketch, is, structures_of_sketch};
 use fixtures::{Sketch, SystemTexts};
 use smbios_build::StringSet;
 use std::alloc::Global;
@@ -68,7 +68,7 @@ fn are_the_texts(rt: &impl Abort, info: &SystemInfo) {
 }
 
 fn is_text(rt: &impl Abort, text: &Text, byte: u8) {
-    assert_eq!(rt; text.as_slice(), [byte; 64].as_slice());
+    is(rt, &text.as_slice(), &[byte; 64].as_slice());
 }
 
 #[test]
@@ -95,7 +95,7 @@ fn wanted(alloc: Global) -> Result<Bytes, OutOfMemory> {
 #[test]
 fn the_most_strings(rt: HostRuntime) -> Result<(), Fail> {
     let last = last_number(rt.alloc())?;
-    assert_eq!(rt; last, 255);
+    is(&rt, &last, &255);
     Ok(())
 }
 

@@ -121,12 +121,12 @@ fn describe(alloc: Global, machine: &mut Machine) -> Result<(), OutOfMemory> {
 }
 
 fn put_firmware(alloc: Global, machine: &mut Machine) -> Result<(), OutOfMemory> {
-    machine.firmware = Some(firmware(alloc)?);
+    drop(machine.firmware.replace(firmware(alloc)?));
     Ok(())
 }
 
 fn put_chassis(alloc: Global, machine: &mut Machine) -> Result<(), OutOfMemory> {
-    machine.chassis = Some(chassis(alloc)?);
+    drop(machine.chassis.replace(chassis(alloc)?));
     Ok(())
 }
 
@@ -139,7 +139,7 @@ fn push_parts(alloc: Global, machine: &mut Machine) -> Result<(), OutOfMemory> {
 }
 
 fn firmware(alloc: Global) -> Result<Firmware, OutOfMemory> {
-    let (vendor, version, date) = three_texts(alloc, [b"FW", b"1.2", b"01/02/2024"])?;
+    let (vendor, version, date) = three_texts(alloc, b"FW", b"1.2", b"01/02/2024")?;
     Ok(Firmware {
         vendor,
         version,
@@ -149,14 +149,19 @@ fn firmware(alloc: Global) -> Result<Firmware, OutOfMemory> {
     })
 }
 
-fn three_texts(alloc: Global, texts: [&[u8]; 3]) -> Result<(Text, Text, Text), OutOfMemory> {
-    let first = text_of(alloc, texts[0])?;
-    let second = text_of(alloc, texts[1])?;
-    Ok((first, second, text_of(alloc, texts[2])?))
+fn three_texts(
+    alloc: Global,
+    first: &[u8],
+    second: &[u8],
+    third: &[u8],
+) -> Result<(Text, Text, Text), OutOfMemory> {
+    let first = text_of(alloc, first)?;
+    let second = text_of(alloc, second)?;
+    Ok((first, second, text_of(alloc, third)?))
 }
 
 fn chassis(alloc: Global) -> Result<Chassis, OutOfMemory> {
-    let (manufacturer, serial, sku) = three_texts(alloc, [b"ACME", b"C1", b"K"])?;
+    let (manufacturer, serial, sku) = three_texts(alloc, b"ACME", b"C1", b"K")?;
     Ok(Chassis {
         manufacturer,
         version: Text::new(alloc),
@@ -173,7 +178,7 @@ fn push_sockets(alloc: Global, sockets: &mut List<Socket>) -> Result<(), OutOfMe
 }
 
 fn first_socket(alloc: Global) -> Result<Socket, OutOfMemory> {
-    let (designation, manufacturer, part) = three_texts(alloc, [b"CPU 0", b"ACME", b"P"])?;
+    let (designation, manufacturer, part) = three_texts(alloc, b"CPU 0", b"ACME", b"P")?;
     Ok(Socket {
         designation,
         manufacturer,
@@ -250,8 +255,8 @@ fn first_dimm(alloc: Global) -> Result<Dimm, OutOfMemory> {
 }
 
 fn second_dimm(alloc: Global) -> Result<Dimm, OutOfMemory> {
-    let (locator, bank, manufacturer) = three_texts(alloc, [b"B1", b"B", b"M"])?;
-    let (serial, asset, part) = three_texts(alloc, [b"S", b"T", b"P"])?;
+    let (locator, bank, manufacturer) = three_texts(alloc, b"B1", b"B", b"M")?;
+    let (serial, asset, part) = three_texts(alloc, b"S", b"T", b"P")?;
     Ok(Dimm {
         locator,
         bank,

@@ -1,7 +1,7 @@
 //! What the tables of a machine say, as records. What is expected was made by hand from DSP0134 7.2, ACPI 6.5 5.2.6 and
 //! IA-PC HPET 1.0a 3.2.4.
 
-use crate::built::inventory_of_sketch;
+use crate::built::{inventory_of_sketch, is};
 use fixtures::{FULL_MACHINE, HPET, Sketch, acpi};
 use machine_desc::Acpi;
 use std::process::Abort;
@@ -62,7 +62,7 @@ fn the_inventory_of_a_machine(rt: HostRuntime) -> Result<(), Fail> {
 }
 
 fn is_the_inventory(rt: &impl Abort, inventory: &Inventory) {
-    assert_eq!(rt; inventory.top, 0x400_0000);
+    is(rt, &inventory.top, &0x400_0000);
     has_the_smbios_table(rt, inventory);
     has_the_acpi_tables(rt, inventory);
 }
@@ -82,14 +82,18 @@ fn has_the_acpi_tables(rt: &impl Abort, inventory: &Inventory) {
 }
 
 fn is_the_smbios_table(rt: &impl Abort, table: &SmbiosTable) {
-    assert_eq!(rt; (table.major, table.minor, table.docrev), (3, 0, 0));
-    assert_eq!(rt; table.structures.len(), 2);
-    is_the_first(rt, table.structures.get(0));
-    is_the_end(rt, table.structures.get(1));
+    is(rt, &(table.major, table.minor, table.docrev), &(3, 0, 0));
+    match table.structures.as_slice() {
+        [first, end] => {
+            is_the_first(rt, first);
+            is_the_end(rt, end);
+        }
+        _ => panic!(rt; "another number of structures than two"),
+    }
 }
 
 fn is_the_first(rt: &impl Abort, structure: &Structure) {
-    assert_eq!(rt; structure.handle, 0x0100);
+    is(rt, &structure.handle, &0x0100);
     match &structure.body {
         Body::System(info) => is_the_system(rt, info),
         _ => panic!(rt; "another structure before the system"),
@@ -97,7 +101,7 @@ fn is_the_first(rt: &impl Abort, structure: &Structure) {
 }
 
 fn is_the_end(rt: &impl Abort, structure: &Structure) {
-    assert_eq!(rt; structure.handle, 0x7F00);
+    is(rt, &structure.handle, &0x7F00);
     assert!(rt; matches!(structure.body, Body::End));
 }
 
@@ -106,32 +110,24 @@ fn is_the_system(rt: &impl Abort, info: &SystemInfo) {
     is_text(rt, &info.product, b"VM");
     is_text(rt, &info.version, b"1.0");
     is_text(rt, &info.serial, b"SN 7");
-    assert_eq!(rt; info.uuid, UUID);
-    assert_eq!(rt; info.wake_up, 6);
+    is(rt, &info.uuid, &UUID);
+    is(rt, &info.wake_up, &6);
     is_text(rt, &info.sku, b"");
     is_text(rt, &info.family, b"Test");
 }
 
 fn is_text(rt: &impl Abort, text: &Text, wanted: &[u8]) {
-    assert_eq!(rt; text.as_slice(), wanted);
+    is(rt, &text.as_slice(), &wanted);
 }
 
 fn are_the_acpi_tables(rt: &impl Abort, tables: &AcpiTables) {
-    assert_eq!(rt; tables.oem_id, *b"ACME  ");
-    is_head(rt, &tables.xsdt, &HEAD);
+    is(rt, &tables.oem_id, b"ACME  ");
+    is(rt, &tables.xsdt, &HEAD);
     match &tables.hpet {
-        Some(table) => is_the_hpet_table(rt, table),
+        Some(table) => is(rt, table, &HPET_TABLE),
         None => panic!(rt; "no HPET table"),
     }
-    assert_eq!(rt; tables.others.len(), 0);
-}
-
-fn is_head(rt: &impl Abort, head: &Head, wanted: &Head) {
-    assert_eq!(rt; head, wanted);
-}
-
-fn is_the_hpet_table(rt: &impl Abort, table: &HpetTable) {
-    assert_eq!(rt; table, &HPET_TABLE);
+    is(rt, &tables.others.len(), &0);
 }
 
 #[test]
@@ -142,17 +138,17 @@ fn the_records_of_acpi_tables(rt: HostRuntime) -> Result<(), Fail> {
 
 fn are_the_records_of(rt: &impl Abort, acpi: &Acpi) -> Result<(), Fail> {
     if acpi.oem_id.len() > 6 || acpi.oem_table_id.len() > 8 {
-        return Err(Fail::from("identifiers that fit"));
+        return Err(Fail::from("identifiers that don't fit"));
     }
-    is_head(rt, &head_of(acpi, 1), &HEAD);
-    is_head(rt, &head_of(acpi, 3), &OTHER_HEAD);
-    is_the_hpet_table(rt, &hpet_of(acpi, HPET));
+    is(rt, &head_of(acpi, 1), &HEAD);
+    is(rt, &head_of(acpi, 3), &OTHER_HEAD);
+    is(rt, &hpet_of(acpi, HPET), &HPET_TABLE);
     Ok(())
 }
 
 #[test]
 fn the_bytes_of_uuids(rt: HostRuntime) {
     let uuid = 0x0011_2233_4455_6677_8899_AABB_CCDD_EEFF;
-    assert_eq!(rt; uuid_field(Some(uuid)), UUID);
-    assert_eq!(rt; uuid_field(None), [0; 16]);
+    is(&rt, &uuid_field(Some(uuid)), &UUID);
+    is(&rt, &uuid_field(None), &[0; 16]);
 }

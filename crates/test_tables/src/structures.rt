@@ -5,8 +5,8 @@ ghost use Rattle.table_model.specs.Strings.{HasNoNul};
 ghost use Rattle.smbios_build.specs.Buildable.{IsRaw, AreBuildable};
 ghost use Rattle.test_tables.specs.Unended.{AreUnended};
 
-use crate::built::{are_built, structures_of_sketch, text_of};
-use fixtures::{MINIMAL_MACHINE, Sketch};
+use crate::built::{are_built, is, structures_of_sketch, text_of};
+use fixtures::{MINIMAL_MACHINE, Sketch, copy_of};
 use smbios_build::{SmbiosBuildFault, StringSet, build_anchor, build_smbios};
 use std::alloc::Global;
 use std::process::Abort;
@@ -22,7 +22,7 @@ const MINIMAL_STRUCTURES: &[u8] = b"\x01\x1b\x00\x01\x01\x02\x00\x00\
 // A structure of type 200 with two bytes and one string, and the end.
 const RAW_STRUCTURES: &[u8] = b"\xc8\x06\x01\x02\x09\x08ab\0\0\x7f\x04\x00\x7f\0\0";
 
-// The anchor of 64 bytes, with zeros for its checksum and the address of the structures.
+// The anchor of 64 bytes of structures, with zeros for its checksum and their address.
 const ANCHOR: [u8; 24] = *b"_SM3_\0\x18\x03\0\0\x01\0\x40\0\0\0\0\0\0\0\0\0\0\0";
 
 // That of the structures of the minimal machine.
@@ -59,7 +59,7 @@ fn push_small(alloc: Global, structures: &mut List<Structure>) -> Result<(), Out
     requires { AreUnended structures.old }
     ensures { OnOk result (AreUnended structures.new) }
 {
-    let area = bytes_of(alloc, &[9, 8])?;
+    let area = copy_of(alloc, &[9, 8])?;
     let strings = one_text(alloc, &[b'a', b'b'])?;
     push_raw(structures, area, strings)
 }
@@ -96,7 +96,7 @@ fn push_wide(alloc: Global, structures: &mut List<Structure>) -> Result<(), OutO
     requires { AreUnended structures.old }
     ensures { OnOk result (AreUnended structures.new) }
 {
-    let area = bytes_of(alloc, &[7; 60])?;
+    let area = copy_of(alloc, &[7; 60])?;
     push_raw(structures, area, List::new(alloc))
 }
 
@@ -134,16 +134,25 @@ fn push_end(structures: &mut List<Structure>) -> Result<(), OutOfMemory>
 #[test]
 fn numbers_of_strings(rt: HostRuntime) -> Result<(), Fail> {
     let numbers = numbers(rt.alloc())?;
-    assert_eq!(rt; numbers, [0, 1, 0, 2]);
+    is(&rt, &numbers, &[0, 1, 0, 2]);
     Ok(())
 }
 
 fn numbers(alloc: Global) -> Result<[u8; 4], OutOfMemory> {
     let mut strings = StringSet::new(alloc);
-    let none = add(alloc, &mut strings, &[])?;
-    let first = add(alloc, &mut strings, &[b'A'])?;
-    let none_again = add(alloc, &mut strings, &[])?;
-    let second = add(alloc, &mut strings, &[b'B', b'C'])?;
+    let numbers = add_each(alloc, &mut strings);
+    drop(strings);
+    numbers
+}
+
+// No text, a text, no text again, and another text.
+fn add_each(alloc: Global, strings: &mut StringSet) -> Result<[u8; 4], OutOfMemory>
+    requires { length strings.old ≡ 0 }
+{
+    let none = add(alloc, strings, &[])?;
+    let first = add(alloc, strings, &[b'A'])?;
+    let none_again = add(alloc, strings, &[])?;
+    let second = add(alloc, strings, &[b'B', b'C'])?;
     Ok([none, first, none_again, second])
 }
 
@@ -157,8 +166,8 @@ fn add(alloc: Global, strings: &mut StringSet, text: &[u8]) -> Result<u8, OutOfM
 
 #[test]
 fn anchors(rt: HostRuntime) {
-    assert_eq!(rt; build_anchor(0x40), ANCHOR);
-    assert_eq!(rt; build_anchor(0x2A), MINIMAL_ANCHOR);
+    is(&rt, &build_anchor(0x40), &ANCHOR);
+    is(&rt, &build_anchor(0x2A), &MINIMAL_ANCHOR);
 }
 
 // The byte that makes the anchor of 64 bytes at 0x03000000 sum to zero.
@@ -169,15 +178,7 @@ fn the_checksum_of_an_anchor(rt: HostRuntime) {
     let sum = anchor
         .iter()
         .fold(0_u8, |sum, byte| sum.wrapping_add(*byte));
-    assert_eq!(rt; sum.wrapping_neg(), 0x10);
-}
-
-fn bytes_of(alloc: Global, bytes: &[u8]) -> Result<Bytes, OutOfMemory>
-    ensures { IfOk result (λ copy. copy ≡ bytes.now) }
-{
-    let mut copy = Bytes::new(alloc);
-    copy.extend(bytes)?;
-    Ok(copy)
+    is(&rt, &sum.wrapping_neg(), &0x10);
 }
 
 fn one_text(alloc: Global, text: &[u8]) -> Result<List<Text>, OutOfMemory>

@@ -1,4 +1,4 @@
-//! Tests of the top call's words: those that are no command, some that are one, and the numbers of the statuses that it answers with.
+//! Tests of the top call's words that are no command, and of the numbers of the statuses that it answers with.
 #![tactic(auto)]
 
 #[cfg(test)]

@@ -1,21 +1,26 @@
 //! The numbers of statuses.
 
+use fixtures::is_same;
+use std::test::Fail;
 use vmtables::Status;
 
+const NUMBERS: &[(Status, u8)] = &[
+    (Status::Ok, 0),
+    (Status::ReadFault, 1),
+    (Status::Usage, 2),
+    (Status::DescriptionRefused, 3),
+    (Status::NoRoom, 4),
+    (Status::ImageRefused, 5),
+    (Status::WriteFault, 8),
+    (Status::OutOfMemory, 9),
+    (Status::InputTooLong, 10),
+    (Status::ImageTooLarge, 11),
+];
+
 #[test]
-fn numbers_of_statuses(rt: HostRuntime) {
-    for (status, number) in [
-        (Status::Ok, 0),
-        (Status::ReadFault, 1),
-        (Status::Usage, 2),
-        (Status::DescriptionRefused, 3),
-        (Status::NoRoom, 4),
-        (Status::ImageRefused, 5),
-        (Status::WriteFault, 8),
-        (Status::OutOfMemory, 9),
-        (Status::InputTooLong, 10),
-        (Status::ImageTooLarge, 11),
-    ] {
-        assert_eq!(rt; status.number(), number, "at {status:?}");
+fn numbers_of_statuses() -> Result<(), Fail> {
+    for (status, number) in NUMBERS {
+        is_same("a status", "number", &status.number(), number)?;
     }
+    Ok(())
 }

@@ -1,8 +1,6 @@
-//! Words that are no command, and words that are one.
+//! Words that are no command.
 
-use fixtures::{
-    BOOTED, MINIMAL, ROOM, Run, SEEDED_ROOM, USAGE, boot, ends, ends_from, is_same, source,
-};
+use fixtures::{MINIMAL, ROOM, Run, USAGE, boot, ends_from, is_same, source};
 use std::alloc::Global;
 use std::test::Fail;
 use vt_outside::{ListSource, Source};
@@ -48,33 +46,30 @@ fn words_that_are_no_command(rt: HostRuntime) -> Result<(), Fail> {
     Ok(())
 }
 
-// The words are no command, and nothing is read.
 fn are_no_command(alloc: Global, words: &[&str]) -> Result<(), Fail> {
     let mut source = source(alloc, MINIMAL.as_bytes(), ROOM, &[])?;
+    let refused = are_refused(alloc, words, &mut source);
+    drop(source);
+    refused
+}
+
+// The words are no command, and nothing is read.
+fn are_refused(alloc: Global, words: &[&str], source: &mut ListSource) -> Result<(), Fail> {
     let case = case_of(words);
     let run = Run {
         words,
         ..boot(case, b"")
     };
-    ends_from(alloc, &run, &mut source, &USAGE)?;
-    is_unread(case, &mut source)
+    ends_from(alloc, &run, source, &USAGE)?;
+    is_unread(case, source)
 }
 
+// The last word, which tells most of them apart.
 fn case_of<'a>(words: &[&'a str]) -> &'a str {
     match words {
         [] => "no word",
-        [word, ..] => word,
+        [.., word] => word,
     }
-}
-
-#[test]
-fn words_that_are_a_command(rt: HostRuntime) -> Result<(), Fail> {
-    let run = Run {
-        words: &["boot", "--seed", "7", "--policy", "scatter"],
-        room: SEEDED_ROOM,
-        ..boot("a seed and a policy", MINIMAL.as_bytes())
-    };
-    ends(rt.alloc(), &run, &BOOTED)
 }
 
 // The source still has the whole description.

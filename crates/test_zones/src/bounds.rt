@@ -6,16 +6,26 @@ ghost use Rattle.vt_outside.specs.Placement.{IsFree};
 ghost use Rattle.zone_alloc.specs.declared.zone.Zone.TheVariants.{High};
 ghost use Rattle.zone_alloc.specs.Places.{range_in};
 
-use std::process::Abort;
+use std::alloc::Global;
 use std::test::Fail;
+use vt_outside::OutOfMemory;
 use zone_alloc::{NoRoom, Policy, ShelfAlloc, Zone, ZoneAlloc, zones_of};
 
 #[test]
 fn a_shelf_through_the_trait(rt: HostRuntime) -> Result<(), Fail> {
     let mut shelf = ShelfAlloc::new();
-    shelf.begin(rt.alloc(), zones_of(0x400_0000), Policy::Low)?;
-    assert_eq!(rt; place_on(&mut shelf), Ok(0x300_0000));
+    let place = first_place_on(rt.alloc(), &mut shelf);
+    drop(shelf);
+    assert_eq!(rt; place?, Ok(0x300_0000));
     Ok(())
+}
+
+fn first_place_on(
+    alloc: Global,
+    shelf: &mut ShelfAlloc,
+) -> Result<Result<u64, NoRoom>, OutOfMemory> {
+    shelf.begin(alloc, zones_of(0x400_0000), Policy::Low)?;
+    Ok(place_on(shelf))
 }
 
 // A shelf isn't refused a place where one is free.

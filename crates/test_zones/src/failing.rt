@@ -1,14 +1,15 @@
 //! An allocator that refuses the calls that it is told to.
 
-use crate::rows::{Row, are_placed};
+use crate::rows::{Row, are_placed_from_begin};
 use std::alloc::Global;
+use std::process::Abort;
 use std::test::Fail;
 use vt_outside::{List, OutOfMemory};
 use zone_alloc::Zone::High;
-use zone_alloc::{FailingAlloc, Policy, ZoneAlloc, zones_of};
+use zone_alloc::{FailingAlloc, Policy, zones_of};
 
 // The calls 0 to 3.
-const FIRST: [Row; 4] = [
+static FIRST: [Row; 4] = [
     Row(High, 1, 1, None),
     Row(High, 1, 1, Some(0x300_0000)),
     Row(High, 1, 1, None),
@@ -16,7 +17,7 @@ const FIRST: [Row; 4] = [
 ];
 
 // The calls 4 to 6, after another begin. The last one would be refused by a shelf too.
-const AGAIN: [Row; 3] = [
+static AGAIN: [Row; 3] = [
     Row(High, 1, 1, None),
     Row(High, 1, 1, Some(0x300_0000)),
     Row(High, 0x100_0000, 1, None),
@@ -24,9 +25,9 @@ const AGAIN: [Row; 3] = [
 
 // Call 7, by the greatest address, and the calls 8 to 11, by the goals of seed 0 (words 11cdd903, fc843fd7): neither a listed call nor
 // another one that is refused takes a word.
-const TOP: [Row; 1] = [Row(High, 1, 1, Some(0x3FF_FFFF))];
+static TOP: [Row; 1] = [Row(High, 1, 1, Some(0x3FF_FFFF))];
 
-const SCATTERED: [Row; 4] = [
+static SCATTERED: [Row; 4] = [
     Row(High, 1, 1, Some(0x3CD_D903)),
     Row(High, 1, 1, None),
     Row(High, 0x100_0000, 1, None),
@@ -35,20 +36,23 @@ const SCATTERED: [Row; 4] = [
 
 #[test]
 fn listed_calls(rt: HostRuntime) -> Result<(), Fail> {
-    let mut failing = FailingAlloc::new(listed(rt.alloc())?);
-    failing.begin(rt.alloc(), zones_of(0x400_0000), Policy::Low)?;
-    are_placed(&rt, &mut failing, &FIRST);
-    failing.begin(rt.alloc(), zones_of(0x400_0000), Policy::Low)?;
-    are_placed(&rt, &mut failing, &AGAIN);
-    failing.begin(rt.alloc(), zones_of(0x400_0000), Policy::Top)?;
-    are_placed(&rt, &mut failing, &TOP);
-    failing.begin(rt.alloc(), zones_of(0x400_0000), Policy::Scatter(0))?;
-    are_placed(&rt, &mut failing, &SCATTERED);
-    Ok(())
+    let mut failing = failing(rt.alloc())?;
+    let done = are_listed(&rt, rt.alloc(), &mut failing);
+    drop(failing);
+    done
 }
 
-fn listed(alloc: Global) -> Result<List<u32>, OutOfMemory> {
+fn failing(alloc: Global) -> Result<FailingAlloc, OutOfMemory> {
     let mut numbers = List::new(alloc);
     numbers.extend(&[0, 2, 4, 9])?;
-    Ok(numbers)
+    Ok(FailingAlloc::new(numbers))
+}
+
+fn are_listed(rt: &impl Abort, alloc: Global, failing: &mut FailingAlloc) -> Result<(), Fail> {
+    let zones = zones_of(0x400_0000);
+    are_placed_from_begin(rt, alloc, failing, zones, Policy::Low, &FIRST)?;
+    are_placed_from_begin(rt, alloc, failing, zones, Policy::Low, &AGAIN)?;
+    are_placed_from_begin(rt, alloc, failing, zones, Policy::Top, &TOP)?;
+    are_placed_from_begin(rt, alloc, failing, zones, Policy::Scatter(0), &SCATTERED)?;
+    Ok(())
 }

@@ -1,13 +1,13 @@
 //! The places that shelves give: the least ones that are free, the greatest, and those that are the same by each policy.
 
-use crate::rows::{Row, are_places};
+use crate::rows::{Row, WIDE, are_places};
 use std::process::Abort;
 use std::test::Fail;
 use zone_alloc::Zone::{Fseg, High};
 use zone_alloc::{Policy, Zones, zones_of};
 
 // High memory is 0x300_0000 to 0x3FF_FFFF, and the F segment 0xF_0000 to 0xF_FFFF.
-const LOW: [Row; 10] = [
+static LOW: [Row; 10] = [
     Row(High, 3, 1, Some(0x300_0000)),
     Row(High, 1, 1, Some(0x300_0003)),
     Row(High, 5, 16, Some(0x300_0010)),
@@ -22,7 +22,7 @@ const LOW: [Row; 10] = [
     Row(Fseg, 36, 16, Some(0xF_0030)),
 ];
 
-const TOP: [Row; 12] = [
+static TOP: [Row; 12] = [
     Row(High, 3, 1, Some(0x3FF_FFFD)),
     Row(High, 1, 1, Some(0x3FF_FFFC)),
     Row(High, 5, 16, Some(0x3FF_FFF0)),
@@ -39,7 +39,7 @@ const TOP: [Row; 12] = [
 ];
 
 // Files as large as their zones, and one byte larger.
-const FULL: [Row; 6] = [
+static FULL: [Row; 6] = [
     Row(Fseg, 0x1_0001, 1, None),
     Row(Fseg, 0x1_0000, 1, Some(0xF_0000)),
     Row(Fseg, 1, 1, None),
@@ -49,7 +49,7 @@ const FULL: [Row; 6] = [
 ];
 
 // One byte is left between two ranges.
-const LOW_GAP: [Row; 5] = [
+static LOW_GAP: [Row; 5] = [
     Row(Fseg, 0x7FFF, 1, Some(0xF_0000)),
     Row(Fseg, 1, 0x8000, Some(0xF_8000)),
     Row(Fseg, 2, 1, Some(0xF_8001)),
@@ -57,7 +57,7 @@ const LOW_GAP: [Row; 5] = [
     Row(Fseg, 1, 1, Some(0xF_8003)),
 ];
 
-const TOP_GAP: [Row; 5] = [
+static TOP_GAP: [Row; 5] = [
     Row(Fseg, 0x7FFE, 1, Some(0xF_8002)),
     Row(Fseg, 1, 0x8000, Some(0xF_8000)),
     Row(Fseg, 2, 1, Some(0xF_7FFE)),
@@ -73,7 +73,7 @@ const ENDS: Zones = Zones {
     fseg_end: 6,
 };
 
-const AT_ENDS: [Row; 7] = [
+static AT_ENDS: [Row; 7] = [
     Row(High, 1, 0x100, Some(0xFFFF_FFFF_FFFF_FF00)),
     // The next multiple is 2^64.
     Row(High, 1, 0x100, None),
@@ -84,22 +84,14 @@ const AT_ENDS: [Row; 7] = [
     Row(Fseg, 1, 1, Some(5)),
 ];
 
-// Seven multiples of 2^31, at the last of which one byte has room.
-const WIDE: Zones = Zones {
-    high_start: 1,
-    high_end: 0x3_8000_0001,
-    fseg_start: 5,
-    fseg_end: 6,
-};
-
-const LOW_WIDE: [Row; 4] = [
+static LOW_WIDE: [Row; 4] = [
     Row(High, 2, 0x8000_0000, Some(0x8000_0000)),
     Row(High, 1, 0x8000_0000, Some(0x1_0000_0000)),
     Row(High, 0x8000_0001, 0x8000_0000, Some(0x1_8000_0000)),
     Row(High, 0xFFFF_FFFF, 0x8000_0000, Some(0x2_8000_0000)),
 ];
 
-const TOP_WIDE: [Row; 4] = [
+static TOP_WIDE: [Row; 4] = [
     Row(High, 2, 0x8000_0000, Some(0x3_0000_0000)),
     Row(High, 1, 0x8000_0000, Some(0x3_8000_0000)),
     Row(High, 0x8000_0001, 0x8000_0000, Some(0x2_0000_0000)),
@@ -127,16 +119,16 @@ fn greatest_places(rt: HostRuntime) -> Result<(), Fail> {
 // Where each request leaves one choice, all policies give the same places.
 #[test]
 fn full_zones(rt: HostRuntime) -> Result<(), Fail> {
-    for by in [Policy::Low, Policy::Top, Policy::Scatter(7)] {
-        are_places(&rt, rt.alloc(), zones_of(0x400_0000), by, &FULL)?;
+    for by in &[Policy::Low, Policy::Top, Policy::Scatter(7)] {
+        are_places(&rt, rt.alloc(), zones_of(0x400_0000), *by, &FULL)?;
     }
     Ok(())
 }
 
 #[test]
 fn ends_of_the_addresses(rt: HostRuntime) -> Result<(), Fail> {
-    for by in [Policy::Low, Policy::Top, Policy::Scatter(7)] {
-        are_places(&rt, rt.alloc(), ENDS, by, &AT_ENDS)?;
+    for by in &[Policy::Low, Policy::Top, Policy::Scatter(7)] {
+        are_places(&rt, rt.alloc(), ENDS, *by, &AT_ENDS)?;
     }
     Ok(())
 }

@@ -5,19 +5,34 @@ ghost use Rattle.std.specs.Int.{is_power_of_two};
 ghost use Rattle.vt_outside.specs.Stream.{next_count};
 ghost use Rattle.zone_alloc.specs.declared.zone.Zone.TheVariants.{Fseg};
 
+use std::alloc::Global;
 use std::process::Abort;
 use std::test::Fail;
+use vt_outside::OutOfMemory;
 use zone_alloc::Zone::{Fseg, High};
 use zone_alloc::{NoRoom, Policy, Request, ShelfAlloc, ZoneAlloc, zones_of};
 
 #[test]
 fn refusals(rt: HostRuntime) -> Result<(), Fail> {
     let mut shelf = ShelfAlloc::new();
-    shelf.begin(rt.alloc(), zones_of(0x400_0000), Policy::Low)?;
-    two_refusals(&rt, &mut shelf);
-    a_place(&rt, &mut shelf);
-    shelf.begin(rt.alloc(), zones_of(0x400_0000), Policy::Low)?;
-    a_place(&rt, &mut shelf);
+    let done = refuses_and_begins_again(&rt, rt.alloc(), &mut shelf);
+    drop(shelf);
+    done?;
+    Ok(())
+}
+
+fn refuses_and_begins_again(
+    rt: &impl Abort,
+    alloc: Global,
+    shelf: &mut ShelfAlloc,
+) -> Result<(), OutOfMemory>
+    requires { shelf.old.refusals ≡ 0 }
+{
+    shelf.begin(alloc, zones_of(0x400_0000), Policy::Low)?;
+    two_refusals(rt, shelf);
+    a_place(rt, shelf);
+    shelf.begin(alloc, zones_of(0x400_0000), Policy::Low)?;
+    a_place(rt, shelf);
     Ok(())
 }
 

@@ -8,6 +8,14 @@ use std::process::Abort;
 use vt_outside::OutOfMemory;
 use zone_alloc::{Policy, ShelfAlloc, Zone, ZoneAlloc, Zones};
 
+/// High memory of seven multiples of 2^31, at the last of which one byte has room, and an F segment of one byte.
+pub(crate) const WIDE: Zones = Zones {
+    high_start: 1,
+    high_end: 0x3_8000_0001,
+    fseg_start: 5,
+    fseg_end: 6,
+};
+
 /// A request, and the place that is to be given, or `None` for a refusal.
 pub(crate) struct Row(
     pub(crate) Zone,
@@ -28,15 +36,45 @@ pub(crate) fn are_places(
     requires room { length rows.now ≤ 1024 }
 {
     let mut shelf = ShelfAlloc::new();
-    shelf.begin(alloc, zones, by)?;
-    are_placed(rt, &mut shelf, rows);
-    shelf.begin(alloc, zones, by)?;
-    are_placed(rt, &mut shelf, rows);
+    let done = are_placed_twice(rt, alloc, &mut shelf, zones, by, rows);
+    drop(shelf);
+    done
+}
+
+fn are_placed_twice(
+    rt: &impl Abort,
+    alloc: Global,
+    shelf: &mut ShelfAlloc,
+    zones: Zones,
+    by: Policy,
+    rows: &[Row],
+) -> Result<(), OutOfMemory>
+    requires addresses { HaveAddresses zones }
+    requires room { length rows.now ≤ 1024 }
+{
+    are_placed_from_begin(rt, alloc, shelf, zones, by, rows)?;
+    are_placed_from_begin(rt, alloc, shelf, zones, by, rows)
+}
+
+/// Once an allocator begins with these zones and this policy, it answers each row as it says.
+pub(crate) fn are_placed_from_begin<A: ZoneAlloc>(
+    rt: &impl Abort,
+    alloc: Global,
+    place: &mut A,
+    zones: Zones,
+    by: Policy,
+    rows: &[Row],
+) -> Result<(), OutOfMemory>
+    requires addresses { HaveAddresses zones }
+    requires room { length rows.now ≤ 1024 }
+{
+    place.begin(alloc, zones, by)?;
+    are_placed(rt, place, rows);
     Ok(())
 }
 
-/// Each row is answered as it says, in turn.
-pub(crate) fn are_placed<A: ZoneAlloc>(rt: &impl Abort, alloc: &mut A, rows: &[Row])
+// Each row is answered as it says, in turn.
+fn are_placed<A: ZoneAlloc>(rt: &impl Abort, alloc: &mut A, rows: &[Row])
     requires begun { A.begun alloc.old ≡ true }
     requires room { length (A.handed alloc.old) + length rows.now ≤ 1024 }
     ensures { A.begun alloc.new ≡ true }

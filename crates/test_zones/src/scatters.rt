@@ -5,14 +5,14 @@
 //! were worked out by a program in Python from the definitions of PCG's XSH RR 64/32 and of `seed_from_u64`, and the places from them
 //! by hand.
 
-use crate::rows::{Row, are_places};
+use crate::rows::{Row, WIDE, are_places};
 use std::process::Abort;
 use std::test::Fail;
 use zone_alloc::Zone::{Fseg, High};
-use zone_alloc::{Policy, Zones, zones_of};
+use zone_alloc::{Policy, zones_of};
 
 // High memory is 0x300_0000 to 0x3FF_FFFF, and the F segment 0xF_0000 to 0xF_FFFF.
-const SCATTERED: [Row; 10] = [
+static SCATTERED: [Row; 10] = [
     // 11cdd903, fc843fd7.
     Row(High, 42, 16, Some(0x3CD_D910)),
     Row(Fseg, 36, 16, Some(0xF_3FE0)),
@@ -29,7 +29,7 @@ const SCATTERED: [Row; 10] = [
     Row(Fseg, 1, 1, Some(0xF_5C8E)),
 ];
 
-const FILLED: [Row; 5] = [
+static FILLED: [Row; 5] = [
     // There is no multiple behind the goal 0xF_D903. The goal 0xF_3FD7 is taken then.
     Row(Fseg, 0x8000, 0x8000, Some(0xF_0000)),
     Row(Fseg, 0x8000, 1, Some(0xF_8000)),
@@ -40,20 +40,13 @@ const FILLED: [Row; 5] = [
 ];
 
 // The words of the greatest seed begin with 982f997e and 513da686.
-const GREATEST_SEED: [Row; 2] = [
+static GREATEST_SEED: [Row; 2] = [
     Row(High, 1, 1, Some(0x32F_997E)),
     Row(High, 1, 1, Some(0x33D_A686)),
 ];
 
-// A zone with more addresses than there are words: the goals are the words themselves, from the address 1 on.
-const WIDE: Zones = Zones {
-    high_start: 1,
-    high_end: 0x3_8000_0001,
-    fseg_start: 5,
-    fseg_end: 6,
-};
-
-const IN_WIDE: [Row; 5] = [
+// The zone has more addresses than there are words: the goals are the words themselves, from the address 1 on.
+static IN_WIDE: [Row; 5] = [
     Row(High, 2, 0x8000_0000, Some(0x8000_0000)),
     Row(High, 1, 0x8000_0000, Some(0x1_0000_0000)),
     Row(High, 0x8000_0001, 0x8000_0000, Some(0x1_8000_0000)),
@@ -79,14 +72,9 @@ fn scattered_places(rt: HostRuntime) -> Result<(), Fail> {
         &FILLED,
     )?;
     are_places(&rt, alloc, WIDE, Policy::Scatter(0), &IN_WIDE)?;
-    Ok(())
-}
-
-#[test]
-fn greatest_seed(rt: HostRuntime) -> Result<(), Fail> {
     are_places(
         &rt,
-        rt.alloc(),
+        alloc,
         zones_of(0x400_0000),
         Policy::Scatter(u64::MAX),
         &GREATEST_SEED,

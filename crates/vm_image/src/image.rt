@@ -12,9 +12,9 @@ use image_files::{Image, ImageBuildFault, link};
 use machine_desc::Machine;
 use std::alloc::Global;
 
-/// Builds the image of `machine`, which is accepted: its files, and the script that places and links them, in memory from `alloc`.
-/// `order` is 0, and stands for the one order of commands that there is yet. Returns `ImageTooLarge` where the files, with that of
-/// the script, have more than 409,600 bytes in all, and `OutOfMemory` when memory runs out.
+/// Builds the image of `machine`, which is accepted: its files, and the script that places and links them, in memory from
+/// `alloc`. `order` is 0, which stands for the only order of commands. Returns `ImageTooLarge` where the files, with that of the
+/// script, have more than 409,600 bytes in all, and `OutOfMemory` when memory runs out.
 pub fn image_of(alloc: Global, machine: &Machine, order: u64) -> Result<Image, ImageBuildFault>
     requires accepted { IsAccepted machine.now }
     requires order { order ≡ 0 }

@@ -23,7 +23,8 @@ pub fn one_image_is_built()
         → (items ≡ others) × (script ≡ other) }
 {}
 
-/// Says that a memory shows the machine wherever its files come to stand, whatever lies outside of them and of the BIOS area.
+/// Says that a memory that holds the machine's files shows the machine, wherever they come to stand, and whatever lies outside of them
+/// and of the BIOS area.
 pub fn machine_is_shown_anywhere()
     ensures { (m : Machine) → IsAccepted m → AreStructures (structures_file m) (structures_of m) → AreAcpiKnown m m.acpi → IsShownAnywhere m }
 {}

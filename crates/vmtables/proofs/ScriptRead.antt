@@ -1,12 +1,11 @@
 -- The script of a machine's image is read from its items.
-use Rattle.std.proofs.Common.{◌≡◌, inl, inr, ℕ, ◌+◌, ◌*◌, ◌/◌, ◌%◌, ◌≤◌, true, List, [], ◌∷◌, ◌++◌, length, Option, Some, None, option_map, Ok}
+use Rattle.std.proofs.Common.{◌≡◌, ℕ, ◌*◌, ◌/◌, ◌%◌, ◌≤◌, true, List, [], ◌∷◌, ◌++◌, length, Option, Some, None, option_map, Ok}
 use Rattle.std.proofs.Common.{refl, ap, ap₂, sym, subst, ◌∙◌, arith}
 use Rattle.std.specs.Bool.{◌==◌}
 use Rattle.std.specs.List.{AllByRecursion, flat_map}
 use Rattle.std.specs.Str.{bytes_eq}
-use Rattle.std.proofs.lemmas.Bool.{cases_Bool, cond-true, cond-false, le-leb}
+use Rattle.std.proofs.lemmas.Bool.{cond-true, le-leb}
 use Rattle.std.proofs.lemmas.Bool.Decides.{Decides-eqb}
-use Rattle.std.proofs.lemmas.List.Sums.{sum_by-cons}
 use Rattle.std.proofs.lemmas.Option.{same_Some, none-some}
 use Rattle.vt_bytes.proofs.Each.{each_append, each_map}
 use Rattle.cfg_directory.specs.declared.item.Item.{Item}
@@ -26,6 +25,7 @@ use Rattle.vm_image.specs.Image.{image_files, image_script, image_items}
 use Rattle.vm_image.specs.Built.{IsBuilt}
 use Rattle.script_load.specs.Script.{script_in, script_from}
 use Rattle.script_load.specs.Script.{script_of as script_read_of}
+use Rattle.firmware_load.proofs.RoomOfLoads.{named_small}
 
 -- the commands that place and link files are read again
 placing_again : (file : ImageFile) (placing : Option Placing)
@@ -55,16 +55,6 @@ item_found : (found : Option Item) (file : File) → option_map (λ (item : Item
 item_found None file is = absurd (none-some file is)
 item_found (Some item) file is = (item, refl, ap (λ (f : File). f.bytes) (same_Some _ file is))
 
--- it has no more bytes than all
-within : (items : List Item) (name : List ℕ) (item : Item) → named items name ≡ Some item → length item.bytes ≤ total_size items
-within [] name item there = absurd (none-some item there)
-within (first ∷ items) name item there =
-    let all : total_size (first ∷ items) ≡ length first.bytes + total_size items = sum_by-cons (λ (x : Item). length x.bytes) first items in
-    elim (cases_Bool (bytes_eq first.name name)) as (λ _. length item.bytes ≤ total_size (first ∷ items)) [
-      | inl same ↦ omega (arith, all, ap (λ (f : Item). length f.bytes) (same_Some first item (sym (cond-true _ _ _ same) ∙ there)))
-      | inr other ↦ omega (arith, all, within items name item (sym (cond-false _ _ _ other) ∙ there))
-    ]
-
 -- a test of equal numbers passes
 eqb_same : (a b : ℕ) → a ≡ b → (a == b) ≡ true
 eqb_same a b = (Decides-eqb a b).1
@@ -89,5 +79,5 @@ script_read m items script built =
     let few : total_size (image_items m) ≤ image_limit = subst (λ those. total_size those ≤ image_limit) built.items_are built.small in
     let again : AllByRecursion IsReadAgain script = subst (AllByRecursion IsReadAgain) (sym built.script_is) (script_again (image_files m)) in
     ap script_from found.1
-    ∙ spelled_read script found.0.bytes found.2 built.fits again (omega (arith, within (image_items m) loader_name found.0 found.1, few))
+    ∙ spelled_read script found.0.bytes found.2 built.fits again (omega (arith, named_small (image_items m) loader_name found.0 found.1, few))
     ∙ ap Ok built.script_is

@@ -1,7 +1,6 @@
 -- What a sink took of a text, piece by piece.
 use Rattle.std.proofs.Common.{◌≡◌, ℕ, ◌-◌, List, [], ◌++◌, length, take, drop, Option, Some, None, refl, ap, sym, ◌∙◌, append_assoc}
 use Rattle.std.proofs.lemmas.List.{take-append-drop, take_rest, append-nil}
-use Rattle.std.specs.Prelude.{Result, Ok, Err, OnErr}
 use Rattle.vt_outside.specs.Stream.{behind}
 use Rattle.vmtables.specs.Output.{Took, TookFront}
 
@@ -50,8 +49,3 @@ front_more before after text more took =
     let whole : text ++ more ≡ took.0 ++ (took.1 ++ more) =
     ap (λ (bytes : List ℕ). bytes ++ more) took.2 ∙ append_assoc took.0 took.1 more in
     (took.0, took.1 ++ more, whole, took.3)
-
--- what holds in any case holds where the result is an error
-pub on_err : {A E : Type 0} (result : Result A E) (P : Type 0) → P → OnErr result P
-on_err (Ok _) P holds = tt
-on_err (Err _) P holds = holds

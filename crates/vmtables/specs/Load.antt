@@ -22,7 +22,8 @@ CannotBeRead bytes _ = ⊥
 
 -- What `load` makes, with this fill byte, a top of so many MiB, a policy and a seed, of the bytes of its input: it loads the items that they
 -- are a container of, over the plan's events of the seed, and makes the dump of the world's memory, where their whole script is carried out.
--- It refuses bytes that are no container, and then leaves the world, the allocator and the plan as they were. A load that ends before its script leaves what the commands before left.
+-- It refuses bytes that are no container, and then leaves the world, the allocator and the plan as they were. A load that ends before its
+-- script leaves what the commands before left.
 abbrev pub LoadMakes : Answering → ℕ → ℕ → Policy → ℕ → List ℕ → Seen → Seen → Made → Type 0
 LoadMakes Gives fill top_mib policy seed bytes before after (Ok text) =
     (items : List Item) × IsContainer bytes items × (loaded : IsImageLoaded Gives items (mib top_mib) fill policy seed (Ok tt) before after)

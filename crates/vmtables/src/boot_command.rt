@@ -75,7 +75,9 @@ fn load_machine<A: ZoneAlloc, C: Schedule>(
         (seen_by A.handed A.zones A.policy A.refusals A.refused A.begun C.events C.left world.new place.new plan.new) (Err fault)) }
 {
     let machine = read_machine(alloc, description)?;
-    load_image(alloc, fill, policy, seed, &machine, place, plan, world)
+    let loaded = load_image(alloc, fill, policy, seed, &machine, place, plan, world);
+    drop(machine);
+    loaded
 }
 
 // Loads the files of a machine into the world's memory, in which each byte is `fill` before.
@@ -93,7 +95,8 @@ fn load_image<A: ZoneAlloc, C: Schedule>(
     ensures ok { OnOk result ((bytes : List ℕ) → Reads bytes machine.now → IsBooted (MayAnswer A.handed A.zones A.policy A.gives) fill policy seed bytes
         (seen_by A.handed A.zones A.policy A.refusals A.refused A.begun C.events C.left world.old place.old plan.old)
         (seen_by A.handed A.zones A.policy A.refusals A.refused A.begun C.events C.left world.new place.new plan.new)) }
-    ensures err { IfErr result (λ fault. (bytes : List ℕ) → Reads bytes machine.now → BootMakes (MayAnswer A.handed A.zones A.policy A.gives) fill policy seed bytes
+    ensures err { IfErr result (λ fault. (bytes : List ℕ) → Reads bytes machine.now
+        → BootMakes (MayAnswer A.handed A.zones A.policy A.gives) fill policy seed bytes
         (seen_by A.handed A.zones A.policy A.refusals A.refused A.begun C.events C.left world.old place.old plan.old)
         (seen_by A.handed A.zones A.policy A.refusals A.refused A.begun C.events C.left world.new place.new plan.new) (Err fault)) }
 {

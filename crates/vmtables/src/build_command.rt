@@ -41,7 +41,9 @@ fn container_of(alloc: Global, description: &[u8]) -> Result<Bytes, Fault>
     ensures err { IfErr result (CannotBeBuilt description.now) }
 {
     let machine = read_machine(alloc, description)?;
-    image_container(alloc, &machine)
+    let container = image_container(alloc, &machine);
+    drop(machine);
+    container
 }
 
 // The container of the files of a machine that is read from these bytes.

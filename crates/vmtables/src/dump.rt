@@ -133,7 +133,7 @@ fn line(address: u32, row: &[u8]) -> [u8; 42]
     text
 }
 
-// Writes the digits of bytes over as many places.
+// Writes the hexadecimal digits of `bytes`, two for each, over `text`.
 fn put_hex(text: &mut [u8], bytes: &[u8])
     requires { length text.old ≡ 2 * length bytes.now }
     ensures { text.new ≡ encode_lower bytes.now }

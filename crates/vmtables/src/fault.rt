@@ -21,7 +21,7 @@ pub(crate) enum Fault {
     Description(DescFault),
     /// The bytes are no container; this is their first fault.
     Container(ImageFault),
-    /// The load of a container ended before its script did.
+    /// The load of a machine's image or of a container ended before its script did, for this fault.
     Load(LoadFault),
     /// The sink failed.
     WriteFault,

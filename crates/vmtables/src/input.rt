@@ -33,9 +33,9 @@ impl From<OutOfMemory> for InputFault {
     }
 }
 
-/// Reads `source` to its end, and returns its bytes, at most 67,108,864, in order. The memory it takes from `alloc` is bounded
-/// by that limit. Returns `Failed` when a read fails, `TooLong` when `source` gives more bytes, and `OutOfMemory` when memory
-/// runs out. After an error the bytes that were read are lost.
+/// Reads `source` to its end, and returns its bytes, at most 67,108,864, in order. It takes memory from `alloc` for the bytes
+/// that were read, as they come, and for a buffer of 65,536 bytes. Returns `Failed` when a read fails, `TooLong` when `source`
+/// gives more bytes, and `OutOfMemory` when memory runs out. After an error the bytes that were read are lost.
 pub(crate) fn read_to_end<S: Source>(alloc: Global, source: &mut S) -> Result<Bytes, InputFault>
     ensures given { IfOk result (λ bytes. S.left source.old ≡ in_front bytes (S.left source.new)) }
     ensures end { OnOk result (IfSome (S.left source.new) (λ rest. rest ≡ [])) }

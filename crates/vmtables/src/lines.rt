@@ -8,7 +8,7 @@ use desc_toml::Line;
 use loader_script::Cause;
 use script_load::LoadFault;
 
-/// The line of these words, which end in a line feed.
+/// The line of these words, at most 64 bytes, which end in a line feed.
 pub(crate) fn words(words: &str) -> Line
     requires { length words.now ≤ 64 }
     ensures { result.bytes ≡ words.now }
@@ -22,12 +22,7 @@ pub(crate) fn words(words: &str) -> Line
 pub(crate) fn container_line(fault: ImageFault) -> Line
     ensures { result.bytes ≡ container_line fault }
 {
-    let mut number = itoa::Buffer::new();
-    let mut line = Line::new();
-    line.push_str("container: fault ");
-    line.push_str(number.format(container_number(fault)));
-    line.push_str("\n");
-    line
+    numbered_line("container: fault ", u32::from(container_number(fault)))
 }
 
 // The number of a container's fault, in the order of the causes. Want of memory is none of them.
@@ -56,7 +51,7 @@ pub(crate) fn load_line(fault: LoadFault) -> Line
         LoadFault::NoScript => words("script: none\n"),
         LoadFault::ScriptLength => words("script: length\n"),
         LoadFault::Command { index, cause } => command_line(index, cause),
-        LoadFault::NoRoom { index } => room_line(index),
+        LoadFault::NoRoom { index } => numbered_line("no room at command ", index),
     }
 }
 
@@ -73,13 +68,15 @@ fn command_line(index: u32, cause: Cause) -> Line
     line
 }
 
-fn room_line(index: u32) -> Line
-    ensures { result.bytes ≡ codes "no room at command " ++ decimal index ++ 10 ∷ [] }
+// The line of these words, at most 32 bytes, and a number behind them.
+fn numbered_line(words: &str, number: u32) -> Line
+    requires { length words.now ≤ 32 }
+    ensures { result.bytes ≡ words.now ++ decimal number ++ 10 ∷ [] }
 {
-    let mut number = itoa::Buffer::new();
+    let mut digits = itoa::Buffer::new();
     let mut line = Line::new();
-    line.push_str("no room at command ");
-    line.push_str(number.format(index));
+    line.push_str(words);
+    line.push_str(digits.format(number));
     line.push_str("\n");
     line
 }

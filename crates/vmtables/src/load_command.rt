@@ -51,7 +51,7 @@ pub(crate) fn load<S: Source, K: Sink, A: ZoneAlloc, C: Schedule>(
     write_dump(world, out)
 }
 
-// Loads the files of a container into the world's memory, and lets go of the container once they stand.
+// Loads the files of a container into the world's memory, and lets go of the container's bytes once they are copied into items.
 fn load_container<A: ZoneAlloc, C: Schedule>(
     alloc: Global,
     fill: u8,
@@ -64,7 +64,8 @@ fn load_container<A: ZoneAlloc, C: Schedule>(
     world: &mut World,
 ) -> Result<(), Fault>
     requires lawful { (64 ≤ top_mib) × (top_mib ≤ 3072) }
-    ensures ok { OnOk result ((items : List Item) × IsContainer container items × IsImageLoaded (MayAnswer A.handed A.zones A.policy A.gives) items (mib top_mib) fill policy seed (Ok tt)
+    ensures ok { OnOk result ((items : List Item) × IsContainer container items
+        × IsImageLoaded (MayAnswer A.handed A.zones A.policy A.gives) items (mib top_mib) fill policy seed (Ok tt)
         (seen_by A.handed A.zones A.policy A.refusals A.refused A.begun C.events C.left world.old place.old plan.old)
         (seen_by A.handed A.zones A.policy A.refusals A.refused A.begun C.events C.left world.new place.new plan.new)) }
     ensures err { IfErr result (λ fault. LoadMakes (MayAnswer A.handed A.zones A.policy A.gives) fill top_mib policy seed container

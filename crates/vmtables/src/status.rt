@@ -14,7 +14,7 @@ pub enum Status {
     DescriptionRefused = 3,
     /// The allocator gave no place for a file.
     NoRoom = 4,
-    /// The container, its script or a command of it is refused.
+    /// The bytes are no container, its script is missing or has no script's length, or a command is refused.
     ImageRefused = 5,
     /// The sink failed. It took a part of the output from its front.
     WriteFault = 8,

@@ -33,14 +33,14 @@ use zone_alloc::ZoneAlloc;
 ///
 /// `Usage` means that `words` are no command; nothing is then read. `ReadFault` means that `source` failed, `InputTooLong` that
 /// it gave more than 67,108,864 bytes, `DescriptionRefused` that its bytes describe no accepted machine, `ImageTooLarge` that the
-/// machine's files have more than 409,600 bytes, `ImageRefused` that its bytes are no container, that no file of it is a script, or
-/// that a command is refused, `NoRoom` that `place` gave no place for a file, `OutOfMemory` that memory ran out, and `WriteFault`
-/// that `out` failed. With `Ok` `out` took the whole text, with `WriteFault` a part of it from its front, perhaps all, and with any
-/// other status nothing.
+/// machine's files have more than 409,600 bytes, `ImageRefused` that its bytes are no container, that its script is missing or
+/// has no script's length, or that a command is refused, `NoRoom` that `place` gave no place for a file, `OutOfMemory` that
+/// memory ran out, and `WriteFault` that `out` failed. With `Ok` `out` took the whole text, with `WriteFault` a part of it from
+/// its front, perhaps all, and with any other status nothing.
 ///
-/// With `Ok` and `WriteFault` of `boot` and `load` the files are loaded in `world`. With `NoRoom`, and where a command is refused or the
-/// script is missing, it holds what the commands before left. After `OutOfMemory` it is as before, idle, or as it was begun. With any
-/// other status it is as before.
+/// With `Ok` and `WriteFault` of `boot` and `load` the files are loaded in `world`. With `NoRoom`, and with `ImageRefused` where the
+/// bytes are a container, it holds what the commands before left. After `OutOfMemory` it is as before, idle, or as it was begun. In
+/// any other case it is as before.
 ///
 /// `say` takes the line of a status other than `Ok`. What becomes of that line changes nothing else.
 pub fn top<S: Source, K: Sink, E: Sink, A: ZoneAlloc, C: Schedule>(

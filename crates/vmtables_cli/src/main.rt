@@ -55,7 +55,7 @@ fn main(rt: HostRuntime) -> ExitCode {
     }
 }
 
-// The words after the program's name. A word that isn't text stands as one empty word, which is no command.
+// The words after the program's name. Where one of them isn't text, one empty word stands for all, and that is no command.
 fn words_of(rt: &HostRuntime) -> io::Result<Vec<String>> {
     let mut words = Vec::new(rt.alloc());
     match env::args(rt) {

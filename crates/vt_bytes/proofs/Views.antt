@@ -1,5 +1,5 @@
 -- The bytes that a view shows.
-use Rattle.std.proofs.Common.{◌≡◌, ℕ, zero, suc, ◌+◌, ◌<◌, ◌≤◌, List, [], ◌∷◌, ◌++◌, Option, None, Some, length, slice_index, take, drop, arith, refl, ap}
+use Rattle.std.proofs.Common.{◌≡◌, ℕ, zero, suc, ◌+◌, ◌<◌, ◌≤◌, List, [], ◌∷◌, Option, None, Some, length, slice_index, take, drop, arith, refl, ap}
 use Rattle.std.proofs.Common.{sym, ◌∙◌}
 use Rattle.std.proofs.lemmas.List.{drop_more, take_all, length-drop}
 use Rattle.std.proofs.Math.Seq.{take-length}
@@ -93,23 +93,6 @@ pub bytes_in-part : (view : View) (address count : ℕ) (bytes : List ℕ) (offs
 bytes_in-part view address count bytes offset size shown within =
     bytes_in-holds view address bytes offset size (holds-shown view address count bytes shown)
     (omega (arith, length-bytes_in view address count bytes shown))
-
--- bytes that are shown one after the other
-pub bytes_in-append : (view : View) (address front back : ℕ) (first second : List ℕ) → bytes_in view address front ≡ Some first
-    → bytes_in view (address + front) back ≡ Some second → bytes_in view address (front + back) ≡ Some (first ++ second)
-bytes_in-append view address zero back first second shown_first shown_second =
-    let place : address ≡ address + 0 = omega arith in
-    let count : 0 + back ≡ back = omega arith in
-    ap (bytes_in view address) count ∙ ap (λ a. bytes_in view a back) place ∙ shown_second
-    ∙ ap (λ all. Some (all ++ second)) (sym (none_in view address first shown_first))
-bytes_in-append view address (suc front) back first second shown_first shown_second =
-    let f = first_in view address front first shown_first in
-    let count : suc front + back ≡ suc (front + back) = omega arith in
-    let place : address + 1 + front ≡ address + suc front = omega arith in
-    let rest : bytes_in view (address + 1) (front + back) ≡ Some (f.more ++ second) =
-    bytes_in-append view (address + 1) front back f.more second f.rest_is (ap (λ a. bytes_in view a back) place ∙ shown_second) in
-    ap (bytes_in view address) count ∙ one_more_in view address (front + back) f.first (f.more ++ second) f.byte_is rest
-    ∙ ap (λ all. Some (all ++ second)) (sym f.bytes_are)
 
 -- the two parts of the bytes that are shown
 pub record AreParts (view : View) (address front back : ℕ) (bytes : List ℕ) : Type 0 where

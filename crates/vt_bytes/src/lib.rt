@@ -4,7 +4,8 @@
 //! or from the high one, and a sum is taken modulo 256. No call takes memory.
 //!
 //! A memory has a top, a fill byte, and a byte at each address of the RAM map. It changes by a function: the memory with these
-//! bytes at that address. The laws say when two memories are equal, and what is where after a change.
+//! bytes at that address. The laws say when two memories are equal, and what is where after a change. What is seen of a memory is
+//! a view: the byte at each address, or none where there is no RAM.
 #![tactic(auto)]
 
 pub mod laws;

@@ -94,16 +94,6 @@ named_among [] k is = absurd is
 named_among (row ∷ rows) zero is = omega arith
 named_among (row ∷ rows) (suc k) is = let rest = named_among rows k is in omega arith
 
--- and as wide as it says
-pub number_width : (count : ℕ) (row : Row) → IsNumber count row → width_of row ≡ count
-number_width count (Number width value) is = is
-number_width count (BigEndian width value) is = is
-number_width count row is = absurd is
-
-pub named_width : (row : Row) → IsNamed row → width_of row ≡ 56
-named_width (Named name) is = refl
-named_width row is = absurd is
-
 -- the number that is read where rows are shown, and the name
 pub number_read : (bytes : List ℕ) (rows : List Row) (k count : ℕ) → Shown (view_of bytes) 0 0 rows → IsNumber count (row_at k rows)
     → read_number k rows bytes ≡ number k rows

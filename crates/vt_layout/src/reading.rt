@@ -1,4 +1,4 @@
-ghost use Rattle.std.specs.Prelude.{◌≡◌, ◌^◌, ◌<◌, ◌≤◌, length};
+ghost use Rattle.std.specs.Prelude.{◌≡◌, ◌^◌, ◌<◌, ◌≤◌, length, codes};
 ghost use Rattle.vt_layout.specs.Rows.{width_of};
 ghost use Rattle.vt_layout.specs.Reading.{row_at, bytes_at_row, read_number, read_name, IsNumber, IsNamed, Reach};
 
@@ -62,7 +62,9 @@ pub fn read_name(bytes: &[u8], rows: &[Row], index: usize) -> Result<Name, NameF
 }
 
 /// Returns the name "-", for rows that say only where to read, and whose values aren't used.
-pub fn blank_name() -> Name {
+pub fn blank_name() -> Name
+    ensures { result ≡ codes "-" }
+{
     Name::of("-").unwrap()
 }
 

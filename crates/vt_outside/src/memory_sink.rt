@@ -1,9 +1,10 @@
-ghost use Rattle.std.specs.Prelude.{◌≡◌, ◌≢◌, ◌<◌, ◌≤◌, ◌+◌, ◌-◌, ◌↔◌, ◌⊎◌, [], ◌++◌, length, take, min, Some, None, IsErr, IsOk, IfOk, IfSome, OnErr, OnOk, Contains};
+ghost use Rattle.std.specs.Prelude.{◌≡◌, ◌≢◌, ◌<◌, ◌≤◌, ◌+◌, ◌-◌, ◌↔◌, ◌⊎◌, [], ◌++◌, length, take, min};
+ghost use Rattle.std.specs.Prelude.{Some, None, IsErr, IsOk, IfOk, IfSome, OnErr, OnOk, Contains};
 ghost use Rattle.vt_outside.specs.Stream.{Rose, next_count, behind};
 
 use crate::fault::{Failed, OutOfMemory};
 use crate::list::List;
-use crate::memory_source::is_listed;
+use crate::listed::is_listed;
 use crate::stream::Sink;
 use std::alloc::Global;
 use std::marker::Model;

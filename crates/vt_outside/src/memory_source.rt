@@ -1,9 +1,10 @@
-ghost use Rattle.std.specs.Prelude.{◌≡◌, ◌≢◌, ◌<◌, ◌≤◌, ◌↔◌, [], ◌++◌, length, take, drop, min, Some, IsErr, IsOk, IfOk, IfSome, OnErr, Contains, IsTrue};
+ghost use Rattle.std.specs.Prelude.{◌≡◌, ◌≢◌, ◌<◌, ◌≤◌, ◌↔◌, [], ◌++◌, length, take, drop, min, Some, IsErr, IsOk, IfOk, IfSome, OnErr, Contains};
 ghost use Rattle.vt_outside.specs.Stream.{Rose, next_count, in_front};
 
 use crate::bytes::Bytes;
 use crate::fault::Failed;
 use crate::list::List;
+use crate::listed::is_listed;
 use crate::stream::Source;
 use std::marker::Model;
 
@@ -85,13 +86,6 @@ impl Source for ListSource {
         self.given += count;
         Ok(count)
     }
-}
-
-/// Tells whether `fails` lists the number `call`.
-pub(crate) fn is_listed(fails: &[u32], call: u64) -> bool
-    ensures { IsTrue result ↔ Contains fails.now call }
-{
-    fails.iter().any(|number| u64::from(*number) == call)
 }
 
 /// A source of bytes in memory, whose reads never fail.

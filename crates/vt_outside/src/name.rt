@@ -120,8 +120,8 @@ fn place_of_nul(bytes: &[u8]) -> usize
         .unwrap_or(bytes.len())
 }
 
-// Whether each byte may stand in a name.
-fn are_printable(text: &[u8]) -> bool
+/// Tells whether each byte of `text` is printable ASCII, 0x20 to 0x7E, as those of a name are.
+pub fn are_printable(text: &[u8]) -> bool
     ensures { result ≡ list_all is_printable text.now }
 {
     text.iter().all(|byte| (0x20..=0x7E).contains(byte))

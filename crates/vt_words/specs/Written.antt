@@ -12,12 +12,12 @@ abbrev pub hex_digits : ℕ → List ℕ
 hex_digits byte = digit_char (byte / 16) ∷ digit_char (byte % 16) ∷ []
 
 -- a policy and a seed, each as an option
-abbrev pub words_of_places : PolicyName → ℕ → List (List ℕ)
-words_of_places policy seed = codes "--policy" ∷ word_of policy ∷ codes "--seed" ∷ decimal seed ∷ []
+abbrev pub words_of_policy_and_seed : PolicyName → ℕ → List (List ℕ)
+words_of_policy_and_seed policy seed = codes "--policy" ∷ word_of policy ∷ codes "--seed" ∷ decimal seed ∷ []
 
 -- a command with each of its options
 abbrev pub words_of : Command → List (List ℕ)
-words_of (Boot fill policy seed) = codes "boot" ∷ codes "--fill" ∷ hex_digits fill ∷ words_of_places policy seed
+words_of (Boot fill policy seed) = codes "boot" ∷ codes "--fill" ∷ hex_digits fill ∷ words_of_policy_and_seed policy seed
 words_of (Load fill top_mib policy seed) =
-    codes "load" ∷ codes "--fill" ∷ hex_digits fill ∷ codes "--top" ∷ decimal top_mib ∷ words_of_places policy seed
+    codes "load" ∷ codes "--fill" ∷ hex_digits fill ∷ codes "--top" ∷ decimal top_mib ∷ words_of_policy_and_seed policy seed
 words_of Build = codes "build" ∷ []

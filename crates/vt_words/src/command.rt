@@ -33,8 +33,9 @@ pub enum Command {
     Build,
 }
 
-/// Reads `words`, those after the program's name, as a command and its options. Returns `None` where they are none: another command,
-/// an option that the command doesn't have or that stands there twice, a name without a value, or a value that the option can't have.
+/// Reads `words`, those after the program's name, as a command and its options. Returns `None` where they are none: no word, another
+/// command, an option that the command doesn't have or that stands there twice, a name without a value, or a value that the option
+/// can't have.
 pub fn read_words(words: &[String]) -> Option<Command>
     ensures command { result ≡ command_of (map string_bytes words.now) }
     ensures lawful { IfSome result IsLawful }

@@ -9,7 +9,7 @@ abbrev pub zone_range : ℕ → Zone → Range
 zone_range top High = high_zone top
 zone_range top Fseg = f_segment
 
--- the zone of the number in an Allocate: 1 is High, and 2 is the F segment
+-- the zone of the number in an Allocate: 1 is High, and 2 is the F segment; what any other number gives means nothing
 abbrev pub zone_numbered : ℕ → Zone
 zone_numbered (suc zero) = High
 zone_numbered _ = Fseg

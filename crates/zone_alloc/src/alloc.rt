@@ -28,7 +28,7 @@ pub struct NoRoom;
 pub struct Request {
     /// The zone of memory.
     pub zone: Zone,
-    /// The bytes of the file, at least 1.
+    /// The size of the file in bytes, at least 1.
     pub size: u32,
     /// The place was to be a multiple of this power of two, in bytes.
     pub align: u32,

@@ -1,4 +1,4 @@
-ghost use Rattle.std.specs.Prelude.{◌≡◌, true, false, ◌+◌, ◌<◌, ◌≤◌, ◌↔◌, [], ◌∷◌, ◌++◌, length, Some, None, IfOk, OnErr, is_ok, Contains, IsTrue};
+ghost use Rattle.std.specs.Prelude.{◌≡◌, true, false, ◌+◌, ◌<◌, ◌≤◌, [], ◌∷◌, ◌++◌, length, Some, None, IfOk, OnErr, is_ok};
 ghost use Rattle.std.specs.Int.{is_power_of_two};
 ghost use Rattle.std.specs.Result.{result_ok};
 ghost use Rattle.vt_outside.specs.Placement.{IsFree};
@@ -14,7 +14,7 @@ use crate::zone::Zone;
 use crate::zones::Zones;
 use std::alloc::Global;
 use std::marker::Model;
-use vt_outside::{List, OutOfMemory};
+use vt_outside::{List, OutOfMemory, is_listed};
 
 /// A [`ShelfAlloc`] that refuses some of the calls of `place`, where the caller says so.
 #[derive(Debug, Drop)]
@@ -113,11 +113,4 @@ impl ZoneAlloc for FailingAlloc {
         }
         self.shelf.place(zone, size, align)
     }
-}
-
-// Whether `fails` lists the number `call`.
-fn is_listed(fails: &[u32], call: u64) -> bool
-    ensures { IsTrue result ↔ Contains fails.now call }
-{
-    fails.iter().any(|number| u64::from(*number) == call)
 }

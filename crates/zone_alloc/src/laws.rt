@@ -8,7 +8,7 @@ ghost use Rattle.vt_outside.specs.Placement.{Range, IsFree};
 ghost use Rattle.zone_alloc.specs.declared.policy.Policy.{Policy};
 ghost use Rattle.zone_alloc.specs.Policies.{word_of, IsChosen, IsShelfPlace};
 
-/// Says that a policy chooses among the free places, and at most one of them, so that all shelves that have handed out the same
+/// States that a policy chooses among the free places, and at most one of them, so that all shelves that have handed out the same
 /// ranges by one policy answer a request alike.
 pub fn one_place_is_chosen()
     ensures free { (policy : Policy) (zone : Range) (handed : List Range) (size align place : ℕ)
@@ -17,7 +17,7 @@ pub fn one_place_is_chosen()
         → IsShelfPlace policy zone handed size align a → IsShelfPlace policy zone handed size align b → a ≡ b }
 {}
 
-/// Says that the words of a seed are those that its generator gives one after the other.
+/// States that the words of a seed are those that its generator gives one after the other.
 pub fn words_come_in_order()
     ensures { (seed count k : ℕ) → k < count → slice_index (first_words pcg32 count (pcg32_of_seed (pcg32_seed 16 seed))) k ≡ word_of seed k }
 {}

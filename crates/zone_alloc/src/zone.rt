@@ -1,4 +1,4 @@
-ghost use Rattle.std.specs.Prelude.{◌≡◌};
+ghost use Rattle.std.specs.Prelude.{◌≡◌, ◌⊎◌};
 ghost use Rattle.zone_alloc.specs.Zones.{zone_numbered, number_of_zone};
 
 /// A zone of memory, in which a loader script asks for a place for a file (QEMU, hw/acpi/bios-linker-loader.c).
@@ -11,8 +11,10 @@ pub enum Zone {
 }
 
 impl Zone {
-    /// Returns the zone of the number in an Allocate, which is 1 for `High` and 2 for `Fseg`.
+    /// Returns the zone of `number`, that of a zone in an Allocate: `High` for 1, and `Fseg` for 2. `number` must be one of them, so
+    /// a number from outside must be tested before.
     pub fn numbered(number: u8) -> Zone
+        requires { (number ≡ 1) ⊎ (number ≡ 2) }
         ensures { result ≡ zone_numbered number }
     {
         match number {

@@ -9,15 +9,15 @@ use crate::zone::Zone;
 pub struct Zones {
     /// The first address of [`Zone::High`].
     pub high_start: u64,
-    /// The address past its last one.
+    /// The address past the last one of [`Zone::High`].
     pub high_end: u64,
     /// The first address of [`Zone::Fseg`].
     pub fseg_start: u64,
-    /// The address past its last one.
+    /// The address past the last one of [`Zone::Fseg`].
     pub fseg_end: u64,
 }
 
-/// Returns the zones of memory below the address `top`, which is at least 16 MiB.
+/// Returns the zones of memory below the address `top`, which must be at least 16 MiB.
 pub fn zones_of(top: u32) -> Zones
     requires { 0x1000000 ≤ top }
     ensures high_start { result.high_start ≡ (high_zone top).start }
@@ -43,6 +43,7 @@ impl Zones {
             Zone::Fseg => self.fseg_start,
         }
     }
+
     /// Returns the address past the last one of `zone`.
     pub fn end_of(&self, zone: Zone) -> u64
         ensures { result ≡ (range_in self.now zone).end }

@@ -1,19 +1,10 @@
-use Rattle.std.proofs.Common.{IsSome, rules, tests, option_map, subst, sym, ap, ◌∙◌}
-use Rattle.std.specs.Str.{bytes_eq}
-use Rattle.std.proofs.lemmas.Iterator.{YieldsList-from_slice}
-use Rattle.std.proofs.lemmas.Iterator.Search.{find_from_yields_List}
-use Rattle.cfg_directory.specs.declared.listed.Listed.{Listed}
+use Rattle.std.proofs.Common.{IsSome, subst, sym, ap, ◌∙◌}
+use Rattle.std.specs.Option.{option_copied}
 use Rattle.loader_script.proofs.Named.{IsSome-before_map}
 use Rattle.firmware_load.proofs.commands.listed_of.Goals as goal
 
 pub unwrap-requires : goal.unwrap-requires
-unwrap-requires c =
-    let found = find_from_yields_List (λ (l : Listed). bytes_eq l.name c.args.name.now) _ _ c.find.result c.find.ensures.ran
-    (YieldsList-from_slice c.args.listed.now cc) (λ x b q k. search (rules, tests)) in
-    IsSome-before_map _ c.find.result (subst IsSome (sym found) c.requires)
+unwrap-requires c = IsSome-before_map _ c.find_listed.result (subst IsSome (sym c.find_listed.ensures) c.requires)
 
 pub returns : goal.returns
-returns c =
-    let found = find_from_yields_List (λ (l : Listed). bytes_eq l.name c.args.name.now) _ _ c.find.result c.find.ensures.ran
-    (YieldsList-from_slice c.args.listed.now cc) (λ x b q k. search (rules, tests)) in
-    sym found ∙ ap (option_map _) c.unwrap.ensures
+returns c = sym c.find_listed.ensures ∙ ap option_copied c.unwrap.ensures

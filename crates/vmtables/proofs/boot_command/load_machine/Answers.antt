@@ -4,8 +4,8 @@ use Rattle.desc_toml.proofs.OneMachine.{read_accepted}
 use Rattle.vmtables.proofs.Refused.{description_failed}
 use Rattle.vmtables.proofs.boot_command.load_machine.Goals as goal
 
-pub load_image-requires : goal.load_image-requires
-load_image-requires g c = read_accepted c.args.description.now c.in_ok-machine.machine c.in_ok-machine.ensures
+pub load_image-loaded-requires : goal.load_image-loaded-requires
+load_image-loaded-requires g c = read_accepted c.args.description.now c.in_ok-machine.machine c.in_ok-machine.ensures
 
 pub returns-in_err-machine-clause-err : goal.returns-in_err-machine-clause-err
 returns-in_err-machine-clause-err g c =
@@ -14,8 +14,8 @@ returns-in_err-machine-clause-err g c =
 
 pub returns-clause-ok : goal.returns-clause-ok
 returns-clause-ok g c =
-    on_ok_weaker c.load_image.result (λ booted. booted c.args.description.now c.in_ok-machine.ensures) c.load_image.ensures.ok
+    on_ok_weaker c.load_image-loaded.result (λ booted. booted c.args.description.now c.in_ok-machine.ensures) c.load_image-loaded.ensures.ok
 
 pub returns-clause-err : goal.returns-clause-err
 returns-clause-err g c =
-    IfErr-weaker c.load_image.result _ _ (λ fault failed. failed c.args.description.now c.in_ok-machine.ensures) c.load_image.ensures.err
+    IfErr-weaker c.load_image-loaded.result _ _ (λ fault failed. failed c.args.description.now c.in_ok-machine.ensures) c.load_image-loaded.ensures.err

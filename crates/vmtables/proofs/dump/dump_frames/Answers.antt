@@ -1,6 +1,6 @@
 use Rattle.std.proofs.Common.{◌+◌, ◌*◌, refl, ap, ◌∙◌, subst, add-zero, arith}
 use Rattle.vt_bytes.specs.Memory.{IsRam}
-use Rattle.vmtables.proofs.Taken.{on_err}
+use Rattle.script_load.proofs.OneCommand.{on_err}
 use Rattle.vmtables.proofs.Rows.{rows_none}
 use Rattle.vmtables.proofs.Frames.{frame_ram, frame_took, frame_passed, frame_failed}
 use Rattle.vmtables.proofs.dump.dump_frames.Goals as goal

@@ -2,7 +2,7 @@ use Rattle.std.proofs.Common.{◌≡◌, length, refl, arith, ap, subst, ◌∙�
 use Rattle.vt_bytes.specs.Memory.{ram_ranges}
 use Rattle.vmtables.specs.Dump.{ranges_text}
 use Rattle.vmtables.specs.Output.{Took, TookFront}
-use Rattle.vmtables.proofs.Taken.{on_err}
+use Rattle.script_load.proofs.OneCommand.{on_err}
 use Rattle.vmtables.proofs.Parts.{ranges_none, ranges_more, ranges_failed}
 use Rattle.vmtables.proofs.Frames.{range_text-frames}
 use Rattle.vmtables.proofs.dump.dump_ranges.Goals as goal

@@ -1,5 +1,5 @@
 use Rattle.std.proofs.Common.{refl, ap, ◌∙◌}
-use Rattle.vmtables.proofs.Taken.{on_err}
+use Rattle.script_load.proofs.OneCommand.{on_err}
 use Rattle.vmtables.proofs.Rows.{row_ram, line_at-filled, line_at-written, rows_none, rows_more, rows_same, rows_failed}
 use Rattle.vmtables.proofs.dump.dump_rows.Goals as goal
 use Rattle.vmtables.proofs.dump.dump_rows.Goals.{then-not-is_filled+in_ok-write_all, else-not-is_filled}

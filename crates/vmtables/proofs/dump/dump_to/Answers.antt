@@ -1,7 +1,8 @@
 use Rattle.std.proofs.Common.{subst}
 use Rattle.std.proofs.lemmas.Result.{on_ok_weaker, on_err_weaker}
 use Rattle.vmtables.specs.Output.{Took}
-use Rattle.vmtables.proofs.Taken.{on_err, took_then, front_then}
+use Rattle.script_load.proofs.OneCommand.{on_err}
+use Rattle.vmtables.proofs.Taken.{took_then, front_then}
 use Rattle.vmtables.proofs.Parts.{header_is, header_failed, lines_failed, last_failed, all_taken}
 use Rattle.vmtables.proofs.dump.dump_to.Goals as goal
 

@@ -5,3 +5,7 @@ use Rattle.vt_layout.proofs.reading.blank_name.Goals as goal
 pub unwrap-requires : goal.unwrap-requires
 unfolding name_of
 unwrap-requires c = search rules
+
+pub returns : goal.returns
+unfolding name_of
+returns c = search rules

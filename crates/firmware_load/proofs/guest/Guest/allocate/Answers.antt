@@ -23,6 +23,9 @@ brought : (g : given.Over) (c : goal.After-bring g)
     → IsAllocating c.args.self.now c.args.name.now c.args.align c.args.zone c.listed_of-file.result.now
 brought g c = allocating _ _ _ _ _ _ c.requires.ready c.requires.early c.listed_of-file.ensures
 
+pub numbered-requires : goal.numbered-requires
+numbered-requires g c = (allocating _ _ _ _ _ _ c.requires.ready c.requires.early c.listed_of-file.ensures).known_zone
+
 pub place-requires-clause-room : goal.place-requires-clause-room
 place-requires-clause-room g c =
     few_handed c.args.self.now.device.items c.args.self.now.placements.placed.items (g.A.ZoneAlloc.handed c.args.place.now) c.requires.ready.items

@@ -12,6 +12,9 @@ bytes_of-bytes-requires g c =
     subst IsSome (sym (ap (λ items. file_of (files_of items) c.args.name.now) c.all.ensures.items
     ∙ (can c.args.self.now c.args.name.now c.args.align c.args.zone c.requires.early).there)) refl
 
+pub numbered-requires : goal.numbered-requires
+numbered-requires g c = (can c.args.self.now c.args.name.now c.args.align c.args.zone c.requires.early).known_zone
+
 pub overflow_cast-bytes : goal.overflow_cast-bytes
 overflow_cast-bytes g c =
     omega (

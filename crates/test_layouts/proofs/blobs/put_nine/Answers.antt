@@ -1,7 +1,7 @@
 use Rattle.std.proofs.Common.{◌≡◌, true, refl}
 use Rattle.std.specs.Int.{is_power_of_two}
 use lib.Count.{ones}
-use Rattle.test_layouts.proofs.blobs.bytes_and_zeros.Goals as goal
+use Rattle.test_layouts.proofs.blobs.put_nine.Goals as goal
 
 eight : is_power_of_two 8 ≡ true
 unfolding ones

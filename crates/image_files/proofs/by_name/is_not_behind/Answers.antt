@@ -2,7 +2,7 @@ use Rattle.std.proofs.Common.{ap, ap₂, ◌∙◌}
 use Rattle.std.specs.Cmp.Lexicographic.{slice_cmp}
 use Rattle.std.specs.Ordering.{nat_cmp, is_le}
 use Rattle.image_files.proofs.Sorted.{fields_order}
-use Rattle.image_files.proofs.by_name.is_before.Goals as goal
+use Rattle.image_files.proofs.by_name.is_not_behind.Goals as goal
 
 pub returns : goal.returns
 returns c =

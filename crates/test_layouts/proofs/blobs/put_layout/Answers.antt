@@ -1,7 +1,7 @@
 use Rattle.std.proofs.Common.{◌≡◌, true, refl}
 use Rattle.std.specs.Int.{is_power_of_two}
 use lib.Count.{ones}
-use Rattle.test_layouts.proofs.blobs.a_layout.Goals as goal
+use Rattle.test_layouts.proofs.blobs.put_layout.Goals as goal
 
 four : is_power_of_two 4 ≡ true
 unfolding ones

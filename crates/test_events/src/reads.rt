@@ -31,7 +31,7 @@ static READS: [Read; 9] = [
 ];
 
 #[test]
-fn several_pieces(rt: HostRuntime) -> Result<(), Fail> {
+fn several_reads(rt: HostRuntime) -> Result<(), Fail> {
     let items = items_of(rt.alloc(), 127, LOADER, &LINES)?;
     let end = End {
         answer: Ok(()),
