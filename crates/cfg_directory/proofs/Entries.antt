@@ -268,7 +268,7 @@ IsSaid-from before entry listed long fields =
       );
     }
 
-take-sum : {A : Type 0} (n m : ℕ) (xs : List A) → take (n + m) xs ≡ take n xs ++ take m (drop n xs)
+pub take-sum : {A : Type 0} (n m : ℕ) (xs : List A) → take (n + m) xs ≡ take n xs ++ take m (drop n xs)
 take-sum {A = A} n m xs =
     let within : n ≤ n + m = omega arith in
     sym (take-append-drop n (take (n + m) xs)) ∙ ap₂ (λ (a b : List A). a ++ b) (take-take n (n + m) xs within) (drop-take n m xs)

@@ -6,7 +6,10 @@ pub mod Parts
 pub mod ReadParts
 pub mod Entries
 pub mod Contents
+pub mod Spared
+pub mod Moves
 pub mod Containers
+pub mod Told
 pub mod Fronts
 pub mod Written
 pub mod Listings

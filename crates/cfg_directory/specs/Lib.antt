@@ -1,6 +1,7 @@
 pub mod Items
 pub mod Container
 pub mod Parts
+pub mod Spared
 pub mod Listing
 pub use Rattle.vt_outside.specs.Name
 pub use Rattle.vt_bytes.specs.Numbers

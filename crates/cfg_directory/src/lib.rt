@@ -10,12 +10,14 @@ mod container;
 mod directory;
 mod item;
 mod items;
+mod keeping;
 pub mod laws;
 mod listed;
 mod listing;
 mod reading;
+mod taking;
 
-pub use container::{ImageFault, read_image, write_image};
+pub use container::{ImageFault, read_image, take_image, write_image};
 pub use directory::directory_bytes;
 pub use item::Item;
 pub use items::Items;

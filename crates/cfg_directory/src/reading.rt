@@ -1,37 +1,46 @@
 //! The parts of a container, each read from the front of what is left.
 
-ghost use Rattle.std.specs.Prelude.{◌≡◌, ◌≢◌, ◌==◌, ◌*◌, ◌≤◌, [], ◌∷◌, ◌++◌, Ok, Err, IfOk, OnOk, length, take, drop, map, nat_lt, sum_by};
+ghost use Rattle.std.specs.Prelude.{◌≡◌, ◌≢◌, ◌==◌, ◌-◌, ◌*◌, ◌≤◌, Bool, List as ListOf, Ok, Err, IfOk, OnOk, length, take, drop, map, nat_lt, sum_by};
 ghost use Rattle.std.specs.List.{list_any, position};
 ghost use Rattle.std.specs.Str.{bytes_eq};
 ghost use Rattle.vt_bytes.specs.Numbers.{be};
 ghost use Rattle.cfg_directory.specs.declared.container.ImageFault.TheVariants.{OutOfMemory as NoMemory};
-ghost use Rattle.cfg_directory.specs.Items.{file_limit, bytes_limit};
-ghost use Rattle.cfg_directory.specs.Container.{Gives, HasEntries, listed_so, entry_so, item_so, items_so, contents_so};
+ghost use Rattle.cfg_directory.specs.Items.{file_limit};
+ghost use Rattle.cfg_directory.specs.Container.{Gives, HasEntries, listed_so, entry_so, items_so, contents_so};
 ghost use Rattle.cfg_directory.specs.Parts.{is_set, count_at, directory_at, flags_at, parts_of};
 
 use crate::container::ImageFault;
-use crate::item::Item;
 use crate::listed::Listed;
 use crate::listing::ENTRY_SIZE;
 use std::alloc::Global;
 use vt_bytes::get_be;
-use vt_outside::{Bytes, List, Name, OutOfMemory};
+use vt_outside::{List, Name};
 
 // How many files there may be, and how many bytes they may have in all.
 const FILE_LIMIT: u64 = 1024;
 
 const BYTES_LIMIT: u64 = 67_108_864;
 
-/// Reads the items that `bytes` are a container of.
+/// Reads the entries, the flags and the files' bytes of a container, which are as many bytes as the entries say.
 #[tactic(auto, unfolding(crate::specs::Parts::parts_of))]
-pub(crate) fn read_parts(alloc: Global, bytes: &[u8]) -> Result<List<Item>, ImageFault>
-    ensures exact { Gives (λ items. items) result (parts_of bytes.now) }
+pub(crate) fn read_outline(
+    alloc: Global,
+    bytes: &[u8],
+) -> Result<(List<Listed>, &[u8], &[u8]), ImageFault>
+    ensures exact { Gives (λ x. items_so x.0 (map is_set x.1.now) x.2.now) result (parts_of bytes.now) }
+    ensures few { IfOk result (λ x. length x.0 ≤ file_limit) }
+    ensures flags { IfOk result (λ x. length x.1.now ≡ length x.0) }
+    ensures sizes { IfOk result (λ x. sum_by (λ l. l.size) x.0 ≡ length x.2.now) }
+    ensures within { IfOk result (λ x. length x.2.now ≤ length bytes.now) }
+    ensures last { IfOk result (λ x. x.2.now ≡ drop (length bytes.now - length x.2.now) bytes.now) }
+    ensures there { IfOk result (λ _. HasEntries bytes.now) }
     ensures no_memory { result ≡ Err NoMemory → HasEntries bytes.now }
 {
     let (count, rest) = read_count(bytes)?;
     let (listed, rest) = read_directory(alloc, count, rest)?;
-    let (flags, rest) = read_flags(count, rest)?;
-    read_contents(alloc, listed.as_slice(), flags, rest)
+    let (flags, contents) = read_flags(count, rest)?;
+    check_size(listed.as_slice(), contents)?;
+    Ok((listed, flags, contents))
 }
 
 // The number of files.
@@ -63,6 +72,7 @@ fn read_directory(
     ensures exact { Gives (λ x. (x.0, x.1.now)) result (directory_at count bytes.now) }
     ensures count { IfOk result (λ x. length x.0 ≡ count) }
     ensures there { IfOk result (λ _. 64 * count ≤ length bytes.now) }
+    ensures rest { IfOk result (λ x. x.1.now ≡ drop (64 * count) bytes.now) }
     ensures no_memory { result ≡ Err NoMemory → 64 * count ≤ length bytes.now }
 {
     if bytes.len() < ENTRY_SIZE * count as usize {
@@ -127,6 +137,8 @@ fn is_selected(listed: &[Listed], select: u16) -> bool
 fn read_flags(count: u32, bytes: &[u8]) -> Result<(&[u8], &[u8]), ImageFault>
     ensures exact { Gives (λ x. (map is_set x.0.now, x.1.now)) result (flags_at count bytes.now) }
     ensures count { IfOk result (λ x. length x.0.now ≡ count) }
+    ensures there { IfOk result (λ _. count ≤ length bytes.now) }
+    ensures rest { IfOk result (λ x. x.1.now ≡ drop count bytes.now) }
     ensures sure { result ≢ Err NoMemory }
 {
     if bytes.len() < count as usize {
@@ -146,18 +158,13 @@ fn bad_flag(flags: &[u8]) -> Option<usize>
     flags.iter().position(|flag| *flag > 1)
 }
 
-// The items, of which the files' bytes are all that is left.
+// Refuses bytes, which are all that is left, of another number than the entries say.
 #[tactic(auto, unfolding(crate::specs::Container::contents_so))]
-fn read_contents(
-    alloc: Global,
-    listed: &[Listed],
-    flags: &[u8],
-    bytes: &[u8],
-) -> Result<List<Item>, ImageFault>
+fn check_size(listed: &[Listed], bytes: &[u8]) -> Result<(), ImageFault>
     requires few { length listed.now ≤ file_limit }
-    requires flags { length flags.now ≡ length listed.now }
-    ensures exact { Gives (λ items. items) result (contents_so listed.now (map is_set flags.now) bytes.now) }
-    ensures no_memory { result ≡ Err NoMemory → (sum_by (λ l. l.size) listed.now ≤ bytes_limit) × (length bytes.now ≡ sum_by (λ l. l.size) listed.now) }
+    ensures exact { (flags : ListOf Bool) → Gives (λ _. items_so listed.now flags bytes.now) result (contents_so listed.now flags bytes.now) }
+    ensures sizes { OnOk result (sum_by (λ l. l.size) listed.now ≡ length bytes.now) }
+    ensures sure { result ≢ Err NoMemory }
 {
     let total = total_of(listed);
     if total > BYTES_LIMIT {
@@ -169,54 +176,13 @@ fn read_contents(
     if bytes.len() as u64 > total {
         return Err(ImageFault::TrailingBytes);
     }
-    Ok(take_items(alloc, listed, flags, bytes)?)
+    Ok(())
 }
 
-// How many bytes the files have in all.
-fn total_of(listed: &[Listed]) -> u64
+/// Returns how many bytes files have in all.
+pub(crate) fn total_of(listed: &[Listed]) -> u64
     requires { length listed.now ≤ file_limit }
     ensures { result ≡ sum_by (λ l. l.size) listed.now }
 {
     listed.iter().map(|entry| u64::from(entry.size)).sum()
-}
-
-// The items, each with as many of the bytes as its entry says.
-fn take_items(
-    alloc: Global,
-    listed: &[Listed],
-    flags: &[u8],
-    bytes: &[u8],
-) -> Result<List<Item>, OutOfMemory>
-    requires flags { length flags.now ≡ length listed.now }
-    requires sizes { sum_by (λ l. l.size) listed.now ≡ length bytes.now }
-    ensures { IfOk result (λ items. items ≡ items_so listed.now (map is_set flags.now) bytes.now) }
-{
-    let mut items = List::new(alloc);
-    let mut rest = bytes;
-    for (index, entry) in listed.iter().enumerate() {
-        let (contents, after) = rest.split_at(entry.size as usize);
-        push_item(alloc, &mut items, entry, flags[index], contents)?;
-        rest = after;
-    }
-    Ok(items)
-}
-
-// Adds the item of an entry, which holds `contents`.
-fn push_item(
-    alloc: Global,
-    items: &mut List<Item>,
-    entry: &Listed,
-    flag: u8,
-    contents: &[u8],
-) -> Result<(), OutOfMemory>
-    ensures { OnOk result (items.new ≡ items.old ++ item_so entry.now (is_set flag) contents.now ∷ []) }
-{
-    let mut bytes = Bytes::new(alloc);
-    bytes.extend(contents)?;
-    items.push(Item {
-        name: entry.name,
-        select: entry.select,
-        writable: flag == 1,
-        bytes,
-    })
 }

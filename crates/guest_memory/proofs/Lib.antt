@@ -1,3 +1,4 @@
+pub mod Laid
 pub mod Held
 pub mod RamRuns
 pub mod Runs

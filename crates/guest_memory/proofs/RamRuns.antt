@@ -1,7 +1,7 @@
 -- Runs of bytes that are RAM.
 use Rattle.std.proofs.Common.{◌≡◌, ℕ, zero, suc, ◌+◌, ◌-◌, ◌<◌, Bool, true, false, inl, inr, arith, refl, sym, subst, add-zero}
 use Rattle.std.proofs.lemmas.Bool.{cases_lt, and_from, and_parts}
-use Rattle.vt_bytes.specs.Memory.{IsTop, IsRam, IsRamRange, is_ram}
+use Rattle.vt_bytes.specs.Memory.{IsTop, IsRam, IsRamRange}
 use Rattle.vt_bytes.proofs.Seen.{ram_tested, ram_from_test}
 use Rattle.guest_memory.specs.RamRange.{is_ram_range, LieInARange}
 

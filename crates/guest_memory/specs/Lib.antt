@@ -1,3 +1,4 @@
+pub mod Blocks
 pub mod Frames
 pub mod RamRange
 pub use Rattle.vt_bytes.specs.Numbers

@@ -1,9 +1,11 @@
-ghost use Rattle.std.specs.Prelude.{◌≡◌, ℕ, ◌+◌, ◌<◌, ◌≤◌, ◌%◌, ◌↔◌, [], ◌∷◌, length, IsTrue, IfOk, slice_index, false};
+ghost use Rattle.std.specs.Prelude.{◌≡◌, ℕ, ◌+◌, ◌<◌, ◌≤◌, ◌%◌, ◌↔◌, [], ◌∷◌, length, take, IsTrue, IfOk, false};
 ghost use Rattle.std.specs.Borrow.{Lends, Array, u8, sem};
-ghost use Rattle.vt_bytes.specs.Memory.{IsTop, IsRam, IsMemory, high_start, ram_ranges, at, bytes_at, with_bytes};
+ghost use Rattle.vt_bytes.specs.Memory.{IsTop, IsRam, IsMemory, ram_ranges, at, bytes_at, with_bytes};
 ghost use Rattle.guest_memory.specs.Frames.{frame_limit, HoldsFill};
+ghost use Rattle.guest_memory.specs.Blocks.{IsPlaceOf, room_in_block};
 ghost use Rattle.guest_memory.specs.contracts.memory.GuestMemory.{the_row};
 
+use crate::blocks::Blocks;
 use std::alloc::Global;
 use std::marker::Model;
 use vt_bytes::AddressRange;
@@ -47,40 +49,35 @@ pub fn ram_ranges(top: u32) -> [AddressRange; 3]
 #[derive(Drop)]
 pub struct GuestMemory {
     top: u32,
-    fill: u8,
-    low: Vec<u8>,
-    bios: Vec<u8>,
-    high: Vec<u8>,
+    // The first MiB, of which a part is no RAM, and then the 32 MiB that end at the top.
+    blocks: Blocks,
 }
 
 impl Model for GuestMemory {
-    ghost use Rattle.std.specs.Prelude.{[], ◌∷◌};
-    ghost use Rattle.vt_bytes.specs.Memory.{Memory, IsMemory};
+    ghost use Rattle.std.specs.Prelude.{◌≡◌, length};
+    ghost use Rattle.vt_bytes.specs.Memory.{Memory, IsTop};
+    ghost use Rattle.guest_memory.specs.Blocks.{memory_of};
 
     ghost Value = { Memory };
 
-    ghost view = { λ m. record { top = m.top; fill = m.fill; parts = m.low.items ∷ m.bios.items ∷ m.high.items ∷ [] } };
+    ghost view = { λ m. memory_of m.top m.blocks };
 
-    ghost invariant = { λ m. IsMemory (record { top = m.top; fill = m.fill; parts = m.low.items ∷ m.bios.items ∷ m.high.items ∷ [] }) };
+    ghost invariant = { λ m. IsTop m.top × (length m.blocks.bytes ≡ 0x2100000) };
 }
 
 impl GuestMemory {
     /// Makes the memory of a guest whose RAM ends at the address `top`, and sets each byte of RAM to `fill`. `top` must be a
-    /// multiple of 1 MiB, from 64 MiB to 3 GiB. All of RAM, 32 MiB and 768 KiB, comes from `alloc`. It fails with `OutOfMemory`
-    /// only where `alloc` has no room for it.
+    /// multiple of 1 MiB, from 64 MiB to 3 GiB. Room for all of RAM, some 33 MiB, comes from `alloc` now, but none of it is written
+    /// before a byte near by is changed. It fails with `OutOfMemory` only where `alloc` has no room for it.
     pub fn begin(alloc: Global, top: u32, fill: u8) -> Result<GuestMemory, OutOfMemory>
         requires { IsTop top }
         ensures top { IfOk result (λ memory. memory.top ≡ top) }
         ensures fill { IfOk result (λ memory. memory.fill ≡ fill) }
         ensures filled { IfOk result (λ memory. (a : ℕ) → IsRam top a → at memory a ≡ fill) }
+        ensures lawful { IfOk result IsMemory }
     {
-        Ok(GuestMemory {
-            top,
-            fill,
-            low: filled(alloc, LOW_END, fill)?,
-            bios: filled(alloc, BIOS_END - BIOS_START, fill)?,
-            high: filled(alloc, HIGH_BYTES, fill)?,
-        })
+        let blocks = Blocks::begin(alloc, fill)?;
+        Ok(GuestMemory { top, blocks })
     }
 
     /// Returns the address past the last byte of RAM. It is a multiple of 1 MiB, from 64 MiB to 3 GiB.
@@ -95,7 +92,7 @@ impl GuestMemory {
     pub fn fill(&self) -> u8
         ensures { result ≡ self.now.fill }
     {
-        self.fill
+        self.blocks.fill()
     }
 
     /// Tells whether the guest address `address` is RAM: it lies in one of the ranges of `ram_ranges`.
@@ -131,16 +128,7 @@ impl GuestMemory {
         ensures value { result.now ≡ bytes_at self.now address len }
         ensures len { length result.now ≡ len }
     {
-        if address < LOW_END {
-            let place = address as usize;
-            &self.low[place..place + len as usize]
-        } else if address < BIOS_END {
-            let place = (address - BIOS_START) as usize;
-            &self.bios[place..place + len as usize]
-        } else {
-            let place = self.place_in_high(address);
-            &self.high[place..place + len as usize]
-        }
+        self.blocks.window(self.place_of(address), len as usize)
     }
 
     /// Lends the `len` bytes from the guest address `address` on, to be changed. `address` must be RAM, and all of them must lie
@@ -148,49 +136,37 @@ impl GuestMemory {
     pub fn window_mut(&mut self, address: u64, len: u32) -> &mut [u8]
         requires ram { IsRam self.old.top address }
         requires frame { address % 4096 + len ≤ 4096 }
-        ensures* lends { sem 𝓛 (Lends the_row (Array u8 0) self.entry result (with_bytes self.old address)) }
+        ensures* lends { sem 𝓛 (Lends the_row (Array u8 0) self.entry result
+            (λ bytes. with_bytes self.old address (take (room_in_block address) bytes))) }
         ensures value { result.now ≡ bytes_at self.old address len }
         ensures len { length result.now ≡ len }
         ensures lawful { IsMemory self.old }
     {
-        if address < LOW_END {
-            let place = address as usize;
-            self.low.slice_mut(place..place + len as usize)
-        } else if address < BIOS_END {
-            let place = (address - BIOS_START) as usize;
-            self.bios.slice_mut(place..place + len as usize)
-        } else {
-            let place = self.place_in_high(address);
-            self.high.slice_mut(place..place + len as usize)
-        }
+        let place = self.place_of(address);
+        self.blocks.window_mut(place, len as usize)
     }
 
     /// Tells whether a frame of 4,096 bytes may hold other bytes than the fill byte. `frame` must be below 8,448: the first 256
-    /// frames are those of the first MiB, and the others those of the 32 MiB that end at the top. Today each frame counts as
-    /// touched.
+    /// frames are those of the first MiB, and the others those of the 32 MiB that end at the top. A frame is touched once
+    /// bytes were written, or lent to be changed, in it or in another frame of the same 65,536 bytes.
     pub fn touched(&self, frame: u32) -> bool
         requires { frame < frame_limit }
         ensures { result ≡ false → HoldsFill self.now frame }
     {
-        true
+        let place = frame as usize * FRAME_BYTES as usize;
+        self.blocks.is_touched(place)
     }
 
-    // Where the range below the top has the byte of an address past 1 MiB.
-    fn place_in_high(&self, address: u64) -> usize
-        requires past_bios { 0x100000 ≤ address }
-        requires ram { IsRam self.now.top address }
-        ensures place { result + high_start self.now.top ≡ address }
-        ensures within { result < 0x2000000 }
+    // Where the blocks have the byte of an address.
+    fn place_of(&self, address: u64) -> usize
+        requires { IsRam self.now.top address }
+        ensures { IsPlaceOf self.now.top address result }
     {
-        let start = u64::from(self.top) - HIGH_BYTES;
-        (address - start) as usize
+        if address < BIOS_END {
+            address as usize
+        } else {
+            let start = u64::from(self.top) - HIGH_BYTES;
+            (BIOS_END + (address - start)) as usize
+        }
     }
-}
-
-// So many fill bytes.
-fn filled(alloc: Global, len: u64, fill: u8) -> Result<Vec<u8>, OutOfMemory>
-    ensures len { IfOk result (λ bytes. length bytes.items ≡ len) }
-    ensures filled { IfOk result (λ bytes. (i : ℕ) → i < len → slice_index bytes.items i ≡ fill) }
-{
-    Ok(vec![in alloc; fill; len as usize]?)
 }

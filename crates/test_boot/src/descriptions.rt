@@ -5,340 +5,407 @@ use std::alloc::Global;
 use std::test::Fail;
 use vt_outside::{Bytes, OutOfMemory};
 
-// Each is a description of its own, and the line of its first fault.
-static REFUSED: [(&str, &str); 44] = [
-    // tops
-    (
-        "version = 1\ntop_mib = 63\nsystem = {}\n",
-        "description: rule 1 index 0\n",
-    ),
-    (
-        "version = 1\ntop_mib = 3073\nsystem = {}\n",
-        "description: rule 1 index 0\n",
-    ),
-    (
-        "version = 1\ntop_mib = 64.0\nsystem = {}\n",
-        "description: wrong kind root 0 top_mib\n",
-    ),
-    (
-        "version = 1\ntop_mib = \"64\"\nsystem = {}\n",
-        "description: wrong kind root 0 top_mib\n",
-    ),
-    (
-        "version = 1\ntop_mib = -64\nsystem = {}\n",
-        "description: out of range root 0 top_mib\n",
-    ),
-    (
-        "version = 1\ntop_mib = 4294967360\nsystem = {}\n",
-        "description: out of range root 0 top_mib\n",
-    ),
-    (
-        "version = 1\ntop_mib = true\nsystem = {}\n",
-        "description: wrong kind root 0 top_mib\n",
-    ),
-    // TOML has no integers of more than 64 bits with their sign
-    (
-        "version = 1\ntop_mib = 18446744073709551680\nsystem = {}\n",
-        "description: not TOML\n",
-    ),
-    (
-        "version = 1\ntop_mib = 064\nsystem = {}\n",
-        "description: not TOML\n",
-    ),
-    (
-        "version = 1\ntop_mib = 0x\nsystem = {}\n",
-        "description: not TOML\n",
-    ),
-    (
-        "version = 1\ntop_mib = \nsystem = {}\n",
-        "description: not TOML\n",
-    ),
-    // versions
-    (
-        "version = 2\ntop_mib = 64\nsystem = {}\n",
-        "description: out of range root 0 version\n",
-    ),
-    (
-        "version = 0\ntop_mib = 64\nsystem = {}\n",
-        "description: out of range root 0 version\n",
-    ),
-    (
-        "version = \"1\"\ntop_mib = 64\nsystem = {}\n",
-        "description: wrong kind root 0 version\n",
-    ),
-    (
-        "version = 1.0\ntop_mib = 64\nsystem = {}\n",
-        "description: wrong kind root 0 version\n",
-    ),
-    // keys that aren't there
-    (
-        "top_mib = 64\nsystem = {}\n",
-        "description: missing key root 0 version\n",
-    ),
-    (
-        "version = 1\nsystem = {}\n",
-        "description: missing key root 0 top_mib\n",
-    ),
-    (
-        "version = 1\ntop_mib = 64\n",
-        "description: missing key root 0 system\n",
-    ),
-    // what isn't one table
-    (
-        "version = 1\ntop_mib = 64\nsystem = \"x\"\n",
-        "description: wrong kind root 0 system\n",
-    ),
-    (
-        "version = 1\ntop_mib = 64\nsystem = []\n",
-        "description: wrong kind root 0 system\n",
-    ),
-    (
-        "version = 1\ntop_mib = 64\n[[system]]\n",
-        "description: wrong kind root 0 system\n",
-    ),
-    (
-        "version = 1\ntop_mib = 64\n[system]\n[system]\n",
-        "description: not TOML\n",
-    ),
-    (
-        "version = 1\ntop_mib = 64\nacpi = 5\nsystem = {}\n",
-        "description: wrong kind root 0 acpi\n",
-    ),
-    (
-        "version = 1\ntop_mib = 64\nacpi = []\nsystem = {}\n",
-        "description: wrong kind root 0 acpi\n",
-    ),
-    (
-        "version = 1\ntop_mib = 64\nsystem = {}\n[[acpi]]\n",
-        "description: wrong kind root 0 acpi\n",
-    ),
-    (
-        "version = 1\ntop_mib = 64\nsystem = {}\n[acpi]\n[acpi]\n",
-        "description: not TOML\n",
-    ),
-    (
-        "version = 1\ntop_mib = 64\nhpet = true\nacpi = {}\nsystem = {}\n",
-        "description: wrong kind root 0 hpet\n",
-    ),
-    (
-        "version = 1\ntop_mib = 64\nsystem = {}\nacpi = {}\n[[hpet]]\n",
-        "description: wrong kind root 0 hpet\n",
-    ),
-    // keys that are there twice, or unknown, or in another case
-    (
-        "version = 1\ntop_mib = 64\ntop_mib = 64\nsystem = {}\n",
-        "description: not TOML\n",
-    ),
-    (
-        "version = 1\ntop_mib = 64\nsystem = {}\ncolour = \"red\"\n",
-        "description: unknown key root 0 colour\n",
-    ),
-    (
-        "version = 1\ntop_mib = 64\nsystem = {}\noem_string = []\n",
-        "description: unknown key root 0 oem_string\n",
-    ),
-    (
-        "version = 1\ntop_mib = 64\nsystem = {}\n\"\" = 1\n",
-        "description: unknown key root 0 \n",
-    ),
-    (
-        "version = 1\ntop_mib = 64\nSystem = {}\n",
-        "description: unknown key root 0 System\n",
-    ),
-    (
-        "version = 1\ntop_mib = 64\nsystem = {}\n[ignored.nothing]\n",
-        "description: unknown key root 0 ignored\n",
-    ),
-    (
-        "version = 1\ntop_mib = 64\nsystem = {}\nversion.x = 1\n",
-        "description: not TOML\n",
-    ),
-    // what is no document
-    (
-        "version = 1\ntop_mib = 64\nsystem = {}\n]\n",
-        "description: not TOML\n",
-    ),
-    (
-        "version = 1\ntop_mib = 64\nsystem = {\n",
-        "description: not TOML\n",
-    ),
-    (
-        "version = 1\ntop_mib = 64\nsystem\n",
-        "description: not TOML\n",
-    ),
-    (
-        "version = 1\ntop_mib = 64\nsystem = {}\n\u{feff}",
-        "description: not TOML\n",
-    ),
-    (
-        "version = 1 top_mib = 64\nsystem = {}\n",
-        "description: not TOML\n",
-    ),
-    ("", "description: missing key root 0 version\n"),
-    ("# nothing\n", "description: missing key root 0 version\n"),
-    ("\n", "description: missing key root 0 version\n"),
-    ("\0", "description: not TOML\n"),
-];
+// Descriptions, and the line of the first fault of each. A row of a table begins with what the rows from there on are about, where that
+// is said, and has the lines of a text, an arrow and the line of a fault. A table is one text, since a literal costs a proof next to
+// nothing, and an array of them much.
+const REFUSED: &str = r#"tops
+version = 1
+top_mib = 63
+system = {}
+=> description: rule 1 index 0
+---
+version = 1
+top_mib = 3073
+system = {}
+=> description: rule 1 index 0
+---
+version = 1
+top_mib = 64.0
+system = {}
+=> description: wrong kind root 0 top_mib
+---
+version = 1
+top_mib = "64"
+system = {}
+=> description: wrong kind root 0 top_mib
+---
+version = 1
+top_mib = -64
+system = {}
+=> description: out of range root 0 top_mib
+---
+version = 1
+top_mib = 4294967360
+system = {}
+=> description: out of range root 0 top_mib
+---
+version = 1
+top_mib = true
+system = {}
+=> description: wrong kind root 0 top_mib
+--- TOML has no integers of more than 64 bits with their sign
+version = 1
+top_mib = 18446744073709551680
+system = {}
+=> description: not TOML
+---
+version = 1
+top_mib = 064
+system = {}
+=> description: not TOML
+---
+version = 1
+top_mib = 0x
+system = {}
+=> description: not TOML
+---
+version = 1
+top_mib = 
+system = {}
+=> description: not TOML
+--- versions
+version = 2
+top_mib = 64
+system = {}
+=> description: out of range root 0 version
+---
+version = 0
+top_mib = 64
+system = {}
+=> description: out of range root 0 version
+---
+version = "1"
+top_mib = 64
+system = {}
+=> description: wrong kind root 0 version
+---
+version = 1.0
+top_mib = 64
+system = {}
+=> description: wrong kind root 0 version
+--- keys that aren't there
+top_mib = 64
+system = {}
+=> description: missing key root 0 version
+---
+version = 1
+system = {}
+=> description: missing key root 0 top_mib
+---
+version = 1
+top_mib = 64
+=> description: missing key root 0 system
+--- what isn't one table
+version = 1
+top_mib = 64
+system = "x"
+=> description: wrong kind root 0 system
+---
+version = 1
+top_mib = 64
+system = []
+=> description: wrong kind root 0 system
+---
+version = 1
+top_mib = 64
+[[system]]
+=> description: wrong kind root 0 system
+---
+version = 1
+top_mib = 64
+[system]
+[system]
+=> description: not TOML
+---
+version = 1
+top_mib = 64
+acpi = 5
+system = {}
+=> description: wrong kind root 0 acpi
+---
+version = 1
+top_mib = 64
+acpi = []
+system = {}
+=> description: wrong kind root 0 acpi
+---
+version = 1
+top_mib = 64
+system = {}
+[[acpi]]
+=> description: wrong kind root 0 acpi
+---
+version = 1
+top_mib = 64
+system = {}
+[acpi]
+[acpi]
+=> description: not TOML
+---
+version = 1
+top_mib = 64
+hpet = true
+acpi = {}
+system = {}
+=> description: wrong kind root 0 hpet
+---
+version = 1
+top_mib = 64
+system = {}
+acpi = {}
+[[hpet]]
+=> description: wrong kind root 0 hpet
+--- keys that are there twice, or unknown, or in another case
+version = 1
+top_mib = 64
+top_mib = 64
+system = {}
+=> description: not TOML
+---
+version = 1
+top_mib = 64
+system = {}
+colour = "red"
+=> description: unknown key root 0 colour
+---
+version = 1
+top_mib = 64
+system = {}
+oem_string = []
+=> description: unknown key root 0 oem_string
+---
+version = 1
+top_mib = 64
+System = {}
+=> description: unknown key root 0 System
+---
+version = 1
+top_mib = 64
+system = {}
+[ignored.nothing]
+=> description: unknown key root 0 ignored
+---
+version = 1
+top_mib = 64
+system = {}
+version.x = 1
+=> description: not TOML
+--- what is no document
+version = 1
+top_mib = 64
+system = {}
+]
+=> description: not TOML
+---
+version = 1
+top_mib = 64
+system = {
+=> description: not TOML
+---
+version = 1
+top_mib = 64
+system
+=> description: not TOML
+---
+version = 1 top_mib = 64
+system = {}
+=> description: not TOML
+---
+=> description: missing key root 0 version
+---
+# nothing
+=> description: missing key root 0 version
+---
+
+=> description: missing key root 0 version
+"#;
 
 // What stands below the header of `system` in a description that is lawful above it, keys of that table or other
 // tables; and the line of the first fault.
-static REFUSED_SYSTEMS: [(&str, &str); 50] = [
-    // keys
-    (
-        "colour = \"red\"",
-        "description: unknown key system 0 colour\n",
-    ),
-    (
-        "Product = \"VM\"",
-        "description: unknown key system 0 Product\n",
-    ),
-    (
-        "product = \"VM\"\nproduct = \"VM\"",
-        "description: not TOML\n",
-    ),
-    (
-        "product.name = \"VM\"",
-        "description: wrong kind system 0 product\n",
-    ),
-    // values
-    ("product = 5", "description: wrong kind system 0 product\n"),
-    (
-        "product = 1979-05-27T07:32:00Z",
-        "description: wrong kind system 0 product\n",
-    ),
-    (
-        "product = 1979-05-27",
-        "description: wrong kind system 0 product\n",
-    ),
-    ("product = []", "description: wrong kind system 0 product\n"),
-    (
-        "product = false",
-        "description: wrong kind system 0 product\n",
-    ),
-    ("product =", "description: not TOML\n"),
-    ("product = \"VM", "description: not TOML\n"),
-    ("product = 'VM\n'", "description: not TOML\n"),
-    // texts with another byte than 0x20 to 0x7E
-    ("product = \"V\tM\"", "description: rule 3 index 0\n"),
-    ("product = \"V\\tM\"", "description: rule 3 index 0\n"),
-    ("product = \"V\\u0001M\"", "description: rule 3 index 0\n"),
-    ("product = \"V\\u007fM\"", "description: rule 3 index 0\n"),
-    ("product = \"Vé\"", "description: rule 3 index 0\n"),
-    ("product = \"V\\u0000M\"", "description: rule 3 index 0\n"),
-    // UUIDs
-    (
-        "uuid = \"00000000-0000-0000-0000-000000000000\"",
-        "description: rule 4 index 0\n",
-    ),
-    (
-        "uuid = \"ffffffff-ffff-ffff-ffff-ffffffffffff\"",
-        "description: rule 4 index 0\n",
-    ),
-    ("uuid = 5", "description: wrong kind system 0 uuid\n"),
-    ("uuid = \"x\"", "description: out of range system 0 uuid\n"),
-    ("uuid = \"\"", "description: out of range system 0 uuid\n"),
-    (
-        "uuid = \"0011223344556677 8899AABBCCDDEEFF\"",
-        "description: out of range system 0 uuid\n",
-    ),
-    (
-        "uuid = \"0011223344556677889900112233445\"",
-        "description: out of range system 0 uuid\n",
-    ),
-    (
-        "uuid = \"001122334455667788990011223344556\"",
-        "description: out of range system 0 uuid\n",
-    ),
-    // the table `acpi`
-    (
-        "[acpi]\ncolour = 5",
-        "description: unknown key acpi 0 colour\n",
-    ),
-    (
-        "[acpi]\noem_id = 5",
-        "description: wrong kind acpi 0 oem_id\n",
-    ),
-    (
-        "[acpi]\noem_id = \"EXAMPLE\"",
-        "description: rule 16 index 0\n",
-    ),
-    (
-        "[acpi]\noem_id = \"EXMPL \"",
-        "description: rule 16 index 0\n",
-    ),
-    ("[acpi]\noem_id = \" \"", "description: rule 16 index 0\n"),
-    (
-        "[acpi]\noem_id = \"EX\\tPL\"",
-        "description: rule 3 index 0\n",
-    ),
-    (
-        "[acpi]\noem_id = \"EX\\u007f\"",
-        "description: rule 3 index 0\n",
-    ),
-    ("[acpi]\noem_id = \"É\"", "description: rule 3 index 0\n"),
-    (
-        "[acpi]\noem_table_id = [\"VM\"]",
-        "description: wrong kind acpi 0 oem_table_id\n",
-    ),
-    (
-        "[acpi]\noem_table_id = \"VMTABLES1\"",
-        "description: rule 16 index 1\n",
-    ),
-    (
-        "[acpi]\noem_table_id = \"VMTABLE \"",
-        "description: rule 16 index 1\n",
-    ),
-    (
-        "[acpi]\noem_table_id = \"VM\\u0000\"",
-        "description: rule 3 index 0\n",
-    ),
-    // the table `hpet`
-    ("[hpet]", "description: rule 13 index 1\n"),
-    (
-        "[acpi]\n[hpet]\ncolour = 5",
-        "description: unknown key hpet 0 colour\n",
-    ),
-    (
-        "[acpi]\n[hpet]\naddress = 0xFED00200",
-        "description: rule 18 index 0\n",
-    ),
-    (
-        "[acpi]\n[hpet]\naddress = 4294967296",
-        "description: out of range hpet 0 address\n",
-    ),
-    (
-        "[acpi]\n[hpet]\naddress = -1024",
-        "description: out of range hpet 0 address\n",
-    ),
-    (
-        "[acpi]\n[hpet]\naddress = \"0xFED00000\"",
-        "description: wrong kind hpet 0 address\n",
-    ),
-    (
-        "[acpi]\n[hpet]\nblock_id = 4294967296",
-        "description: out of range hpet 0 block_id\n",
-    ),
-    (
-        "[acpi]\n[hpet]\nblock_id = 1.0",
-        "description: wrong kind hpet 0 block_id\n",
-    ),
-    (
-        "[acpi]\n[hpet]\nnumber = 256",
-        "description: out of range hpet 0 number\n",
-    ),
-    (
-        "[acpi]\n[hpet]\nnumber = -1",
-        "description: out of range hpet 0 number\n",
-    ),
-    (
-        "[acpi]\n[hpet]\nmin_tick = 65536",
-        "description: out of range hpet 0 min_tick\n",
-    ),
-    (
-        "[acpi]\n[hpet]\nmin_tick = false",
-        "description: wrong kind hpet 0 min_tick\n",
-    ),
-];
+const REFUSED_SYSTEMS: &str = r#"keys
+colour = "red"
+=> description: unknown key system 0 colour
+---
+Product = "VM"
+=> description: unknown key system 0 Product
+---
+product = "VM"
+product = "VM"
+=> description: not TOML
+---
+product.name = "VM"
+=> description: wrong kind system 0 product
+--- values
+product = 5
+=> description: wrong kind system 0 product
+---
+product = 1979-05-27T07:32:00Z
+=> description: wrong kind system 0 product
+---
+product = 1979-05-27
+=> description: wrong kind system 0 product
+---
+product = []
+=> description: wrong kind system 0 product
+---
+product = false
+=> description: wrong kind system 0 product
+---
+product =
+=> description: not TOML
+---
+product = "VM
+=> description: not TOML
+---
+product = 'VM
+'
+=> description: not TOML
+--- texts with another byte than 0x20 to 0x7E
+product = "V\tM"
+=> description: rule 3 index 0
+---
+product = "V\u0001M"
+=> description: rule 3 index 0
+---
+product = "V\u007fM"
+=> description: rule 3 index 0
+---
+product = "Vé"
+=> description: rule 3 index 0
+---
+product = "V\u0000M"
+=> description: rule 3 index 0
+--- UUIDs
+uuid = "00000000-0000-0000-0000-000000000000"
+=> description: rule 4 index 0
+---
+uuid = "ffffffff-ffff-ffff-ffff-ffffffffffff"
+=> description: rule 4 index 0
+---
+uuid = 5
+=> description: wrong kind system 0 uuid
+---
+uuid = "x"
+=> description: out of range system 0 uuid
+---
+uuid = ""
+=> description: out of range system 0 uuid
+---
+uuid = "0011223344556677 8899AABBCCDDEEFF"
+=> description: out of range system 0 uuid
+---
+uuid = "0011223344556677889900112233445"
+=> description: out of range system 0 uuid
+---
+uuid = "001122334455667788990011223344556"
+=> description: out of range system 0 uuid
+--- the table `acpi`
+[acpi]
+colour = 5
+=> description: unknown key acpi 0 colour
+---
+[acpi]
+oem_id = 5
+=> description: wrong kind acpi 0 oem_id
+---
+[acpi]
+oem_id = "EXAMPLE"
+=> description: rule 16 index 0
+---
+[acpi]
+oem_id = "EXMPL "
+=> description: rule 16 index 0
+---
+[acpi]
+oem_id = " "
+=> description: rule 16 index 0
+---
+[acpi]
+oem_id = "EX\tPL"
+=> description: rule 3 index 0
+---
+[acpi]
+oem_id = "EX\u007f"
+=> description: rule 3 index 0
+---
+[acpi]
+oem_id = "É"
+=> description: rule 3 index 0
+---
+[acpi]
+oem_table_id = ["VM"]
+=> description: wrong kind acpi 0 oem_table_id
+---
+[acpi]
+oem_table_id = "VMTABLES1"
+=> description: rule 16 index 1
+---
+[acpi]
+oem_table_id = "VMTABLE "
+=> description: rule 16 index 1
+---
+[acpi]
+oem_table_id = "VM\u0000"
+=> description: rule 3 index 0
+--- the table `hpet`
+[hpet]
+=> description: rule 13 index 1
+---
+[acpi]
+[hpet]
+colour = 5
+=> description: unknown key hpet 0 colour
+---
+[acpi]
+[hpet]
+address = 0xFED00200
+=> description: rule 18 index 0
+---
+[acpi]
+[hpet]
+address = 4294967296
+=> description: out of range hpet 0 address
+---
+[acpi]
+[hpet]
+address = -1024
+=> description: out of range hpet 0 address
+---
+[acpi]
+[hpet]
+address = "0xFED00000"
+=> description: wrong kind hpet 0 address
+---
+[acpi]
+[hpet]
+block_id = 4294967296
+=> description: out of range hpet 0 block_id
+---
+[acpi]
+[hpet]
+block_id = 1.0
+=> description: wrong kind hpet 0 block_id
+---
+[acpi]
+[hpet]
+number = 256
+=> description: out of range hpet 0 number
+---
+[acpi]
+[hpet]
+number = -1
+=> description: out of range hpet 0 number
+---
+[acpi]
+[hpet]
+min_tick = 65536
+=> description: out of range hpet 0 min_tick
+---
+[acpi]
+[hpet]
+min_tick = false
+=> description: wrong kind hpet 0 min_tick
+"#;
 
 // Bytes below that header that are no UTF-8: a byte that never stands there, a lone byte of the middle, an overlong
 // form, a surrogate, and a character that is cut off.
@@ -349,6 +416,9 @@ static NO_TEXT: [&[u8]; 5] = [
     b"# \xed\xa0\x80\n",
     b"# \xe2\x82",
 ];
+
+// The line for a text with another byte than 0x20 to 0x7E.
+const NO_TEXT_LINE: &str = "description: rule 3 index 0\n";
 
 // The line for bytes that are no document.
 const NOT_TOML: &str = "description: not TOML\n";
@@ -383,18 +453,53 @@ const HEAD: &[u8] = b"version = 1\ntop_mib = 64\n[system]\n";
 
 #[test]
 fn refused_descriptions(rt: HostRuntime) -> Result<(), Fail> {
-    for (description, line) in &REFUSED {
-        is_refused(rt.alloc(), description, description.as_bytes(), line)?;
-    }
-    Ok(())
+    are_refused(rt.alloc(), b"", REFUSED, "=> ")?;
+    are_refused_by_escapes(rt.alloc())
 }
 
 #[test]
 fn refused_systems(rt: HostRuntime) -> Result<(), Fail> {
-    for (system, line) in &REFUSED_SYSTEMS {
-        is_refused_system(rt.alloc(), system, system.as_bytes(), line)?;
+    // without their last line feeds
+    are_refused(rt.alloc(), HEAD, REFUSED_SYSTEMS, "\n=> ")?;
+    is_refused_system(rt.alloc(), "a tab", b"product = \"V\tM\"", NO_TEXT_LINE)
+}
+
+// The text of each row, behind `head` and up to the arrow, is refused with the line behind the arrow.
+fn are_refused(alloc: Global, head: &[u8], rows: &str, arrow: &str) -> Result<(), Fail> {
+    for row in rows.split("---") {
+        row_is_refused(alloc, head, row, arrow)?;
     }
     Ok(())
+}
+
+fn row_is_refused(alloc: Global, head: &[u8], row: &str, arrow: &str) -> Result<(), Fail> {
+    match text_and_line(row, arrow) {
+        Some((text, line)) => is_refused_behind(alloc, text, head, text.as_bytes(), line),
+        None => Err(Fail::new("a row that has no arrow")),
+    }
+}
+
+// What stands before and behind the arrow, below the first line of a row.
+fn text_and_line<'a>(row: &'a str, arrow: &str) -> Option<(&'a str, &'a str)> {
+    let (_, lines) = row.split_once('\n')?;
+    lines.split_once(arrow)
+}
+
+// What a table of rows can't show: an empty key, whose line ends in a space, a mark behind the text, and a NUL.
+fn are_refused_by_escapes(alloc: Global) -> Result<(), Fail> {
+    is_refused(
+        alloc,
+        "an empty key",
+        b"version = 1\ntop_mib = 64\nsystem = {}\n\"\" = 1\n",
+        "description: unknown key root 0 \n",
+    )?;
+    is_refused(
+        alloc,
+        "a mark behind the text",
+        b"version = 1\ntop_mib = 64\nsystem = {}\n\xef\xbb\xbf",
+        NOT_TOML,
+    )?;
+    is_refused(alloc, "a NUL", b"\0", NOT_TOML)
 }
 
 #[test]
@@ -439,7 +544,17 @@ fn is_refused(alloc: Global, case: &str, description: &[u8], line: &str) -> Resu
 
 // A description with these bytes below the header of `system` is refused with this line.
 fn is_refused_system(alloc: Global, case: &str, system: &[u8], line: &str) -> Result<(), Fail> {
-    let description = with_system(alloc, system)?;
+    is_refused_behind(alloc, case, HEAD, system, line)
+}
+
+fn is_refused_behind(
+    alloc: Global,
+    case: &str,
+    head: &[u8],
+    text: &[u8],
+    line: &str,
+) -> Result<(), Fail> {
+    let description = joined(alloc, head, text)?;
     is_refused(alloc, case, description.as_slice(), line)
 }
 
@@ -465,10 +580,9 @@ fn are_refused_arrays(alloc: Global, depth: u32) -> Result<(), Fail> {
     is_refused(alloc, "arrays", description.as_slice(), NOT_TOML)
 }
 
-// A description with these bytes below the header of `system`.
-fn with_system(alloc: Global, system: &[u8]) -> Result<Bytes, OutOfMemory> {
-    let mut description = copy_of(alloc, HEAD)?;
-    description.extend(system)?;
+fn joined(alloc: Global, head: &[u8], text: &[u8]) -> Result<Bytes, OutOfMemory> {
+    let mut description = copy_of(alloc, head)?;
+    description.extend(text)?;
     Ok(description)
 }
 
@@ -481,7 +595,7 @@ fn with_text(alloc: Global, key: &str, text: &[u8]) -> Result<Bytes, OutOfMemory
 
 // A description whose product is arrays within arrays.
 fn with_arrays(alloc: Global, depth: u32) -> Result<Bytes, OutOfMemory> {
-    let mut description = with_system(alloc, b"product = ")?;
+    let mut description = joined(alloc, HEAD, b"product = ")?;
     put_arrays(&mut description, depth)?;
     Ok(description)
 }

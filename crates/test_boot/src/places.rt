@@ -19,11 +19,7 @@ fn places_that_are_refused(rt: HostRuntime) -> Result<(), Fail> {
     for (fails, index, say) in &REFUSED {
         ends_placed(rt.alloc(), fails, &no_room_at(*index, say))?;
     }
-    Ok(())
-}
-
-#[test]
-fn a_place_that_is_not_asked_for(rt: HostRuntime) -> Result<(), Fail> {
+    // a place that is not asked for
     ends_placed(rt.alloc(), &[2], &booted(MINIMAL_DUMP))
 }
 

@@ -1,8 +1,8 @@
 //! Sinks that fail.
 
 use fixtures::{
-    MINIMAL, MINIMAL_DUMP, ROOM, Run, boot, booted, copy_of, ends, is_same, sink, status_of,
-    write_fault,
+    Ending, MINIMAL, MINIMAL_DUMP, ROOM, Run, boot, booted, copy_of, ends, is_same, sink,
+    status_of, write_fault,
 };
 use std::alloc::Global;
 use std::io::{self, ErrorKind, Write};
@@ -11,13 +11,13 @@ use vmtables::{State, Status, World};
 use vt_outside::{ListSink, OutOfMemory, SureSink, SureSource, WriteSink};
 
 // Room for so many bytes, the writes that fail, and how many bytes of the dump are taken. The machine is loaded before its dump
-// is written.
+// is written: the first line, the lines of each of its two frames, and the last line.
 static FAILING: [(&str, usize, &[u32], usize); 11] = [
     ("the first write fails", ROOM, &[0], 0),
     ("the second write fails", ROOM, &[1], 21),
-    ("the third write fails", ROOM, &[2], 63),
-    ("the last writes fail", ROOM, &[5, 6], 189),
-    ("the last write fails", ROOM, &[6], 231),
+    ("the third write fails", ROOM, &[2], 105),
+    ("the last writes fail", ROOM, &[2, 3], 105),
+    ("the last write fails", ROOM, &[3], 231),
     ("no room", 0, &[], 0),
     ("room for a byte", 1, &[], 1),
     ("room for a line", 21, &[], 21),
@@ -27,11 +27,11 @@ static FAILING: [(&str, usize, &[u32], usize); 11] = [
 ];
 
 #[test]
-fn sinks_that_fail(rt: HostRuntime) -> Result<(), Fail> {
+fn sinks_that_fail_and_sinks_that_do_not(rt: HostRuntime) -> Result<(), Fail> {
     for (case, room, fails, count) in &FAILING {
         takes(rt.alloc(), &to(case, *room, fails), *count)?;
     }
-    Ok(())
+    do_not_fail(rt.alloc(), &booted(MINIMAL_DUMP))
 }
 
 // The run's sink fails, and takes the first `count` bytes of the dump.
@@ -39,14 +39,12 @@ fn takes(alloc: Global, run: &Run, count: usize) -> Result<(), Fail> {
     ends(alloc, run, &write_fault(MINIMAL_DUMP, count))
 }
 
-#[test]
-fn sinks_that_do_not_fail(rt: HostRuntime) -> Result<(), Fail> {
-    let done = booted(MINIMAL_DUMP);
-    ends(rt.alloc(), &to("room for all and no more", 235, &[]), &done)?;
+fn do_not_fail(alloc: Global, done: &Ending) -> Result<(), Fail> {
+    ends(alloc, &to("room for all and no more", 235, &[]), done)?;
     ends(
-        rt.alloc(),
-        &to("a write that is never made fails", ROOM, &[7]),
-        &done,
+        alloc,
+        &to("a write that is never made fails", ROOM, &[4]),
+        done,
     )
 }
 

@@ -23,12 +23,8 @@ static UNFAILING: [(&str, usize, &[u32]); 5] = [
 ];
 
 #[test]
-fn sources_that_fail(rt: HostRuntime) -> Result<(), Fail> {
-    all_end(rt.alloc(), &FAILING, &READ_FAULT)
-}
-
-#[test]
-fn sources_in_pieces(rt: HostRuntime) -> Result<(), Fail> {
+fn sources_that_fail_and_sources_in_pieces(rt: HostRuntime) -> Result<(), Fail> {
+    all_end(rt.alloc(), &FAILING, &READ_FAULT)?;
     all_end(rt.alloc(), &UNFAILING, &booted(MINIMAL_DUMP))
 }
 

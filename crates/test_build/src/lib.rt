@@ -1,7 +1,12 @@
-//! Tests of the command `build`: the containers that it writes, and how it ends otherwise.
+//! Tests of the command `build`: the containers that it writes, and how it ends otherwise; and of the top call beside its commands: words that
+//! are none, and the numbers of the statuses that it answers with.
 #![tactic(auto)]
 
 #[cfg(test)]
 mod containers;
 #[cfg(test)]
 mod endings;
+#[cfg(test)]
+mod statuses;
+#[cfg(test)]
+mod words;

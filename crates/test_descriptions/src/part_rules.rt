@@ -6,241 +6,347 @@ use std::alloc::Global;
 use std::process::Abort;
 use std::test::Fail;
 
-// Texts that are too long, or have a byte below 0x20 or above 0x7E.
-static OF_TEXTS: [(&str, &str); 25] = [
-    ("oem_strings = [\"\\n\"]", "rule 3 index 0"),
-    (
-        "oem_strings = ['a', '01234567890123456789012345678901234567890123456789012345678901234']",
-        "rule 3 index 0",
-    ),
-    ("firmware.vendor = '\u{e9}'", "rule 3 index 0"),
-    (
-        "firmware.version = '01234567890123456789012345678901234567890123456789012345678901234'",
-        "rule 3 index 0",
-    ),
-    ("firmware.date = \"\\u007F\"", "rule 3 index 0"),
-    ("chassis.manufacturer = \"\\t\"", "rule 3 index 0"),
-    ("chassis.version = \"\\t\"", "rule 3 index 0"),
-    ("chassis.serial = \"\\t\"", "rule 3 index 0"),
-    ("chassis.asset = \"\\t\"", "rule 3 index 0"),
-    ("chassis.sku = \"\\t\"", "rule 3 index 0"),
-    (
-        "[[socket]]\ncores = 1\nthreads = 1\ndesignation = \"\\t\"",
-        "rule 3 index 0",
-    ),
-    (
-        "[[socket]]\ncores = 1\nthreads = 1\nmanufacturer = \"\\t\"",
-        "rule 3 index 0",
-    ),
-    (
-        "[[socket]]\ncores = 1\nthreads = 1\nversion = \"\\t\"",
-        "rule 3 index 0",
-    ),
-    (
-        "[[socket]]\ncores = 1\nthreads = 1\nserial = \"\\t\"",
-        "rule 3 index 0",
-    ),
-    (
-        "[[socket]]\ncores = 1\nthreads = 1\nasset = \"\\t\"",
-        "rule 3 index 0",
-    ),
-    (
-        "[[socket]]\ncores = 1\nthreads = 1\npart = \"\\t\"",
-        "rule 3 index 0",
-    ),
-    (
-        "[[dimm]]\nsize_mib = 1\nlocator = \"\\t\"",
-        "rule 3 index 0",
-    ),
-    ("[[dimm]]\nsize_mib = 1\nbank = \"\\t\"", "rule 3 index 0"),
-    (
-        "[[dimm]]\nsize_mib = 1\nmanufacturer = \"\\t\"",
-        "rule 3 index 0",
-    ),
-    ("[[dimm]]\nsize_mib = 1\nserial = \"\\t\"", "rule 3 index 0"),
-    ("[[dimm]]\nsize_mib = 1\nasset = \"\\t\"", "rule 3 index 0"),
-    ("[[dimm]]\nsize_mib = 1\npart = \"\\t\"", "rule 3 index 0"),
-    ("[[slot]]\ndesignation = \"\\t\"", "rule 3 index 0"),
-    ("slot = [{}, {designation = '\u{fc}'}]", "rule 3 index 0"),
-    // before the rules that follow
-    (
-        "oem_strings = [\"\"]\nacpi.oem_id = \"\\t\"",
-        "rule 3 index 0",
-    ),
-];
+// What stands behind the front, and the rule that it breaks.
+const RULES: &str = r#"--- texts that are too long, or have a byte below 0x20 or above 0x7E
+oem_strings = ["\n"]
+=> rule 3 index 0
+---
+oem_strings = ['a', '01234567890123456789012345678901234567890123456789012345678901234']
+=> rule 3 index 0
+---
+firmware.vendor = 'é'
+=> rule 3 index 0
+---
+firmware.version = '01234567890123456789012345678901234567890123456789012345678901234'
+=> rule 3 index 0
+---
+firmware.date = "\u007F"
+=> rule 3 index 0
+---
+chassis.manufacturer = "\t"
+=> rule 3 index 0
+---
+chassis.version = "\t"
+=> rule 3 index 0
+---
+chassis.serial = "\t"
+=> rule 3 index 0
+---
+chassis.asset = "\t"
+=> rule 3 index 0
+---
+chassis.sku = "\t"
+=> rule 3 index 0
+---
+[[socket]]
+cores = 1
+threads = 1
+designation = "\t"
+=> rule 3 index 0
+---
+[[socket]]
+cores = 1
+threads = 1
+manufacturer = "\t"
+=> rule 3 index 0
+---
+[[socket]]
+cores = 1
+threads = 1
+version = "\t"
+=> rule 3 index 0
+---
+[[socket]]
+cores = 1
+threads = 1
+serial = "\t"
+=> rule 3 index 0
+---
+[[socket]]
+cores = 1
+threads = 1
+asset = "\t"
+=> rule 3 index 0
+---
+[[socket]]
+cores = 1
+threads = 1
+part = "\t"
+=> rule 3 index 0
+---
+[[dimm]]
+size_mib = 1
+locator = "\t"
+=> rule 3 index 0
+---
+[[dimm]]
+size_mib = 1
+bank = "\t"
+=> rule 3 index 0
+---
+[[dimm]]
+size_mib = 1
+manufacturer = "\t"
+=> rule 3 index 0
+---
+[[dimm]]
+size_mib = 1
+serial = "\t"
+=> rule 3 index 0
+---
+[[dimm]]
+size_mib = 1
+asset = "\t"
+=> rule 3 index 0
+---
+[[dimm]]
+size_mib = 1
+part = "\t"
+=> rule 3 index 0
+---
+[[slot]]
+designation = "\t"
+=> rule 3 index 0
+---
+slot = [{}, {designation = 'ü'}]
+=> rule 3 index 0
+--- before the rules that follow
+oem_strings = [""]
+acpi.oem_id = "\t"
+=> rule 3 index 0
+--- texts of the maker, and numbers of the parts; no text of the maker is empty
+oem_strings = ['']
+=> rule 5 index 0
+---
+oem_strings = ['a', 'b', '', '']
+=> rule 5 index 2
+---
+oem_strings = ['a', '']
+chassis.kind = 0
+=> rule 5 index 1
+--- the type of the chassis is 1 to 127
+chassis.kind = 0
+=> rule 6 index 0
+---
+chassis.kind = 128
+=> rule 6 index 0
+---
+chassis.kind = 255
+socket = [{cores = 0, threads = 0}]
+=> rule 6 index 0
+--- each socket has a core, and threads for its cores
+socket = [{cores = 0, threads = 1}]
+=> rule 7 index 0
+---
+socket = [{cores = 2, threads = 1}]
+=> rule 7 index 0
+---
+socket = [{cores = 1, threads = 0}]
+=> rule 7 index 0
+---
+socket = [{cores = 1, threads = 65535}]
+=> rule 7 index 0
+---
+socket = [{cores = 65535, threads = 65535}]
+=> rule 7 index 0
+---
+[[socket]]
+cores = 1
+threads = 1
+[[socket]]
+cores = 1
+threads = 1
+[[socket]]
+cores = 3
+threads = 2
+=> rule 7 index 2
+---
+[[socket]]
+cores = 1
+threads = 1
+[[socket]]
+cores = 0
+threads = 0
+[[dimm]]
+size_mib = 0
+=> rule 7 index 1
+--- each module has 1 MiB to 16 TiB, and a speed that is known or 0
+[[dimm]]
+size_mib = 0
+=> rule 8 index 0
+---
+[[dimm]]
+size_mib = 16777217
+=> rule 8 index 0
+---
+[[dimm]]
+size_mib = 4294967295
+=> rule 8 index 0
+---
+[[dimm]]
+size_mib = 1
+speed = 65535
+=> rule 8 index 0
+---
+[[dimm]]
+size_mib = 1
+[[dimm]]
+size_mib = 1
+[[dimm]]
+size_mib = 1
+[[dimm]]
+size_mib = 0
+=> rule 8 index 3
+--- each slot has a type and a width, and is a function of a PCI device
+[[slot]]
+kind = 0
+=> rule 12 index 0
+---
+[[slot]]
+width = 0
+=> rule 12 index 0
+---
+[[slot]]
+device = 32
+=> rule 12 index 0
+---
+[[slot]]
+function = 8
+=> rule 12 index 0
+---
+slot = [{}, {device = 31, function = 7}, {function = 255}]
+=> rule 12 index 2
+---
+hpet = {}
+slot = [{}, {kind = 0}]
+=> rule 12 index 1
+--- modules and ranges are given together
+[[dimm]]
+size_mib = 1
 
-// Texts of the maker, and numbers of the parts.
-static OF_NUMBERS: [(&str, &str); 24] = [
-    // no text of the maker is empty
-    ("oem_strings = ['']", "rule 5 index 0"),
-    ("oem_strings = ['a', 'b', '', '']", "rule 5 index 2"),
-    (
-        "oem_strings = ['a', '']\nchassis.kind = 0",
-        "rule 5 index 1",
-    ),
-    // the type of the chassis is 1 to 127
-    ("chassis.kind = 0", "rule 6 index 0"),
-    ("chassis.kind = 128", "rule 6 index 0"),
-    (
-        "chassis.kind = 255\nsocket = [{cores = 0, threads = 0}]",
-        "rule 6 index 0",
-    ),
-    // each socket has a core, and threads for its cores
-    ("socket = [{cores = 0, threads = 1}]", "rule 7 index 0"),
-    ("socket = [{cores = 2, threads = 1}]", "rule 7 index 0"),
-    ("socket = [{cores = 1, threads = 0}]", "rule 7 index 0"),
-    ("socket = [{cores = 1, threads = 65535}]", "rule 7 index 0"),
-    (
-        "socket = [{cores = 65535, threads = 65535}]",
-        "rule 7 index 0",
-    ),
-    (
-        "[[socket]]\ncores = 1\nthreads = 1\n[[socket]]\ncores = 1\nthreads = 1\n[[socket]]\ncores = 3\nthreads = 2",
-        "rule 7 index 2",
-    ),
-    (
-        "[[socket]]\ncores = 1\nthreads = 1\n[[socket]]\ncores = 0\nthreads = 0\n[[dimm]]\nsize_mib = 0",
-        "rule 7 index 1",
-    ),
-    // each module has 1 MiB to 16 TiB, and a speed that is known or 0
-    ("[[dimm]]\nsize_mib = 0", "rule 8 index 0"),
-    ("[[dimm]]\nsize_mib = 16777217", "rule 8 index 0"),
-    ("[[dimm]]\nsize_mib = 4294967295", "rule 8 index 0"),
-    ("[[dimm]]\nsize_mib = 1\nspeed = 65535", "rule 8 index 0"),
-    (
-        "[[dimm]]\nsize_mib = 1\n[[dimm]]\nsize_mib = 1\n[[dimm]]\nsize_mib = 1\n[[dimm]]\nsize_mib = 0",
-        "rule 8 index 3",
-    ),
-    // each slot has a type and a width, and is a function of a PCI device
-    ("[[slot]]\nkind = 0", "rule 12 index 0"),
-    ("[[slot]]\nwidth = 0", "rule 12 index 0"),
-    ("[[slot]]\ndevice = 32", "rule 12 index 0"),
-    ("[[slot]]\nfunction = 8", "rule 12 index 0"),
-    (
-        "slot = [{}, {device = 31, function = 7}, {function = 255}]",
-        "rule 12 index 2",
-    ),
-    ("hpet = {}\nslot = [{}, {kind = 0}]", "rule 12 index 1"),
-];
+=> rule 9 index 0
+---
+[[range]]
+base_mib = 0
+size_mib = 64
 
-// Modules and ranges.
-static OF_RANGES: [(&str, &str); 30] = [
-    // modules and ranges are given together
-    ("[[dimm]]\nsize_mib = 1\n", "rule 9 index 0"),
-    ("[[range]]\nbase_mib = 0\nsize_mib = 64\n", "rule 9 index 0"),
-    (
-        "[[dimm]]\nsize_mib = 16777216\nspeed = 65534",
-        "rule 9 index 0",
-    ),
-    ("range = [{base_mib = 0, size_mib = 0}]", "rule 9 index 0"),
-    // a range isn't empty, ends within 2^32 MiB, and stands behind the one before it
-    (
-        "dimm = [{size_mib = 64}]\nrange = [{base_mib = 0, size_mib = 0}]",
-        "rule 10 index 0",
-    ),
-    (
-        "dimm = [{size_mib = 64}]\nrange = [{base_mib = 0, size_mib = 64}, {base_mib = 64, size_mib = 0}]",
-        "rule 10 index 1",
-    ),
-    (
-        "dimm = [{size_mib = 64}]\nrange = [{base_mib = 0, size_mib = 64}, {base_mib = 4294967295, size_mib = 2}]",
-        "rule 10 index 1",
-    ),
-    (
-        "dimm = [{size_mib = 64}]\nrange = [{base_mib = 0, size_mib = 64}, {base_mib = 4294967295, size_mib = 4294967295}]",
-        "rule 10 index 1",
-    ),
-    (
-        "dimm = [{size_mib = 64}]\nrange = [{base_mib = 0, size_mib = 64}, {base_mib = 4096, size_mib = 4294963201}]",
-        "rule 10 index 1",
-    ),
-    (
-        "dimm = [{size_mib = 64}]\nrange = [{base_mib = 0, size_mib = 64}, {base_mib = 63, size_mib = 1}]",
-        "rule 10 index 1",
-    ),
-    (
-        "dimm = [{size_mib = 64}]\nrange = [{base_mib = 0, size_mib = 64}, {base_mib = 0, size_mib = 64}]",
-        "rule 10 index 1",
-    ),
-    (
-        "dimm = [{size_mib = 64}]\nrange = [{base_mib = 32, size_mib = 32}, {base_mib = 0, size_mib = 32}]",
-        "rule 10 index 1",
-    ),
-    (
-        "dimm = [{size_mib = 64}]\nrange = [{base_mib = 0, size_mib = 64}, {base_mib = 4096, size_mib = 8}, {base_mib = 4100, size_mib = 8}]",
-        "rule 10 index 2",
-    ),
-    (
-        "dimm = [{size_mib = 64}]\nrange = [{base_mib = 0, size_mib = 32}, {base_mib = 31, size_mib = 33}, {base_mib = 0, size_mib = 1}]",
-        "rule 10 index 1",
-    ),
-    // the ranges that begin below 4 GiB are all memory below the top
-    (
-        "dimm = [{size_mib = 64}]\nrange = [{base_mib = 0, size_mib = 63}]",
-        "rule 11 index 0",
-    ),
-    (
-        "dimm = [{size_mib = 64}]\nrange = [{base_mib = 0, size_mib = 65}]",
-        "rule 11 index 0",
-    ),
-    (
-        "dimm = [{size_mib = 64}]\nrange = [{base_mib = 1, size_mib = 63}]",
-        "rule 11 index 0",
-    ),
-    (
-        "dimm = [{size_mib = 64}]\nrange = [{base_mib = 0, size_mib = 32}, {base_mib = 33, size_mib = 31}]",
-        "rule 11 index 0",
-    ),
-    (
-        "dimm = [{size_mib = 64}]\nrange = [{base_mib = 0, size_mib = 32}, {base_mib = 32, size_mib = 31}]",
-        "rule 11 index 0",
-    ),
-    (
-        "dimm = [{size_mib = 64}]\nrange = [{base_mib = 0, size_mib = 64}, {base_mib = 64, size_mib = 1}]",
-        "rule 11 index 0",
-    ),
-    (
-        "dimm = [{size_mib = 64}]\nrange = [{base_mib = 0, size_mib = 64}, {base_mib = 100, size_mib = 1}]",
-        "rule 11 index 0",
-    ),
-    (
-        "dimm = [{size_mib = 64}]\nrange = [{base_mib = 0, size_mib = 64}, {base_mib = 4095, size_mib = 1}]",
-        "rule 11 index 0",
-    ),
-    (
-        "dimm = [{size_mib = 64}]\nrange = [{base_mib = 4096, size_mib = 64}]",
-        "rule 11 index 0",
-    ),
-    (
-        "dimm = [{size_mib = 64}]\nrange = [{base_mib = 0, size_mib = 8192}]",
-        "rule 11 index 0",
-    ),
-    (
-        "dimm = [{size_mib = 64}]\nrange = [{base_mib = 0, size_mib = 63}]\nslot = [{kind = 0}]",
-        "rule 11 index 0",
-    ),
-    // each range is on node 0
-    (
-        "dimm = [{size_mib = 64}]\nrange = [{base_mib = 0, size_mib = 64, node = 1}]",
-        "rule 24 index 0",
-    ),
-    (
-        "dimm = [{size_mib = 64}]\nrange = [{base_mib = 0, size_mib = 32, node = 0}, {base_mib = 32, size_mib = 32, node = 0}, {base_mib = 4096, size_mib = 1, node = 255}]",
-        "rule 24 index 2",
-    ),
-    (
-        "dimm = [{size_mib = 64}]\nrange = [{base_mib = 0, size_mib = 64, node = 1}, {base_mib = 4096, size_mib = 1, node = 1}]",
-        "rule 24 index 0",
-    ),
-    (
-        "dimm = [{size_mib = 64}]\nrange = [{base_mib = 0, size_mib = 64, node = 1}]\nacpi = {}\nhpet = {address = 1}",
-        "rule 18 index 0",
-    ),
-    (
-        "dimm = [{size_mib = 64}]\nrange = [{base_mib = 0, size_mib = 64, node = 1}]\nhpet = {}",
-        "rule 13 index 1",
-    ),
-];
+=> rule 9 index 0
+---
+[[dimm]]
+size_mib = 16777216
+speed = 65534
+=> rule 9 index 0
+---
+range = [{base_mib = 0, size_mib = 0}]
+=> rule 9 index 0
+--- a range isn't empty, ends within 2^32 MiB, and stands behind the one before it
+dimm = [{size_mib = 64}]
+range = [{base_mib = 0, size_mib = 0}]
+=> rule 10 index 0
+---
+dimm = [{size_mib = 64}]
+range = [{base_mib = 0, size_mib = 64}, {base_mib = 64, size_mib = 0}]
+=> rule 10 index 1
+---
+dimm = [{size_mib = 64}]
+range = [{base_mib = 0, size_mib = 64}, {base_mib = 4294967295, size_mib = 2}]
+=> rule 10 index 1
+---
+dimm = [{size_mib = 64}]
+range = [{base_mib = 0, size_mib = 64}, {base_mib = 4294967295, size_mib = 4294967295}]
+=> rule 10 index 1
+---
+dimm = [{size_mib = 64}]
+range = [{base_mib = 0, size_mib = 64}, {base_mib = 4096, size_mib = 4294963201}]
+=> rule 10 index 1
+---
+dimm = [{size_mib = 64}]
+range = [{base_mib = 0, size_mib = 64}, {base_mib = 63, size_mib = 1}]
+=> rule 10 index 1
+---
+dimm = [{size_mib = 64}]
+range = [{base_mib = 0, size_mib = 64}, {base_mib = 0, size_mib = 64}]
+=> rule 10 index 1
+---
+dimm = [{size_mib = 64}]
+range = [{base_mib = 32, size_mib = 32}, {base_mib = 0, size_mib = 32}]
+=> rule 10 index 1
+---
+dimm = [{size_mib = 64}]
+range = [{base_mib = 0, size_mib = 64}, {base_mib = 4096, size_mib = 8}, {base_mib = 4100, size_mib = 8}]
+=> rule 10 index 2
+---
+dimm = [{size_mib = 64}]
+range = [{base_mib = 0, size_mib = 32}, {base_mib = 31, size_mib = 33}, {base_mib = 0, size_mib = 1}]
+=> rule 10 index 1
+--- the ranges that begin below 4 GiB are all memory below the top
+dimm = [{size_mib = 64}]
+range = [{base_mib = 0, size_mib = 63}]
+=> rule 11 index 0
+---
+dimm = [{size_mib = 64}]
+range = [{base_mib = 0, size_mib = 65}]
+=> rule 11 index 0
+---
+dimm = [{size_mib = 64}]
+range = [{base_mib = 1, size_mib = 63}]
+=> rule 11 index 0
+---
+dimm = [{size_mib = 64}]
+range = [{base_mib = 0, size_mib = 32}, {base_mib = 33, size_mib = 31}]
+=> rule 11 index 0
+---
+dimm = [{size_mib = 64}]
+range = [{base_mib = 0, size_mib = 32}, {base_mib = 32, size_mib = 31}]
+=> rule 11 index 0
+---
+dimm = [{size_mib = 64}]
+range = [{base_mib = 0, size_mib = 64}, {base_mib = 64, size_mib = 1}]
+=> rule 11 index 0
+---
+dimm = [{size_mib = 64}]
+range = [{base_mib = 0, size_mib = 64}, {base_mib = 100, size_mib = 1}]
+=> rule 11 index 0
+---
+dimm = [{size_mib = 64}]
+range = [{base_mib = 0, size_mib = 64}, {base_mib = 4095, size_mib = 1}]
+=> rule 11 index 0
+---
+dimm = [{size_mib = 64}]
+range = [{base_mib = 4096, size_mib = 64}]
+=> rule 11 index 0
+---
+dimm = [{size_mib = 64}]
+range = [{base_mib = 0, size_mib = 8192}]
+=> rule 11 index 0
+---
+dimm = [{size_mib = 64}]
+range = [{base_mib = 0, size_mib = 63}]
+slot = [{kind = 0}]
+=> rule 11 index 0
+--- each range is on node 0
+dimm = [{size_mib = 64}]
+range = [{base_mib = 0, size_mib = 64, node = 1}]
+=> rule 24 index 0
+---
+dimm = [{size_mib = 64}]
+range = [{base_mib = 0, size_mib = 32, node = 0}, {base_mib = 32, size_mib = 32, node = 0}, {base_mib = 4096, size_mib = 1, node = 255}]
+=> rule 24 index 2
+---
+dimm = [{size_mib = 64}]
+range = [{base_mib = 0, size_mib = 64, node = 1}, {base_mib = 4096, size_mib = 1, node = 1}]
+=> rule 24 index 0
+---
+dimm = [{size_mib = 64}]
+range = [{base_mib = 0, size_mib = 64, node = 1}]
+acpi = {}
+hpet = {address = 1}
+=> rule 18 index 0
+---
+dimm = [{size_mib = 64}]
+range = [{base_mib = 0, size_mib = 64, node = 1}]
+hpet = {}
+=> rule 13 index 1"#;
 
 // A list in a description: what stands before its elements, the element, how often it stands there, and what stands behind; and what the
 // description is read as.
@@ -364,7 +470,5 @@ fn lists_about_their_limits(rt: HostRuntime) -> Result<(), Fail> {
 
 #[test]
 fn rules_on_parts(rt: HostRuntime) -> Result<(), Fail> {
-    are_told(&rt, rt.alloc(), FRONT, &OF_TEXTS)?;
-    are_told(&rt, rt.alloc(), FRONT, &OF_NUMBERS)?;
-    are_told(&rt, rt.alloc(), FRONT, &OF_RANGES)
+    are_told(&rt, rt.alloc(), FRONT, RULES)
 }

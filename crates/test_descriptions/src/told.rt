@@ -10,20 +10,38 @@ use std::test::Fail;
 /// The front of a description: what each one has, in one line for each key, so that others may follow.
 pub(crate) const FRONT: &str = "version = 1\ntop_mib = 64\nsystem = {}\n";
 
-// Asserts what each text is read as behind a front, in words.
+/// What stands between the rows of a table. A row is the rest of this line, which may say what the row is about, the lines of a
+/// description, and behind an arrow the words for what it is read as. A table is one text, since a literal costs a proof next to nothing,
+/// and an array of them much.
+pub(crate) const BETWEEN_ROWS: &str = "\n---";
+
+// Asserts what the text of each row is read as behind a front, in words.
 pub(crate) fn are_told(
     rt: &impl Abort,
     alloc: Global,
     front: &str,
-    rows: &[(&str, &str)],
+    rows: &str,
 ) -> Result<(), Fail> {
-    for (text, wanted) in rows {
-        is_told(rt, alloc, front, text, wanted)?;
+    for row in rows.split(BETWEEN_ROWS) {
+        is_row_told(rt, alloc, front, row)?;
     }
     Ok(())
 }
 
-fn is_told(
+fn is_row_told(rt: &impl Abort, alloc: Global, front: &str, row: &str) -> Result<(), Fail> {
+    match text_and_words(row) {
+        Some((text, wanted)) => is_told(rt, alloc, front, text, wanted),
+        None => Err(Fail::new("a row that has no arrow")),
+    }
+}
+
+/// The text of a row, and the words behind its arrow.
+pub(crate) fn text_and_words(row: &str) -> Option<(&str, &str)> {
+    let (_, lines) = row.split_once("\n")?;
+    lines.split_once("\n=> ")
+}
+
+pub(crate) fn is_told(
     rt: &impl Abort,
     alloc: Global,
     front: &str,

@@ -1,5 +1,5 @@
-//! Tests of the files of a device: containers both ways and up to the largest, what is refused as one, the directory, and files by name
-//! and by selector.
+//! Tests of the files of a device: containers both ways, of many sizes and up to the largest, what is refused as one, the directory,
+//! and files by name and by selector.
 #![tactic(auto)]
 
 #[cfg(test)]
@@ -12,3 +12,5 @@ mod items;
 mod limits;
 #[cfg(test)]
 mod refusals;
+#[cfg(test)]
+mod sizes;

@@ -4,7 +4,8 @@
 ghost use Rattle.std.specs.Prelude.{◌≡◌, ◌<◌, ◌≤◌, ◌+◌, ◌*◌, [], length, IfOk, OnOk};
 ghost use Rattle.test_directory.specs.Filled.{HasFiles};
 
-use cfg_directory::{Items, directory_bytes, read_image, write_image};
+use crate::images::{copy_of, entry_of, field_of, put_flags};
+use cfg_directory::{Items, directory_bytes, read_image, take_image, write_image};
 use std::alloc::Global;
 use std::process::Abort;
 use std::test::Fail;
@@ -25,11 +26,19 @@ fn is_read_and_written(rt: &impl Abort, alloc: Global, count: u16, chunks: u16) 
     requires chunks { chunks ≤ 1024 }
 {
     let image = image(alloc, count, chunks)?;
-    is_read(rt, alloc, image.as_slice(), count)
+    is_read(rt, alloc, image.as_slice(), count)?;
+    is_taken(rt, alloc, image.as_slice(), count)
 }
 
 fn is_read(rt: &impl Abort, alloc: Global, image: &[u8], count: u16) -> Result<(), Fail> {
     let items = read_image(alloc, image)?;
+    let done = are_written_all(rt, alloc, &items, image, count);
+    drop(items);
+    done
+}
+
+fn is_taken(rt: &impl Abort, alloc: Global, image: &[u8], count: u16) -> Result<(), Fail> {
+    let items = take_image(alloc, copy_of(alloc, image)?)?;
     let done = are_written_all(rt, alloc, &items, image, count);
     drop(items);
     done
@@ -157,14 +166,7 @@ fn put_entries(image: &mut Bytes, count: u16, chunks: u16) -> Result<(), OutOfMe
     requires chunks { chunks ≤ 1024 }
 {
     for number in 0..count {
-        image.extend(&entry_of(number, chunks))?;
-    }
-    Ok(())
-}
-
-fn put_flags(image: &mut Bytes, count: u16) -> Result<(), OutOfMemory> {
-    for _ in 0..count {
-        image.push(0)?;
+        image.extend(&entry_of(number, u32::from(chunks) * 65_536))?;
     }
     Ok(())
 }
@@ -174,33 +176,6 @@ fn put_all_contents(image: &mut Bytes, count: u16, chunks: u16) -> Result<(), Ou
         put_contents(image, number, chunks)?;
     }
     Ok(())
-}
-
-// The entry of a file: its size, its selector, and its name.
-fn entry_of(number: u16, chunks: u16) -> [u8; 64]
-    requires number { number < 1024 }
-    requires chunks { chunks ≤ 1024 }
-{
-    let mut entry = [0; 64];
-    entry[..4].copy_from_slice(&(u32::from(chunks) * 65_536).to_be_bytes());
-    entry[4..6].copy_from_slice(&(0x20 + number).to_be_bytes());
-    entry[8..].copy_from_slice(&field_of(number));
-    entry
-}
-
-// The name of a file in its field: its number in four digits.
-fn field_of(number: u16) -> [u8; 56] {
-    let mut field = [0; 56];
-    field[0] = digit(number / 1000);
-    field[1] = digit(number / 100);
-    field[2] = digit(number / 10);
-    field[3] = digit(number);
-    field
-}
-
-// The last digit of a number.
-fn digit(number: u16) -> u8 {
-    b'0' + (number % 10) as u8
 }
 
 // What a file holds.

@@ -1,7 +1,7 @@
-//! Bytes that are refused as a container.
+//! Bytes that are refused as a container, lent or given up.
 
-use crate::images::{one_file, two_files};
-use cfg_directory::{ImageFault, read_image};
+use crate::images::{copy_of, one_file, two_files};
+use cfg_directory::{ImageFault, Items, read_image, take_image};
 use std::alloc::Global;
 use std::process::Abort;
 use std::test::Fail;
@@ -18,12 +18,20 @@ fn a_container_and_its_fronts(rt: HostRuntime) {
 }
 
 fn has_fault(rt: &impl Abort, alloc: Global, case: &str, bytes: &[u8], fault: Option<ImageFault>) {
+    let lent = read_image(alloc, bytes).err();
+    assert_eq!(rt; lent, fault, "{case}, of {} bytes", bytes.len());
+    let given_up = take_copy(alloc, bytes).err();
     assert_eq!(rt;
-        fault_of(alloc, bytes),
+        given_up,
         fault,
-        "{case}, of {} bytes",
+        "{case}, of {} bytes, given up",
         bytes.len()
     );
+}
+
+fn take_copy(alloc: Global, bytes: &[u8]) -> Result<Items, ImageFault> {
+    let copy = copy_of(alloc, bytes)?;
+    take_image(alloc, copy)
 }
 
 #[test]
@@ -108,8 +116,4 @@ fn refusals(rt: HostRuntime) {
         &image,
         Some(ImageFault::TwiceNamed(1)),
     );
-}
-
-fn fault_of(alloc: Global, bytes: &[u8]) -> Option<ImageFault> {
-    read_image(alloc, bytes).err()
 }

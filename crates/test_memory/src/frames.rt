@@ -44,19 +44,59 @@ fn are_runs(rt: &impl Abort, memory: &GuestMemory) {
     }
 }
 
+// Frames, and whether they are touched once bytes were changed at the end of the first 64 KiB, over the end of the BIOS area's first
+// 64 KiB, and at the top.
+static FRAMES: [(u32, bool); 12] = [
+    (0, true),
+    (15, true),
+    (16, false),
+    (0xA0, false),
+    (0xDF, false),
+    (0xE0, true),
+    (0xF0, true),
+    (255, true),
+    (256, false),
+    (8431, false),
+    (8432, true),
+    (8447, true),
+];
+
 #[test]
-fn each_frame_counts_as_touched(rt: HostRuntime) -> Result<(), Fail> {
-    let memory = GuestMemory::begin(rt.alloc(), 0x400_0000, 0)?;
-    are_touched(&rt, &memory, &[0, 0xA0, 255, 256, 8447]);
+fn frames_are_touched_by_changes(rt: HostRuntime) -> Result<(), Fail> {
+    let mut memory = GuestMemory::begin(rt.alloc(), 0x400_0000, 0xAB)?;
+    are_blank(&rt, &memory);
+    memory.window_mut(0xFFFF, 1)[0] = 1;
+    memory.copy_in(0xE_FFFF, &[2, 3]);
+    memory.write(0x3FF_FFFF, 4);
+    are_touched(&rt, &memory);
+    are_ends(&rt, &memory);
     drop(memory);
     Ok(())
 }
 
-// There are 8,448 frames.
-fn are_touched(rt: &impl Abort, memory: &GuestMemory, frames: &[u32]) {
-    for frame in frames {
-        assert!(rt; *frame < 8448 && memory.touched(*frame), "{frame}");
+// There are 8,448 frames, of which none is touched at the beginning; each has fill bytes.
+fn are_blank(rt: &impl Abort, memory: &GuestMemory) {
+    for frame in 0..8448 {
+        assert!(rt; !memory.touched(frame), "{frame}");
     }
+    is_part(rt, memory, 0x1FFC, 8, &[0xAB; 4]);
+    is_part(rt, memory, 0x3FF_F000, 2, &[0xAB; 2]);
+}
+
+fn are_touched(rt: &impl Abort, memory: &GuestMemory) {
+    for (frame, touched) in &FRAMES {
+        assert!(rt; *frame < 8448, "{frame}");
+        assert_eq!(rt; memory.touched(*frame), *touched, "{frame}");
+    }
+}
+
+// Beside what was changed stands the fill byte, in frames that are touched and in others.
+fn are_ends(rt: &impl Abort, memory: &GuestMemory) {
+    is_part(rt, memory, 0xFFFE, 9, &[0xAB, 1]);
+    is_part(rt, memory, 0x1_0000, 2, &[0xAB; 2]);
+    is_part(rt, memory, 0xE_FFFE, 9, &[0xAB, 2]);
+    is_part(rt, memory, 0xF_0000, 2, &[3, 0xAB]);
+    is_part(rt, memory, 0x3FF_FFFE, 9, &[0xAB, 4]);
 }
 
 #[test]

@@ -1,6 +1,7 @@
 //! Anchors in the memory of a guest, and whether one is found. They were made by hand from DSP0134, 5.2.2.
 
 use crate::memories::{Put, clear_all, memory, put_all};
+use crate::told::is;
 use anchor_scan::find_smbios;
 use guest_memory::GuestMemory;
 use std::alloc::Global;
@@ -87,6 +88,6 @@ fn is_found(
 ) -> Result<(), Fail> {
     let (case, puts, wanted) = row;
     put_all(memory, puts)?;
-    assert_eq!(rt; find_smbios(memory), *wanted, "{case}");
+    is(rt, &find_smbios(memory), wanted, case);
     clear_all(alloc, memory, puts)
 }

@@ -1,7 +1,7 @@
 //! Structures with more strings than a byte counts, and long tables.
 
 use crate::hostile::agree;
-use crate::told::{is_told, told};
+use crate::told::{is, is_told, told};
 use std::alloc::Global;
 use std::process::Abort;
 use std::test::Fail;
@@ -88,12 +88,8 @@ fn are_sized(
 // What the bytes are read as is told in words of so many bytes.
 fn has_size(rt: &impl Abort, alloc: Global, bytes: &Bytes, size: usize) -> Result<(), Fail> {
     let told = told(alloc, bytes.as_slice())?;
-    is_size(rt, told.len(), size);
+    is(rt, &told.len(), &size, "the size of the words");
     Ok(())
-}
-
-fn is_size(rt: &impl Abort, size: usize, wanted: usize) {
-    assert_eq!(rt; size, wanted);
 }
 
 // So many structures without an area and strings, and the end.

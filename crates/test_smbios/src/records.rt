@@ -2,9 +2,8 @@
 //! number stands with its low byte first.
 
 use crate::every::every_structure;
-use crate::told::read;
+use crate::told::{is, read};
 use std::alloc::Global;
-use std::fmt::Debug;
 use std::process::Abort;
 use std::test::Fail;
 use table_model::{
@@ -110,7 +109,8 @@ fn are_as_made(rt: &impl Abort, structures: &[Structure]) {
         is_as_made(rt, structure);
         compared = compared.saturating_add(usize::from(has_numbers(structure)));
     }
-    assert_eq!(rt; (structures.len(), compared), (12, 9));
+    is(rt, &structures.len(), &12, "structures");
+    is(rt, &compared, &9, "structures with numbers");
 }
 
 fn has_numbers(structure: &Structure) -> bool {
@@ -127,10 +127,10 @@ fn is_as_made(rt: &impl Abort, structure: &Structure) {
         Body::Chassis(info) => is_chassis(rt, info),
         Body::Processor(info) => is_processor(rt, info),
         Body::Slot(info) => is_slot(rt, info),
-        Body::Array(info) => is_array(rt, info),
+        Body::Array(info) => is(rt, info, &ARRAY, "array"),
         Body::Device(info) => is_device(rt, info),
-        Body::Mapped(info) => is_mapped(rt, info),
-        Body::Boot(info) => is_boot(rt, info),
+        Body::Mapped(info) => is(rt, info, &MAPPED, "mapped range"),
+        Body::Boot(info) => is(rt, info, &BOOT, "boot"),
         // OEM Strings and raw structures have no numbers but what is told of them in words.
         Body::OemStrings(_) | Body::Raw { .. } | Body::End => {}
     }
@@ -322,37 +322,21 @@ fn are_device_words(rt: &impl Abort, info: &DeviceInfo) {
     );
 }
 
-fn is_array(rt: &impl Abort, info: &ArrayInfo) {
-    assert_eq!(rt; *info, ARRAY);
-}
-
-fn is_mapped(rt: &impl Abort, info: &MappedInfo) {
-    assert_eq!(rt; *info, MAPPED);
-}
-
-fn is_boot(rt: &impl Abort, info: &BootInfo) {
-    assert_eq!(rt; *info, BOOT);
-}
-
 fn are_texts(rt: &impl Abort, texts: &[&Text], record: &Record) {
-    is(rt, &texts.len(), &record.texts.len(), record);
+    is(rt, &texts.len(), &record.texts.len(), record.name);
     for (text, wanted) in texts.iter().zip(record.texts) {
-        is(rt, &text.as_slice(), wanted, record);
+        is(rt, &text.as_slice(), wanted, record.name);
     }
 }
 
 fn are_bytes(rt: &impl Abort, bytes: &[u8], record: &Record) {
-    is(rt, &bytes, &record.bytes, record);
+    is(rt, &bytes, &record.bytes, record.name);
 }
 
 fn are_words(rt: &impl Abort, words: &[u16], record: &Record) {
-    is(rt, &words, &record.words, record);
+    is(rt, &words, &record.words, record.name);
 }
 
 fn is_number(rt: &impl Abort, number: u64, wanted: u64, record: &Record) {
-    is(rt, &number, &wanted, record);
-}
-
-fn is<T: Debug + PartialEq>(rt: &impl Abort, is: &T, wanted: &T, record: &Record) {
-    assert_eq!(rt; *is, *wanted, "{}", record.name);
+    is(rt, &number, &wanted, record.name);
 }

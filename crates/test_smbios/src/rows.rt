@@ -129,13 +129,11 @@ fn a_structure_of_every_type(rt: HostRuntime) -> Result<(), Fail> {
 }
 
 #[test]
-fn tables_of_structures(rt: HostRuntime) -> Result<(), Fail> {
-    are_told(&rt, rt.alloc(), &TABLES)
-}
-
-#[test]
-fn faults_of_bytes(rt: HostRuntime) -> Result<(), Fail> {
-    are_told(&rt, rt.alloc(), &FAULTS)
+fn tables_and_faults(rt: HostRuntime) -> Result<(), Fail> {
+    are_told(&rt, rt.alloc(), &TABLES)?;
+    are_told(&rt, rt.alloc(), &FAULTS)?;
+    // without the last structure, no end
+    is_told(&rt, rt.alloc(), &SMALL[..36], "no end")
 }
 
 fn are_told(rt: &impl Abort, alloc: Global, rows: &[(&[u8], &str)]) -> Result<(), Fail> {
@@ -143,10 +141,4 @@ fn are_told(rt: &impl Abort, alloc: Global, rows: &[(&[u8], &str)]) -> Result<()
         is_told(rt, alloc, bytes, wanted)?;
     }
     Ok(())
-}
-
-// Without the last structure, no end.
-#[test]
-fn no_end(rt: HostRuntime) -> Result<(), Fail> {
-    is_told(&rt, rt.alloc(), &SMALL[..36], "no end")
 }

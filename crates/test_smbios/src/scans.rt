@@ -55,14 +55,6 @@ static SCANS: [Scan; 17] = [
     (0x40, ADDRESS, &[], "short 00000000"),
 ];
 
-#[test]
-fn tables_in_memory(rt: HostRuntime) -> Result<(), Fail> {
-    let mut memory = memory(rt.alloc())?;
-    let scanned = are_scanned_behind(&rt, rt.alloc(), &mut memory);
-    drop(memory);
-    scanned
-}
-
 fn are_scanned_behind(
     rt: &impl Abort,
     alloc: Global,
@@ -152,7 +144,7 @@ const OTHER_TOLD: &str = "030507
 record 01 0100 17|ACME|VM||||
 record 7f 7f00 00";
 
-// Without an anchor, with the one of the table and one behind it, and with one in front of it.
+// Without an anchor, with the one of the table and one behind it, and with one in front of it: the lowest one counts.
 static ANCHORS: [(&[Put], &str); 3] = [
     (&[(ADDRESS, SMALL)], ""),
     (
@@ -174,11 +166,17 @@ static ANCHORS: [(&[Put], &str); 3] = [
 ];
 
 #[test]
-fn the_lowest_anchor_counts(rt: HostRuntime) -> Result<(), Fail> {
+fn tables_in_memory(rt: HostRuntime) -> Result<(), Fail> {
     let mut memory = memory(rt.alloc())?;
-    let scanned = are_scanned(&rt, rt.alloc(), &mut memory);
+    let scanned = all_are_scanned(&rt, rt.alloc(), &mut memory);
     drop(memory);
     scanned
+}
+
+// The memory without an anchor is the first: the anchors of the scans stay.
+fn all_are_scanned(rt: &impl Abort, alloc: Global, memory: &mut GuestMemory) -> Result<(), Fail> {
+    are_scanned(rt, alloc, memory)?;
+    are_scanned_behind(rt, alloc, memory)
 }
 
 fn are_scanned(rt: &impl Abort, alloc: Global, memory: &mut GuestMemory) -> Result<(), Fail> {

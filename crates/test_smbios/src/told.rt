@@ -3,6 +3,7 @@
 use crate::words::{push_raw, push_record, push_text, told_fault};
 use smbios_decode::{SmbiosFault, decode_table};
 use std::alloc::Global;
+use std::fmt::Debug;
 use std::process::Abort;
 use std::test::Fail;
 use table_model::{Body, Structure};
@@ -22,6 +23,11 @@ pub fn are_words(rt: &impl Abort, told: &[u8], wanted: &[u8], bytes: &[u8]) {
         let wanted = str::from_utf8(wanted).unwrap_or("not UTF-8");
         panic!(rt; "{told} in place of {wanted}, of {bytes:?}");
     }
+}
+
+/// Asserts that a value is what is wanted. A failure tells what it is of.
+pub fn is<T: Debug + PartialEq>(rt: &impl Abort, is: &T, wanted: &T, of: &str) {
+    assert_eq!(rt; *is, *wanted, "{of}");
 }
 
 /// Tells what `bytes` are read as: each structure in a line of its own, or the fault.

@@ -1,11 +1,12 @@
 -- The first line and a row's line, written by parts.
 use Rattle.std.proofs.Common.{◌≡◌, ℕ, ◌+◌, ◌*◌, List, [], ◌∷◌, ◌++◌, length, take, drop, replicate, refl, ap, sym, ◌∙◌, arith, append_assoc, length-append}
-use Rattle.std.specs.Prelude.{codes, slice_set}
+use Rattle.std.specs.Prelude.{◌/◌, ◌%◌, ◌<◌, ◌≤◌, codes, slice_index, slice_set}
 use Rattle.std.specs.Int.{w32, to_be_bytes}
-use Rattle.std.proofs.lemmas.List.{set_at}
+use Rattle.std.proofs.lemmas.List.{drop_at, set_at, take_at}
 use Rattle.std.proofs.Math.Seq.{take-append-add, drop-append-add}
-use Rattle.hex.specs.Hex.{encode_lower, lower_digits}
+use Rattle.hex.specs.Hex.{encode_lower, encode_with, lower_digits}
 use Rattle.hex.proofs.HexLemmas.{length-encode_with}
+use Rattle.hex.proofs.Pairs.{encode_done, encode_step}
 use Rattle.vmtables.specs.Dump.{digits_of_address, header_line, row_text}
 
 -- a text with these bytes written over so many of it, from a place on
@@ -63,15 +64,70 @@ put_row address row eight wide =
     ∙ ap (λ (text : List ℕ). slice_set text 41 10) (sym (append_assoc (address ++ codes " ") row (32 ∷ [])))
     ∙ set_at (address ++ codes " " ++ row) 32 [] 10 41 before
 
--- a row's line, from its two numbers as written
-pub line_written : (address : ℕ) (row bytes address_digits row_digits : List ℕ) → length row ≡ 16 → bytes ≡ to_be_bytes w32 address
-    → address_digits ≡ encode_lower bytes → row_digits ≡ encode_lower row
+-- the digits of some bytes, and then of those after them
+encode_lower-append : (front back : List ℕ) → encode_lower (front ++ back) ≡ encode_lower front ++ encode_lower back
+unfolding encode_with
+encode_lower-append [] back = refl
+encode_lower-append (byte ∷ front) back = ap (λ (text : List ℕ). encode_lower (byte ∷ []) ++ text) (encode_lower-append front back)
+
+-- the bytes of an address and of a row, written over zeros
+both_bytes : (address row : List ℕ) → length address ≡ 4 → put_over 4 16 (address ++ replicate 20 0) row ≡ address ++ (row ++ replicate 4 0)
+both_bytes address row four =
+    let front : take 4 (address ++ replicate 20 0) ≡ address = take_at address (replicate 20 0) 4 four in
+    let end : drop 4 (address ++ replicate 20 0) ≡ replicate 20 0 = drop_at address (replicate 20 0) 4 four in
+    ap (λ (text : List ℕ). text ++ (row ++ drop 16 (drop 4 (address ++ replicate 20 0)))) front
+    ∙ ap (λ (text : List ℕ). address ++ (row ++ drop 16 text)) end
+
+-- the digits of both
+both_digits : (address row digits : List ℕ) → length address ≡ 4 → digits ≡ encode_lower (put_over 4 16 (address ++ replicate 20 0) row)
+    → digits ≡ encode_lower address ++ (encode_lower row ++ encode_lower (replicate 4 0))
+both_digits address row digits four made =
+    made ∙ ap encode_lower (both_bytes address row four) ∙ encode_lower-append address (row ++ replicate 4 0)
+    ∙ ap (λ (text : List ℕ). encode_lower address ++ text) (encode_lower-append row (replicate 4 0))
+
+-- a row's line, from the digits of its address and of its bytes
+pub line_written : (address : ℕ) (row bytes copied digits address_digits row_digits : List ℕ) → length row ≡ 16 → bytes ≡ to_be_bytes w32 address
+    → copied ≡ row → digits ≡ encode_lower (put_over 4 16 (bytes ++ replicate 20 0) copied) → address_digits ≡ take 8 digits
+    → row_digits ≡ take 32 (drop 8 digits)
     → slice_set (put_over 9 32 (address_digits ++ replicate 34 32) row_digits) 41 10 ≡ row_text address row
 unfolding row_text
-line_written address row bytes address_digits row_digits long b a r =
-    let digits : address_digits ≡ digits_of_address address = a ∙ ap encode_lower b in
-    let eight : length address_digits ≡ 8 = ap length digits ∙ length-digits_of_address address in
-    let wide : length row_digits ≡ 32 = ap length r ∙ length-encode_with lower_digits row ∙ ap (λ (n : ℕ). 2 * n) long in
-    put_row address_digits row_digits eight wide
-    ∙ ap (λ (text : List ℕ). text ++ codes " " ++ row_digits ++ 10 ∷ []) digits
-    ∙ ap (λ (text : List ℕ). digits_of_address address ++ codes " " ++ text ++ 10 ∷ []) r
+line_written address row bytes copied digits address_digits row_digits long b same d a r =
+    let four : length bytes ≡ 4 = ap length b in
+    let eight : length (encode_lower bytes) ≡ 8 = length-encode_with lower_digits bytes ∙ ap (λ (n : ℕ). 2 * n) four in
+    let wide : length (encode_lower row) ≡ 32 = length-encode_with lower_digits row ∙ ap (λ (n : ℕ). 2 * n) long in
+    let rest : List ℕ = encode_lower (replicate 4 0) in
+    let both = both_digits bytes row digits four (d ∙ ap (λ (part : List ℕ). encode_lower (put_over 4 16 (bytes ++ replicate 20 0) part)) same) in
+    let first : address_digits ≡ encode_lower bytes = a ∙ ap (take 8) both ∙ take_at (encode_lower bytes) (encode_lower row ++ rest) 8 eight in
+    let second : row_digits ≡ encode_lower row =
+    r ∙ ap (λ (text : List ℕ). take 32 (drop 8 text)) both ∙ ap (take 32) (drop_at (encode_lower bytes) (encode_lower row ++ rest) 8 eight)
+    ∙ take_at (encode_lower row) rest 32 wide in
+    put_row address_digits row_digits (ap length first ∙ eight) (ap length second ∙ wide)
+    ∙ ap (λ (text : List ℕ). text ++ codes " " ++ row_digits ++ 10 ∷ []) (first ∙ ap encode_lower b)
+    ∙ ap (λ (text : List ℕ). digits_of_address address ++ codes " " ++ text ++ 10 ∷ []) second
+
+-- a line has 42 bytes
+pub length-row_text : (address : ℕ) (row : List ℕ) → length row ≡ 16 → length (row_text address row) ≡ 42
+unfolding row_text
+length-row_text address row long =
+    let front : List ℕ = digits_of_address address ++ codes " " in
+    omega (
+      arith,
+      long,
+      length-append (front ++ encode_lower row) (10 ∷ []),
+      length-append front (encode_lower row),
+      length-append (digits_of_address address) (codes " "),
+      length-digits_of_address address,
+      length-encode_with lower_digits row,
+    )
+
+-- one more byte's digits are written
+pub digits_more : (bytes text : List ℕ) (i high low : ℕ) → i < length bytes → 2 * i + 1 < length text
+    → high ≡ slice_index lower_digits (slice_index bytes i / 16) → low ≡ slice_index lower_digits (slice_index bytes i % 16)
+    → take (2 * i) text ++ encode_lower (drop i bytes) ≡ encode_lower bytes
+    → take (2 * (i + 1)) (slice_set (slice_set text (2 * i) high) (2 * i + 1) low) ++ encode_lower (drop (i + 1) bytes) ≡ encode_lower bytes
+digits_more bytes text i high low = encode_step lower_digits bytes text i high low
+
+-- all are
+pub digits_done : (bytes text : List ℕ) (i : ℕ) → length bytes ≤ i → length text ≡ 2 * length bytes
+    → take (2 * i) text ++ encode_lower (drop i bytes) ≡ encode_lower bytes → text ≡ encode_lower bytes
+digits_done bytes text i = encode_done lower_digits bytes text i

@@ -1,11 +1,12 @@
 -- The lines of frames, each of 256 rows, frame by frame.
-use Rattle.std.proofs.Common.{◌≡◌, ◌==◌, ℕ, zero, suc, ◌+◌, ◌*◌, ◌-◌, ◌/◌, ◌<◌, Bool, true, List, [], ◌++◌, Option, get_or, refl, ap, sym, subst, ◌∙◌, arith}
-use Rattle.std.proofs.lemmas.Bool.{and_parts}
+use Rattle.std.proofs.Common.{◌≡◌, ◌==◌, ℕ, zero, suc, ◌+◌, ◌*◌, ◌-◌, ◌/◌, ◌<◌, Bool, true, false, not, List, [], ◌++◌, Option, get_or, refl, ap, sym, subst, ◌∙◌, arith, add-zero}
+use Rattle.std.proofs.lemmas.Bool.{and_parts, and_from, eq-eqb, not-false}
 use Rattle.std.proofs.lemmas.List.Folds.{list_all-append}
 use Rattle.std.specs.List.{flat_map, list_all, range_with_len}
 use Rattle.vt_bytes.specs.declared.memory.AddressRange.{AddressRange}
-use Rattle.vt_bytes.specs.Memory.{Memory, IsTop, IsRam, IsRamRange, bytes_at, ram_ranges}
+use Rattle.vt_bytes.specs.Memory.{Memory, IsTop, IsRam, IsRamRange, at, bytes_at, ram_ranges}
 use Rattle.vt_bytes.proofs.Bytes.{bytes_at-parts}
+use Rattle.guest_memory.specs.Frames.{HoldsFill, frame_start}
 use Rattle.vmtables.specs.Dump.{range_text, rows_text}
 use Rattle.vmtables.specs.Output.{Took, TookFront}
 use Rattle.vmtables.proofs.Rows.{line_at, line_at-filled, rows_text-split, rows_text-front}
@@ -81,13 +82,38 @@ frame_took before now after m start k so_far took =
     (took_then before now after (rows_text m start (256 * k)) (rows_text m (start + 4096 * k) 256) so_far took)
 
 -- the frame had no lines
-pub frame_passed : (before now : Option (List ℕ)) (m : Memory) (start k fill : ℕ) (frame : List ℕ) (filled : Bool)
-    → Took before now (rows_text m start (256 * k)) → frame ≡ bytes_at m (start + 4096 * k) 4096 → fill ≡ m.fill
-    → filled ≡ list_all (λ byte. byte == fill) frame → filled ≡ true → Took before now (rows_text m start (256 * (k + 1)))
-frame_passed before now m start k fill frame filled so_far read same test all =
-    let tested : list_all (λ byte. byte == m.fill) (bytes_at m (start + 4096 * k) 4096) ≡ true = rw (← read, ← same) (sym test ∙ all) in
-    frame_took before now now m start k so_far
-    (subst (Took now now) (sym (rows_text-filled m (start + 4096 * k) 256 tested)) (behind-nothing now))
+pub frame_passed : (before now : Option (List ℕ)) (m : Memory) (start k : ℕ) → Took before now (rows_text m start (256 * k))
+    → rows_text m (start + 4096 * k) 256 ≡ [] → Took before now (rows_text m start (256 * (k + 1)))
+frame_passed before now m start k so_far none =
+    frame_took before now now m start k so_far (subst (Took now now) (sym none) (behind-nothing now))
+
+-- a frame whose bytes were compared with the fill byte, and are all it, has no lines
+pub frame_filled : (m : Memory) (address fill : ℕ) (frame : List ℕ) (filled : Bool) → frame ≡ bytes_at m address 4096 → fill ≡ m.fill
+    → filled ≡ list_all (λ byte. byte == fill) frame → not filled ≡ false → rows_text m address 256 ≡ []
+frame_filled m address fill frame filled read same test none_other =
+    let all : filled ≡ true = not-false filled none_other in
+    let tested : list_all (λ byte. byte == m.fill) (bytes_at m address 4096) ≡ true = rw (← read, ← same) (sym test ∙ all) in
+    rows_text-filled m address 256 tested
+
+-- bytes of a memory each of which is the fill byte
+all_fill : (m : Memory) (a n : ℕ) → ((i : ℕ) → i < n → at m (a + i) ≡ m.fill) → list_all (λ byte. byte == m.fill) (bytes_at m a n) ≡ true
+unfolding bytes_at
+all_fill m a zero holds = refl
+all_fill m a (suc n) holds =
+    let here : at m a ≡ m.fill = subst (λ b. at m b ≡ m.fill) (add-zero a) (holds 0 (omega arith)) in
+    let rest = all_fill m (a + 1) n (λ i below.
+    let place : a + suc i ≡ a + 1 + i = omega arith in
+    subst (λ b. at m b ≡ m.fill) place (holds (suc i) (omega arith))) in
+    and_from _ _ (eq-eqb _ _ here) rest
+
+-- a frame that holds the fill byte alone has no lines
+pub frame_untouched : (m : Memory) (top address frame : ℕ) → top ≡ m.top → frame_start top frame ≡ address → IsRamRange m.top address 4096
+    → HoldsFill m frame → rows_text m address 256 ≡ []
+frame_untouched m top address frame same place ram holds =
+    let begins : frame_start m.top frame ≡ address = ap (λ (t : ℕ). frame_start t frame) (sym same) ∙ place in
+    let fill : (i : ℕ) → i < 4096 → at m (address + i) ≡ m.fill =
+    λ i below. subst (λ a. at m (a + i) ≡ m.fill) begins (holds i below (subst (λ a. IsRam m.top (a + i)) (sym begins) (ram i below))) in
+    rows_text-filled m address 256 (all_fill m address 4096 fill)
 
 -- the sink took a front of the lines of one more frame, and so of all of them
 pub frame_failed : (before now after : Option (List ℕ)) (m : Memory) (start k count : ℕ) → k < count → Took before now (rows_text m start (256 * k))

@@ -1,12 +1,15 @@
 -- The lines of rows, row by row.
-use Rattle.std.proofs.Common.{◌≡◌, ◌==◌, ℕ, zero, suc, ◌+◌, ◌*◌, ◌-◌, ◌<◌, ◌≤◌, Bool, true, false, List, [], ◌∷◌, ◌++◌, Option, ap, sym, subst, ◌∙◌, arith}
+use Rattle.std.proofs.Common.{◌≡◌, ◌==◌, ℕ, zero, suc, ◌+◌, ◌*◌, ◌-◌, ◌<◌, ◌≤◌, Bool, true, false, List, [], ◌∷◌, ◌++◌, Option, length, take, drop, refl, ap, sym, ◌∙◌, arith}
 use Rattle.std.proofs.lemmas.Grind.{flat_map-append}
 use Rattle.std.proofs.lemmas.List.{append-nil}
+use Rattle.std.proofs.lemmas.Slice.{take-put_mid}
+use borrow.Rule.Slice.PartMut.{put_mid}
 use Rattle.std.specs.List.{flat_map, list_all, range_with_len}
-use Rattle.vt_bytes.specs.Memory.{Memory, IsRam, IsRamRange, bytes_at}
+use Rattle.vt_bytes.specs.Memory.{Memory, bytes_at}
+use Rattle.vt_bytes.proofs.Bytes.{part-bytes_at}
 use Rattle.vmtables.specs.Dump.{row_line, row_text, rows_text}
-use Rattle.vmtables.specs.Output.{Took, TookFront}
-use Rattle.vmtables.proofs.Taken.{behind-nothing, took_then, front_then, front_more}
+use Rattle.vmtables.specs.Output.{Took}
+use Rattle.vmtables.proofs.Taken.{behind-nothing}
 
 -- a range of numbers in two parts
 range_with_len-split : (a n d : ℕ) → range_with_len a (n + d) ≡ range_with_len a n ++ range_with_len (a + n) d
@@ -44,9 +47,12 @@ rows_text-front m start k count within =
     let whole : count ≡ k + (count - k) = omega arith in
     (flat_map (line_at m start) (range_with_len k (count - k)), ap (rows_text m start) whole ∙ rows_text-split m start k (count - k))
 
--- each of the rows begins in RAM
-pub row_ram : (top start count k : ℕ) → IsRamRange top start (16 * count) → k < count → IsRam top (start + 16 * k)
-row_ram top start count k ram below = ram (16 * k) (omega arith)
+-- a row of a frame, of whose bytes it is a part
+pub row_of_frame : (m : Memory) (address k : ℕ) (frame : List ℕ) → frame ≡ bytes_at m address 4096 → k < 256
+    → take (16 * k + 16 - 16 * k) (drop (16 * k) frame) ≡ bytes_at m (address + 16 * k) 16
+row_of_frame m address k frame read below =
+    let size : 16 * k + 16 - 16 * k ≡ 16 = omega arith in
+    rw (size, read) (part-bytes_at m address 4096 (16 * k) 16 (omega arith))
 
 -- a row of fill bytes has no line
 pub line_at-filled : (m : Memory) (start k fill : ℕ) (row : List ℕ) (filled : Bool) → row ≡ bytes_at m (start + 16 * k) 16 → fill ≡ m.fill
@@ -64,32 +70,24 @@ line_at-written m start k fill row text filled read same test other written =
     rw (← read, ← same) (sym test ∙ other) in
     rw tested (ap (row_text (start + 16 * k)) (sym read) ∙ sym written)
 
+-- the lines of no rows
+pub text_none : (m : Memory) (start : ℕ) → [] ≡ rows_text m start 0
+unfolding rows_text
+text_none m start = refl
+
+-- the row had no line
+pub text_same : (m : Memory) (start k : ℕ) (so_far : List ℕ) → so_far ≡ rows_text m start k → line_at m start k ≡ [] → so_far ≡ rows_text m start (k + 1)
+text_same m start k so_far before no_line =
+    before ∙ sym (append-nil (rows_text m start k)) ∙ ap (λ (line : List ℕ). rows_text m start k ++ line) (sym no_line) ∙ sym (rows_text-more m start k)
+
+-- one more line was put behind the lines so far
+pub text_more : (m : Memory) (start k len : ℕ) (text line : List ℕ) → length line ≡ 42 → len + 42 ≤ length text → take len text ≡ rows_text m start k
+    → line_at m start k ≡ line → take (len + 42) (put_mid len (len + 42 - len) text line) ≡ rows_text m start (k + 1)
+text_more m start k len text line long room before is_line =
+    take-put_mid len (len + 42 - len) text line (len + 42) (omega (arith, long)) (omega (arith, room)) ∙ ap (λ (lines : List ℕ). lines ++ line) before
+    ∙ ap (λ (bytes : List ℕ). rows_text m start k ++ bytes) (sym is_line) ∙ sym (rows_text-more m start k)
+
 -- the sink took the lines of no rows
 pub rows_none : (before : Option (List ℕ)) (m : Memory) (start : ℕ) → Took before before (rows_text m start 0)
 unfolding rows_text
 rows_none before m start = behind-nothing before
-
--- the sink took one more line
-pub rows_more : (before now after : Option (List ℕ)) (m : Memory) (start k : ℕ) (line : List ℕ) → Took before now (rows_text m start k)
-    → Took now after line → line_at m start k ≡ line → Took before after (rows_text m start (k + 1))
-rows_more before now after m start k line so_far took is_line =
-    let more : rows_text m start (k + 1) ≡ rows_text m start k ++ line =
-    rows_text-more m start k ∙ ap (λ (bytes : List ℕ). rows_text m start k ++ bytes) is_line in
-    subst (Took before after) (sym more) (took_then before now after (rows_text m start k) line so_far took)
-
--- the row had no line
-pub rows_same : (before now : Option (List ℕ)) (m : Memory) (start k : ℕ) → Took before now (rows_text m start k) → line_at m start k ≡ []
-    → Took before now (rows_text m start (k + 1))
-rows_same before now m start k so_far no_line =
-    rows_more before now now m start k [] so_far (behind-nothing now) no_line
-
--- the sink took a front of one more line, and so of all of them
-pub rows_failed : (before now after : Option (List ℕ)) (m : Memory) (start k count : ℕ) (line : List ℕ) → k < count
-    → Took before now (rows_text m start k) → TookFront now after line → line_at m start k ≡ line → TookFront before after (rows_text m start count)
-rows_failed before now after m start k count line below so_far took is_line =
-    let rest = rows_text-front m start (k + 1) count (omega arith) in
-    let more : rows_text m start (k + 1) ≡ rows_text m start k ++ line =
-    rows_text-more m start k ∙ ap (λ (bytes : List ℕ). rows_text m start k ++ bytes) is_line in
-    let whole : rows_text m start count ≡ (rows_text m start k ++ line) ++ rest.0 = rest.1 ∙ ap (λ (lines : List ℕ). lines ++ rest.0) more in
-    subst (TookFront before after) (sym whole)
-    (front_more before after (rows_text m start k ++ line) rest.0 (front_then before now after (rows_text m start k) line so_far took))

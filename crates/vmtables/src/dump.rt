@@ -1,20 +1,33 @@
-ghost use Rattle.std.specs.Prelude.{◌≡◌, ◌*◌, ◌%◌, ◌==◌, length, OnOk, OnErr};
+ghost use Rattle.std.specs.Prelude.{◌≡◌, ◌*◌, ◌%◌, ◌<◌, ◌≤◌, ◌==◌, false, [], length, take, slice_index, OnOk, OnErr};
 ghost use Rattle.std.specs.List.{list_all};
 ghost use Rattle.vt_outside.specs.Stream.{Rose};
-ghost use Rattle.vt_bytes.specs.Memory.{IsTop, IsRamRange, ram_ranges};
+ghost use Rattle.vt_bytes.specs.Memory.{IsTop, IsRam, IsRamRange, ram_ranges};
 ghost use Rattle.vmtables.specs.Dump.{dump, header_line, ranges_text, row_text, rows_text};
-ghost use Rattle.hex.specs.Hex.{encode_lower};
+ghost use Rattle.guest_memory.specs.Frames.{frame_limit, frame_start};
+ghost use Rattle.hex.specs.Hex.{encode_lower, lower_digits};
 ghost use Rattle.vmtables.specs.Output.{Took, TookFront};
 
 use crate::output::write_all;
 use guest_memory::{FRAME_BYTES, GuestMemory, ram_ranges};
 use vt_outside::{Failed, Sink};
 
-// How many bytes of RAM a line tells.
-const ROW: u64 = 16;
+// How many bytes of RAM a line tells, and how many it has.
+const ROW: usize = 16;
 
-/// Writes the dump of `memory` to `out`, line by line: the top and the fill byte, then each 16 bytes of RAM that aren't all the
-/// fill byte, then `end`. It doesn't flush `out`. Returns `Failed` when a write fails; `out` then took a part of the dump from
+const LINE: usize = 42;
+
+// How many rows a frame has, and how many bytes their lines have at most.
+const ROWS: usize = 256;
+
+const FRAME_TEXT: usize = ROWS * LINE;
+
+// Where the frames of the first MiB end, and how many bytes those below the top have.
+const MIB: u64 = 0x10_0000;
+
+const HIGH_BYTES: u64 = 0x200_0000;
+
+/// Writes the dump of `memory` to `out`: a line with the top and the fill byte, then one for each 16 bytes of RAM that aren't all
+/// the fill byte, then `end`. The lines of a frame are offered in one piece. It doesn't flush `out`. Returns `Failed` when a write fails; `out` then took a part of the dump from
 /// its front.
 pub(crate) fn dump_to<K: Sink>(memory: &GuestMemory, out: &mut K) -> Result<(), Failed>
     ensures ok { OnOk result (Took (K.taken out.old) (K.taken out.new) (dump memory.now)) }
@@ -45,8 +58,7 @@ fn dump_ranges<K: Sink>(memory: &GuestMemory, out: &mut K) -> Result<(), Failed>
     Ok(())
 }
 
-// Writes the lines of so many frames from an address on. Most of RAM is as it was at the beginning, so that a frame is first looked
-// at as a whole.
+// Writes the lines of so many frames from an address on.
 fn dump_frames<K: Sink>(
     memory: &GuestMemory,
     out: &mut K,
@@ -63,43 +75,79 @@ fn dump_frames<K: Sink>(
     ensures failed { OnErr result (Rose (K.faults out.old) (K.faults out.new)) }
     ensures sound { OnOk result (K.faults out.new ≡ K.faults out.old) }
 {
-    let fill = memory.fill();
     for k in 0..count {
         let address = start + FRAME_BYTES * k;
-        let frame = memory.window(address, FRAME_BYTES as u32);
-        if !is_filled(frame, fill) {
-            dump_rows(memory, out, address, FRAME_BYTES / ROW)?;
+        if may_have_lines(memory, address) {
+            dump_frame(memory, out, address)?;
         }
     }
     Ok(())
 }
 
-// Writes the lines of so many rows from an address on.
-fn dump_rows<K: Sink>(
-    memory: &GuestMemory,
-    out: &mut K,
-    start: u64,
-    count: u64,
-) -> Result<(), Failed>
+// Whether the frame at an address may have lines. Most of RAM is as it was at the beginning: a frame that wasn't touched isn't looked
+// at, and one that was is first compared with the fill byte as a whole.
+fn may_have_lines(memory: &GuestMemory, address: u64) -> bool
     requires lawful { IsTop memory.now.top }
-    requires ram { IsRamRange memory.now.top start (16 * count) }
-    requires aligned { start % 16 ≡ 0 }
-    ensures ok { OnOk result (Took (K.taken out.old) (K.taken out.new) (rows_text memory.now start count)) }
-    ensures front { OnErr result (TookFront (K.taken out.old) (K.taken out.new) (rows_text memory.now start count)) }
+    requires ram { IsRamRange memory.now.top address 4096 }
+    requires aligned { address % 4096 ≡ 0 }
+    ensures { result ≡ false → rows_text memory.now address 256 ≡ [] }
+{
+    memory.touched(frame_at(address, memory.top()))
+        && !is_filled(memory.window(address, FRAME_BYTES as u32), memory.fill())
+}
+
+// The number of the frame that begins at an address.
+fn frame_at(address: u64, top: u32) -> u32
+    requires lawful { IsTop top }
+    requires ram { IsRam top address }
+    requires aligned { address % 4096 ≡ 0 }
+    ensures place { frame_start top result ≡ address }
+    ensures limit { result < frame_limit }
+{
+    let number = if address < MIB {
+        address / FRAME_BYTES
+    } else {
+        MIB / FRAME_BYTES + (address - (u64::from(top) - HIGH_BYTES)) / FRAME_BYTES
+    };
+    number as u32
+}
+
+// Writes the lines of the frame at an address, in one piece.
+fn dump_frame<K: Sink>(memory: &GuestMemory, out: &mut K, address: u64) -> Result<(), Failed>
+    requires lawful { IsTop memory.now.top }
+    requires ram { IsRamRange memory.now.top address 4096 }
+    requires aligned { address % 4096 ≡ 0 }
+    ensures ok { OnOk result (Took (K.taken out.old) (K.taken out.new) (rows_text memory.now address 256)) }
+    ensures front { OnErr result (TookFront (K.taken out.old) (K.taken out.new) (rows_text memory.now address 256)) }
     ensures unflushed { K.flushed out.new ≡ K.flushed out.old }
 
     ensures failed { OnErr result (Rose (K.faults out.old) (K.faults out.new)) }
     ensures sound { OnOk result (K.faults out.new ≡ K.faults out.old) }
 {
+    let mut text = [0; FRAME_TEXT];
+    let len = put_rows(&mut text, memory, address);
+    write_all(out, &text[..len])
+}
+
+// Puts the lines of the frame at an address at the front of `text`, and returns how many bytes they have.
+fn put_rows(text: &mut [u8; FRAME_TEXT], memory: &GuestMemory, address: u64) -> usize
+    requires lawful { IsTop memory.now.top }
+    requires ram { IsRamRange memory.now.top address 4096 }
+    requires aligned { address % 4096 ≡ 0 }
+    ensures fits { result ≤ 10752 }
+    ensures lines { take result text.new ≡ rows_text memory.now address 256 }
+{
+    let frame = memory.window(address, FRAME_BYTES as u32);
     let fill = memory.fill();
-    for k in 0..count {
-        let address = start + ROW * k;
-        let row = memory.window(address, ROW as u32);
-        if !is_filled(row, fill) {
-            write_all(out, &line(address as u32, row))?;
+    let mut len = 0;
+    for k in 0..ROWS {
+        let row = &frame[ROW * k..ROW * k + ROW];
+        if !is_filled_row(row, fill) {
+            text[len..len + LINE].copy_from_slice(&line((address as usize + ROW * k) as u32, row));
+            len += LINE;
         }
     }
-    Ok(())
+    len
 }
 
 // Whether bytes are all the fill byte. It doesn't stop at the first that isn't, so that the compiler compares many at once.
@@ -113,6 +161,18 @@ fn is_filled(bytes: &[u8], fill: u8) -> bool
     filled
 }
 
+// The same of the 16 bytes of a row, a number that the compiler knows, so that it compares them all at once.
+fn is_filled_row(row: &[u8], fill: u8) -> bool
+    requires { length row.now ≡ 16 }
+    ensures { result ≡ list_all (λ byte. byte == fill) row.now }
+{
+    let mut filled = true;
+    for i in 0..ROW {
+        filled &= row[i] == fill;
+    }
+    filled
+}
+
 fn header(top: u32, fill: u8) -> [u8; 21]
     ensures { result ≡ header_line top fill }
 {
@@ -122,15 +182,41 @@ fn header(top: u32, fill: u8) -> [u8; 21]
     text
 }
 
-fn line(address: u32, row: &[u8]) -> [u8; 42]
+fn line(address: u32, row: &[u8]) -> [u8; LINE]
     requires { length row.now ≡ 16 }
     ensures { result ≡ row_text address row.now }
 {
-    let mut text = [b' '; 42];
-    put_hex(&mut text[..8], &address.to_be_bytes());
-    put_hex(&mut text[9..41], row);
+    // Both become digits in one loop, over zeros too, since its last bytes would be taken one by one where they were only four.
+    let mut bytes = [0; 24];
+    bytes[..4].copy_from_slice(&address.to_be_bytes());
+    bytes[4..20].copy_from_slice(row);
+    let digits = digits(&bytes);
+    let mut text = [b' '; LINE];
+    text[..8].copy_from_slice(&digits[..8]);
+    text[9..41].copy_from_slice(&digits[8..40]);
     text[41] = b'\n';
     text
+}
+
+// The hexadecimal digits of `bytes`, two for each. It serves lines alone, in place of the crate `hex`, which looks each digit up in a
+// table: a compiler makes of sums, over so many bytes, a loop that takes sixteen at once, and a line costs a third of the time.
+fn digits(bytes: &[u8; 24]) -> [u8; 48]
+    ensures { result ≡ encode_lower bytes.now }
+{
+    let mut text = [0; 48];
+    for i in 0..24 {
+        text[2 * i] = digit(bytes[i] >> 4);
+        text[2 * i + 1] = digit(bytes[i] & 15);
+    }
+    text
+}
+
+// The digit of a number below 16: `0` to `9` follow one another, and so do `a` to `f`, 39 places further on.
+fn digit(value: u8) -> u8
+    requires { value < 16 }
+    ensures { result ≡ slice_index lower_digits value }
+{
+    value + b'0' + if value > 9 { 39 } else { 0 }
 }
 
 // Writes the hexadecimal digits of `bytes`, two for each, over `text`.

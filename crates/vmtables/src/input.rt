@@ -1,4 +1,4 @@
-ghost use Rattle.std.specs.Prelude.{◌≡◌, ◌≢◌, ◌<◌, ◌≤◌, ◌↔◌, [], length, Err, IfOk, OnOk, IfSome};
+ghost use Rattle.std.specs.Prelude.{◌≡◌, ◌≢◌, ◌<◌, ◌≤◌, ◌↔◌, [], length, take, Err, IfErr, IfOk, OnErr, OnOk, IfSome};
 ghost use Rattle.vt_outside.specs.Stream.{Rose, in_front};
 ghost use Rattle.vmtables.specs.Outcome.{input_limit, given_count};
 
@@ -49,10 +49,7 @@ pub(crate) fn read_to_end<S: Source>(alloc: Global, source: &mut S) -> Result<By
     let mut bytes = Bytes::new(alloc);
     let mut piece = buffer(alloc, PIECE)?;
     loop {
-        let count = match source.read(&mut piece) {
-            Ok(count) => count,
-            Err(Failed) => return Err(InputFault::Failed),
-        };
+        let count = read_piece(source, &mut piece)?;
         if count == 0 {
             return Ok(bytes);
         }
@@ -60,6 +57,24 @@ pub(crate) fn read_to_end<S: Source>(alloc: Global, source: &mut S) -> Result<By
             return Err(InputFault::TooLong);
         }
         bytes.extend(&piece[..count])?;
+    }
+}
+
+// Reads the next bytes of `source` into the front of `piece`, and returns how many.
+fn read_piece<S: Source>(source: &mut S, piece: &mut [u8]) -> Result<usize, InputFault>
+    requires { 0 < length piece.old }
+    ensures given { IfOk result (λ n. S.left source.old ≡ in_front (take n piece.new) (S.left source.new)) }
+    ensures fits { IfOk result (λ n. n ≤ length piece.new) }
+    ensures end { IfOk result (λ n. n ≡ 0 → IfSome (S.left source.old) (λ bytes. bytes ≡ [])) }
+    ensures fault { IfErr result (λ fault. fault ≡ InputFault.Failed) }
+
+    ensures kept { OnErr result (S.left source.new ≡ S.left source.old) }
+    ensures failed { OnErr result (Rose (S.faults source.old) (S.faults source.new)) }
+    ensures sound { OnOk result (S.faults source.new ≡ S.faults source.old) }
+{
+    match source.read(piece) {
+        Ok(count) => Ok(count),
+        Err(Failed) => Err(InputFault::Failed),
     }
 }
 

@@ -12,7 +12,7 @@ use crate::fault::Fault;
 use crate::input::read_to_end;
 use crate::loading::{MIB, load_items};
 use crate::writing::write_dump;
-use cfg_directory::{Items, read_image};
+use cfg_directory::{Items, take_image};
 use firmware_load::{Schedule, World};
 use std::alloc::Global;
 use vt_outside::{Bytes, Sink, Source};
@@ -51,7 +51,8 @@ pub(crate) fn load<S: Source, K: Sink, A: ZoneAlloc, C: Schedule>(
     write_dump(world, out)
 }
 
-// Loads the files of a container into the world's memory, and lets go of the container's bytes once they are copied into items.
+// Loads the files of a container into the world's memory. The container is given up, so that a file that has most of its bytes isn't held
+// twice.
 fn load_container<A: ZoneAlloc, C: Schedule>(
     alloc: Global,
     fill: u8,
@@ -91,5 +92,5 @@ fn items_of(alloc: Global, container: Bytes) -> Result<Items, Fault>
     ensures ok { IfOk result (IsContainer container) }
     ensures err { IfErr result (CannotBeRead container) }
 {
-    Ok(read_image(alloc, container.as_slice())?)
+    Ok(take_image(alloc, container)?)
 }

@@ -82,28 +82,23 @@ pub fn top<S: Source, K: Sink, E: Sink, A: ZoneAlloc, C: Schedule>(
     ensures silent { result ≡ Status.Ok → (E.taken say.new ≡ E.taken say.old) × (E.faults say.new ≡ E.faults say.old) }
 {
     let ended = carry_out(alloc, words, source, out, place, plan, world);
-    say_fault(say, &ended);
-    status_of(&ended)
+    tell(say, &ended)
 }
 
-fn status_of(ended: &Result<(), Fault>) -> Status
-    ensures { result ≡ status_of ended.now }
-{
-    match ended {
-        Ok(()) => Status::Ok,
-        Err(fault) => fault.status(),
-    }
-}
-
-// Says the line of the fault that ended a call, where one did. A fault of `say` has no place to be told.
-fn say_fault<E: Sink>(say: &mut E, ended: &Result<(), Fault>)
+// Says the line of the fault that ended a call, where one did, and returns the call's status. A fault of `say` has no place to be told.
+fn tell<E: Sink>(say: &mut E, ended: &Result<(), Fault>) -> Status
+    ensures status { result ≡ status_of ended.now }
     ensures said { IfErr ended.now (λ fault. Said (line_of fault)
         (record { taken = E.taken say.old; flushed = E.flushed say.old; faults = E.faults say.old })
         (record { taken = E.taken say.new; flushed = E.flushed say.new; faults = E.faults say.new })) }
     ensures silent { OnOk ended.now ((E.taken say.new ≡ E.taken say.old) × (E.faults say.new ≡ E.faults say.old)) }
 {
-    if let Err(fault) = ended {
-        let _ = write_all(say, fault.line().as_bytes());
+    match ended {
+        Ok(()) => Status::Ok,
+        Err(fault) => {
+            let _ = write_all(say, fault.line().as_bytes());
+            fault.status()
+        }
     }
 }
 

@@ -1,5 +1,4 @@
 use Rattle.std.proofs.Common.{List, length, arith, refl, ap, subst, ◌∙◌}
-use Rattle.vt_bytes.specs.Memory.{IsMemory}
 use Rattle.cfg_directory.specs.declared.item.Item.{Item}
 use Rattle.cfg_directory.specs.Items.{IsItems}
 use Rattle.cfg_dma.specs.Device.{DeviceState}
@@ -25,7 +24,7 @@ returns c =
       device = c.in_ok-device.ensures.device;
       device_is = c.in_ok-device.ensures.begun
           ∙ ap (λ room. let d : DeviceState = record (new_device c.args.items) { spare = room } in d) c.most_transfers-transfers.ensures;
-      memory = subst IsMemory c.memory.view_is c.memory.invariant;
+      memory = c.in_ok-memory.ensures.lawful;
       top_is = c.in_ok-memory.ensures.top;
       fill_is = c.in_ok-memory.ensures.fill;
       filled = c.in_ok-memory.ensures.filled;

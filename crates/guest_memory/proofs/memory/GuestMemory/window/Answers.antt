@@ -1,35 +1,27 @@
-use Rattle.std.proofs.Common.{◌≡◌, ◌+◌, ◌-◌, length, take, drop, arith, ap, subst, sym, ◌∙◌}
-use Rattle.vt_bytes.specs.Memory.{IsRam}
-use Rattle.guest_memory.proofs.Held.{in_bios, in_high, part_low, part_bios, part_high}
+use Rattle.std.proofs.Common.{length, arith, ap, subst, sym, ◌∙◌}
+use Rattle.vt_bytes.specs.Memory.{Memory, IsRam}
+use Rattle.vt_bytes.proofs.Bytes.{length-bytes_at}
+use Rattle.guest_memory.specs.Blocks.{IsPlaceOf}
+use Rattle.guest_memory.proofs.Held.{part_held, place_within, same_room}
 use Rattle.guest_memory.proofs.memory.GuestMemory.window.Goals as goal
 
-pub returns-then-address-lt-LOW_END-clause-value : goal.returns-then-address-lt-LOW_END-clause-value
-returns-then-address-lt-LOW_END-clause-value c =
-    let place = c.args.address in
-    let count : place + c.args.len - place ≡ c.args.len = omega arith in
-    ap (λ n. take n (drop place c.deref.result.now)) count
-    ∙ ap (λ bytes. take c.args.len (drop place bytes)) c.deref.ensures.value
-    ∙ part_low _ _ _ _ _ c.args.self.now c.args.address c.args.len c.self.view_is c.self.invariant.parts.0 (omega arith) c.requires.frame
+pub window-requires-clause-some : goal.window-requires-clause-some
+window-requires-clause-some c =
+    let ram = subst (λ (m : Memory). IsRam m.top c.args.address) (sym c.self.view_is) c.requires.ram in
+    let is = subst (λ (m : Memory). IsPlaceOf m.top c.args.address c.place_of.result) (sym c.self.view_is) c.place_of.ensures in
+    place_within c.self.inside.top c.args.address c.place_of.result c.self.invariant.0 ram is
 
-pub returns-then-address-lt-BIOS_END-clause-value : goal.returns-then-address-lt-BIOS_END-clause-value
-returns-then-address-lt-BIOS_END-clause-value c =
-    let ram = subst (λ m. IsRam m.top c.args.address) (sym c.self.view_is) c.requires.ram in
-    let place = c.args.address - 0xE0000 in
-    let count : place + c.args.len - place ≡ c.args.len = omega arith in
-    ap (λ n. take n (drop place c.deref-then-address-lt-BIOS_END.result.now)) count
-    ∙ ap (λ bytes. take c.args.len (drop place bytes)) c.deref-then-address-lt-BIOS_END.ensures.value
-    ∙ part_bios _ _ _ _ _ c.args.self.now c.args.address c.args.len c.self.view_is c.self.invariant.parts.1.0
-    (in_bios _ _ c.self.invariant.top ram (omega arith) (omega arith)) (omega arith) c.requires.frame
+pub window-requires-clause-block : goal.window-requires-clause-block
+window-requires-clause-block c =
+    let ram = subst (λ (m : Memory). IsRam m.top c.args.address) (sym c.self.view_is) c.requires.ram in
+    let is = subst (λ (m : Memory). IsPlaceOf m.top c.args.address c.place_of.result) (sym c.self.view_is) c.place_of.ensures in
+    let same = same_room c.self.inside.top c.args.address c.place_of.result c.self.invariant.0 ram is in
+    omega (arith, same, c.requires.frame)
 
-pub returns-else-address-lt-BIOS_END-clause-value : goal.returns-else-address-lt-BIOS_END-clause-value
-returns-else-address-lt-BIOS_END-clause-value c =
-    let ram = subst (λ m. IsRam m.top c.args.address) (sym c.self.view_is) c.requires.ram in
-    let within = in_high _ _ c.self.invariant.top ram (omega arith) in
-    let place = c.place_in_high-place.result in
-    let count : place + c.args.len - place ≡ c.args.len = omega arith in
-    let same : c.self.inside.top ≡ c.args.self.now.top = ap (λ m. m.top) c.self.view_is in
-    let size : length c.self.inside.high.items ≡ 0x2000000 = omega (arith, c.self.invariant.parts.1.1.0) in
-    ap (λ n. take n (drop place c.deref-else-address-lt-BIOS_END.result.now)) count
-    ∙ ap (λ bytes. take c.args.len (drop place bytes)) c.deref-else-address-lt-BIOS_END.ensures.value
-    ∙ part_high _ _ _ _ _ c.args.self.now c.args.address c.args.len place c.self.view_is c.self.invariant.top size (omega arith) within.1
-    c.requires.frame
+pub returns : goal.returns
+returns c =
+    let ram = subst (λ (m : Memory). IsRam m.top c.args.address) (sym c.self.view_is) c.requires.ram in
+    let is = subst (λ (m : Memory). IsPlaceOf m.top c.args.address c.place_of.result) (sym c.self.view_is) c.place_of.ensures in
+    let value = c.window.ensures ∙ part_held c.self.inside.top c.self.inside.blocks c.args.self.now c.args.address c.args.len c.place_of.result c.self.view_is
+    c.self.invariant.0 c.self.invariant.1 ram is c.requires.frame in
+    record { value = value; len = ap length value ∙ length-bytes_at c.args.self.now c.args.address c.args.len }

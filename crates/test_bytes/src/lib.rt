@@ -1,5 +1,0 @@
-//! Tests of numbers and sums in bytes: public calls once.
-#![tactic(auto)]
-
-#[cfg(test)]
-mod numbers;
