@@ -58,11 +58,6 @@ version = 1
 top_mib = 0x
 system = {}
 => description: not TOML
----
-version = 1
-top_mib = 
-system = {}
-=> description: not TOML
 --- versions
 version = 2
 top_mib = 64
@@ -485,13 +480,20 @@ fn text_and_line<'a>(row: &'a str, arrow: &str) -> Option<(&'a str, &'a str)> {
     lines.split_once(arrow)
 }
 
-// What a table of rows can't show: an empty key, whose line ends in a space, a mark behind the text, and a NUL.
+// What a table of rows can't show: spaces at a line's end, as behind an empty key and where a value is missing, a mark behind the text, and
+// a NUL.
 fn are_refused_by_escapes(alloc: Global) -> Result<(), Fail> {
     is_refused(
         alloc,
         "an empty key",
         b"version = 1\ntop_mib = 64\nsystem = {}\n\"\" = 1\n",
         "description: unknown key root 0 \n",
+    )?;
+    is_refused(
+        alloc,
+        "a missing value",
+        b"version = 1\ntop_mib = \nsystem = {}\n",
+        NOT_TOML,
     )?;
     is_refused(
         alloc,
