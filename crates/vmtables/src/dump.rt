@@ -27,8 +27,8 @@ const MIB: u64 = 0x10_0000;
 const HIGH_BYTES: u64 = 0x200_0000;
 
 /// Writes the dump of `memory` to `out`: a line with the top and the fill byte, then one for each 16 bytes of RAM that aren't all
-/// the fill byte, then `end`. The lines of a frame are offered in one piece. It doesn't flush `out`. Returns `Failed` when a write fails; `out` then took a part of the dump from
-/// its front.
+/// the fill byte, then `end`. The lines of a frame are offered in one piece. It doesn't flush `out`. Returns `Failed` when a write
+/// fails; `out` then took a part of the dump from its front.
 pub(crate) fn dump_to<K: Sink>(memory: &GuestMemory, out: &mut K) -> Result<(), Failed>
     ensures ok { OnOk result (Took (K.taken out.old) (K.taken out.new) (dump memory.now)) }
     ensures front { OnErr result (TookFront (K.taken out.old) (K.taken out.new) (dump memory.now)) }
