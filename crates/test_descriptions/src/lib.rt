@@ -18,6 +18,8 @@ mod part_rules;
 #[cfg(test)]
 mod part_words;
 #[cfg(test)]
+mod table_faults;
+#[cfg(test)]
 mod told;
 #[cfg(test)]
 mod words;
