@@ -33,7 +33,7 @@ add_description() {
     name="boot $(basename "$1" .toml)"
     folder=$work/$(basename "$1" .toml)
     mkdir "$folder"
-    "$program" boot <"$1" >"$folder/dump" && python3 "$root/judges/dump_tables.py" "$folder/dump" "$folder" || exit 1
+    "$program" boot <"$1" >"$folder/dump" && python3 "$root/tools/dump_tables.py" "$folder/dump" "$folder" || exit 1
     against "boot" "$1" "$program" boot
     against "the program's --version" /dev/null "$program" --version
     against "cat of as many bytes as the dump has" "$folder/dump" cat
@@ -73,7 +73,7 @@ add_long_dump() {
 # A machine of QEMU, whose description of devices in AML iasl reads.
 add_machine() {
     local name="load q35"
-    if ! python3 "$root/judges/qemu_files.py" q35 "$work/q35.container" >/dev/null 2>&1; then
+    if ! python3 "$root/tools/qemu_files.py" q35 "$work/q35.container" >/dev/null 2>&1; then
         echo "skipped: the machine q35 of QEMU"
         return
     fi

@@ -22,6 +22,8 @@ import copy
 import pathlib
 import sys
 
+sys.path.append(str(pathlib.Path(__file__).resolve().parent.parent / "tools"))  # whose modules the judges share
+
 from fw_cfg_files import SCRIPT, AddChecksum, AddPointer, Allocate, NotAContainer, read_container, read_script
 from memory_dump import NotADump, NotFound, acpi_table, byte_sum, listed_tables, number_at, read_dump, root_pointer, root_table
 

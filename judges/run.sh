@@ -4,7 +4,8 @@
 # where a bit of a checksum is flipped, or it would be no judge. They judge boots of each policy of places and of some seeds of
 # events too. Then `vmtables load` is given files that QEMU made for machines of its own, and what `vmtables build` makes for each
 # description, and judge_load.py judges the memory that it leaves of them; of a description it must be the memory that `boot`
-# leaves. Last, the commands that README.md shows must print what it says. Nothing is proved here.
+# leaves, and of a machine what SeaBIOS leaves in its guest, as judge_guest.py compares them. Last, the commands that README.md shows
+# must print what it says. Nothing is proved here.
 #
 # usage: judges/run.sh [PROGRAM]     PROGRAM stands for ./vmtables
 #
@@ -14,6 +15,7 @@ set -u
 shopt -s nullglob
 here=$(dirname "$(readlink -f "$0")")
 root=$(dirname "$here")
+tools=$root/tools
 program=$(readlink -f "${1:-$root/vmtables}")
 PATH=$PATH:/usr/sbin # where Debian has dmidecode
 export PYTHONDONTWRITEBYTECODE=1
@@ -21,8 +23,11 @@ work=$(mktemp -d)
 trap 'rm -rf "$work"' EXIT
 judges=(dmidecode iasl qemu-system-x86_64)
 packages=(dmidecode acpica-tools qemu-system-x86) # the package of each judge in Debian
+firmware=SeaBIOS                                  # a judge that comes with QEMU
 asked=()                                          # the judges that were asked
 machines=(pc q35)                                 # the machines of QEMU whose files are loaded
+guest_top=2048                                    # the top of memory of those whose firmware runs, in MiB
+wrong_lines=(2 4)                                 # lines of a dump that a program gets wrong: of the RSDP, and of another file
 policies=(low top scatter)                        # the policies of places, and the seeds of events, with which descriptions boot
 seeds=(1 7 18446744073709551615)
 faults=0
@@ -140,7 +145,7 @@ make_files() {
     words=${words% }
     mkdir "$folder"
     said=$("$program" boot "$@" 2>&1 >"$folder/dump" <"$description") || { fault vmtables "$words" "$said"; return 1; }
-    said=$(python3 "$here/dump_tables.py" "$folder/dump" "$folder" 2>&1) || { fault dump_tables.py "the dump" "$said"; return 1; }
+    said=$(python3 "$tools/dump_tables.py" "$folder/dump" "$folder" 2>&1) || { fault dump_tables.py "the dump" "$said"; return 1; }
     said=$(python3 "$here/described.py" "$description" "$folder" 2>&1) || { fault described.py "the text" "$said"; return 1; }
 }
 
@@ -195,7 +200,7 @@ judge_machine() {
     folder=$work/qemu-$1
     echo "$description"
     mkdir "$folder"
-    said=$(python3 "$here/qemu_files.py" "$1" "$folder/container" 2>&1)
+    said=$(python3 "$tools/qemu_files.py" "$1" "$folder/container" 2>&1)
     case $? in
     0) ;;
     3) echo "  skipped: $said"; return ;;
@@ -204,6 +209,44 @@ judge_machine() {
     note_asked qemu-system-x86_64
     judge_load 64 00
     judge_load 3072 a5 --fill a5 --top 3072
+    judge_guest "$1"
+}
+
+# make_wrong_program LINE: makes a program that is as ours, but changes the last digit of a line of what it writes.
+make_wrong_program() {
+    cat >"$folder/wrong" <<END
+#!/usr/bin/env bash
+"$program" "\$@" | sed '$1 { s/[1-9a-f]$/0/; t; s/0$/1/ }'
+END
+    chmod +x "$folder/wrong"
+}
+
+# finds_wrong NAME LINE: whether the judge of a guest's memory tells of a file that a program gets wrong in a line of its dump.
+finds_wrong() {
+    local said
+    make_wrong_program "$2"
+    said=$(python3 "$here/judge_guest.py" "$1" "$guest_top" "$folder/wrong" 2>&1)
+    [ $? -eq 1 ] && [[ $said == etc/* ]] && return
+    fault judge_guest.py "the memory" "no judge: it finds nothing wrong with a wrong line $2
+$said"
+    return 1
+}
+
+# judge_guest NAME: has the program load the files of a machine of QEMU as its firmware does, and judges the memory by what the firmware
+# leaves.
+judge_guest() {
+    local said line
+    said=$(python3 "$here/judge_guest.py" "$1" "$guest_top" "$program" 2>&1)
+    case $? in
+    0) ;;
+    3) echo "  skipped: $said"; return ;;
+    *) fault judge_guest.py "the memory" "$said"; return ;;
+    esac
+    note_asked "$firmware"
+    for line in "${wrong_lines[@]}"; do
+        finds_wrong "$1" "$line" || return
+    done
+    echo "  $firmware: load --policy top --top $guest_top: $said; a wrong row is found"
 }
 
 judge_machines() {
@@ -282,7 +325,7 @@ listed() {
 
 report() {
     local judge skipped=()
-    for judge in "${judges[@]}"; do
+    for judge in "${judges[@]}" "$firmware"; do
         was_asked "$judge" || skipped+=("$judge")
     done
     echo "judges: faults found: $faults"

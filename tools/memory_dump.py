@@ -1,4 +1,4 @@
-"""The memory of a guest as a dump spells it, and the ACPI tables in it: what the judges that read dumps share."""
+"""The memory of a guest as a dump spells it, and the ACPI tables in it: what the tools and the judges that read dumps share."""
 
 import re
 
@@ -36,6 +36,13 @@ class Memory:
         first = start // 16 * 16
         found = b"".join(self.rows.get(row, self.fill) for row in range(first, end, 16))
         return found[start - first : end - first]
+
+    def put(self, start, content):
+        """Has bytes stand from a multiple of 16 on; they are as many as a multiple of 16."""
+        for at in range(0, len(content), 16):
+            row = content[at : at + 16]
+            if row != self.fill:
+                self.rows[start + at] = row
 
     def find(self, anchor, start, end):
         """Returns the least multiple of 16 in the range at which the anchor's letters stand."""

@@ -1,5 +1,5 @@
-"""The files of a fw_cfg device as a container spells them (docs/FORMATS.md), and the loader script among them: what the judges of
-the program's `build` and `load` share. The directory is that of QEMU's docs/specs/fw_cfg, and the commands are those of its
+"""The files of a fw_cfg device as a container spells them (docs/FORMATS.md), and the loader script among them: what the tools and
+the judges of the program's `build` and `load` share. The directory is that of QEMU's docs/specs/fw_cfg, and the commands are those of its
 hw/acpi/bios-linker-loader.c.
 """
 
