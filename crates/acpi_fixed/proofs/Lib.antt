@@ -1,4 +1,5 @@
 pub mod Tables
 pub mod OfParts
 pub mod Puts
+pub mod FileTables
 pub mod AcpiThere

@@ -6,6 +6,7 @@
 #![tactic(auto)]
 
 mod hpet;
+pub mod laws;
 mod rsdp;
 mod table;
 mod xsdt;

@@ -12,3 +12,4 @@ pub mod HeldRows
 pub mod Grew
 pub mod Pieces
 pub mod Unsummed
+pub mod RowsKept

@@ -1,8 +1,12 @@
 //! Laws over the definitions, each the contract of a function that does nothing.
 
-ghost use Rattle.std.specs.Prelude.{◌≡◌, ℕ, ◌+◌, ◌<◌, List};
+ghost use Rattle.std.specs.Prelude.{◌≡◌, ℕ, ◌+◌, ◌^◌, ◌<◌, List};
 ghost use Rattle.vt_bytes.specs.Parts.{part};
-ghost use Rattle.blob_holes.specs.Blob.{BlobState, IsBlob};
+ghost use Rattle.vt_layout.specs.declared.row.Row.{Row};
+ghost use Rattle.vt_layout.specs.Rows.{size};
+ghost use Rattle.blob_holes.specs.Blob.{BlobState, IsBlob, next_place, aligned};
+ghost use Rattle.blob_holes.specs.Rows.{AreRows, with_rows};
+ghost use Rattle.blob_holes.specs.Appended.{IsAppended};
 ghost use Rattle.blob_holes.specs.Filled.{IsSolid, IsFilled, PlacesFit, AreInOrder, with_pointers, with_sums};
 
 /// States that adding the places and then subtracting the sums, each in its order, fills every hole, where each place fits its
@@ -16,4 +20,12 @@ pub fn pointers_then_sums_fill()
 pub fn solid_parts_stay()
     ensures { (blob : BlobState) (place_of : List ℕ → ℕ) (bytes : List ℕ) (at count : ℕ) → IsFilled blob place_of bytes
         → ((i : ℕ) → i < count → IsSolid blob (at + i)) → part bytes at count ≡ part blob.bytes at count }
+{}
+
+/// States that a file with a layout's rows at its end is a file with holes still, to which the layout was appended.
+pub fn rows_at_its_end_are_appended()
+    ensures kept { (align : ℕ) (blob : BlobState) (rows : List Row) → IsBlob blob → AreRows rows → next_place align blob + size rows < 2 ^ 32
+        → IsBlob (with_rows (aligned align blob) rows) }
+    ensures appended { (align : ℕ) (blob : BlobState) (rows : List Row) → IsBlob blob → AreRows rows → next_place align blob + size rows < 2 ^ 32
+        → IsAppended align blob (with_rows (aligned align blob) rows) rows }
 {}

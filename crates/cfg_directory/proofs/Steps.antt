@@ -20,8 +20,3 @@ bind_ok (Err fault) next y is = absurd cc
 pub guard_ok : {A E : Type 0} (test : Bool) (fault : E) (rest : Result A E) (y : A) → cond test (Err fault) rest ≡ Ok y → (test ≡ false) × (rest ≡ Ok y)
 guard_ok true fault rest y is = absurd cc
 guard_ok false fault rest y is = (refl, is)
-
--- a test that passed
-pub passed_ok : {A E : Type 0} (test : Bool) (fault : E) (x y : A) → cond test (Ok x) (Err fault) ≡ Ok y → test ≡ true
-passed_ok true fault x y is = refl
-passed_ok false fault x y is = absurd cc

@@ -1,4 +1,5 @@
 pub mod Items
+pub mod Files
 pub mod Container
 pub mod Parts
 pub mod Spared

@@ -1,5 +1,5 @@
 -- A read that is awaited goes on, piece by piece, until it is over.
-use Rattle.std.proofs.Common.{◌⊎◌, ◌≡◌, ◌≢◌, ℕ, ◌+◌, ◌-◌, ◌≤◌, ◌<◌, List, [], ◌∷◌, ◌++◌, length, take, drop, cond, Option, Some, None}
+use Rattle.std.proofs.Common.{◌⊎◌, ◌≡◌, ℕ, ◌+◌, ◌-◌, ◌≤◌, ◌<◌, List, [], ◌∷◌, ◌++◌, length, take, drop, cond, Option, Some, None}
 use Rattle.std.proofs.Common.{inl, inr, arith, sym, refl, ap, ap₂, subst, ◌∙◌, length-append}
 use Rattle.std.specs.Prelude.{IfSome}
 use Rattle.std.proofs.lemmas.Bool.{cases_lt}
@@ -16,7 +16,7 @@ use Rattle.cfg_dma.specs.declared.transfer.Kind.{Kind}
 use Rattle.cfg_dma.specs.declared.transfer.Kind.TheVariants.{Read}
 use Rattle.cfg_dma.specs.Device.{IsDevice, IsInFlight, Moves, contents, holds}
 use Rattle.cfg_dma.specs.Transfers.{Attached, finish, move_as, move_next, piece}
-use Rattle.cfg_dma.specs.Reads.{CanRead, IsMoving, IsOver, IsAwaited, GoesOn, IsBesideRead, moved_by}
+use Rattle.cfg_dma.specs.Reads.{CanRead, IsMoving, IsOver, IsAwaited, GoesOn, IsBesideRead, moved_by, descriptor_bytes}
 use Rattle.cfg_dma.proofs.Moved.{next_of}
 use Rattle.cfg_dma.proofs.Pieces.{with_flight, length-next_of, ends, goes_on, beside}
 
@@ -109,9 +109,9 @@ moved_on descriptor transfer moved count a =
     with_flight (move_as Read (transfer.address + moved) count a) (Some (flight_of descriptor transfer (moved + count)))
 
 -- what holds of a read, and of all around it, once a piece has moved
-abbrev MovesOn : List Finished → ℕ → Finished → Attached → Attached → Type 0
-MovesOn before descriptor transfer a b =
-    IsAwaited a.device.items before descriptor transfer b × GoesOn a b
+abbrev MovesOn : List Finished → ℕ → ℕ → Finished → Attached → Attached → Type 0
+MovesOn before descriptor control transfer a b =
+    IsAwaited a.device.items before descriptor control transfer b × GoesOn a b
     × ((address : ℕ) → IsBesideRead address descriptor transfer → at b.memory address ≡ at a.memory address)
 
 -- there is room for the transfer that is in flight
@@ -133,22 +133,22 @@ moved_lawful a descriptor transfer moved count device reads room left = record {
   };
 }
 
--- a control word of which the read moves no byte stays
-word_kept : (a : Attached) (descriptor : ℕ) (transfer : Finished) (moved count : ℕ) → IsMemory a.memory
+-- a descriptor of which the read moves no byte stays
+descriptor_kept : (a : Attached) (descriptor : ℕ) (transfer : Finished) (moved count : ℕ) → IsMemory a.memory
     → (transfer.address + transfer.length ≤ descriptor) ⊎ (descriptor + 16 ≤ transfer.address) → moved + count ≤ transfer.length
-    → bytes_at (move_as Read (transfer.address + moved) count a).memory descriptor 4 ≡ bytes_at a.memory descriptor 4
-word_kept a descriptor transfer moved count memory apart below =
-    bytes_at-same (move_as Read (transfer.address + moved) count a).memory a.memory descriptor 4 (λ i few.
+    → bytes_at (move_as Read (transfer.address + moved) count a).memory descriptor 16 ≡ bytes_at a.memory descriptor 16
+descriptor_kept a descriptor transfer moved count memory apart below =
+    bytes_at-same (move_as Read (transfer.address + moved) count a).memory a.memory descriptor 16 (λ i few.
     moved_beside a transfer moved count (descriptor + i) memory below
     (elim apart as (λ _. (descriptor + i < transfer.address) ⊎ (transfer.address + transfer.length ≤ descriptor + i))
     [ inl l ↦ inr (omega arith) | inr l ↦ inl (omega arith) ]))
 
 -- fewer bytes than are left are moved: it is awaited still
-goes_on_still : (a : Attached) (before : List Finished) (descriptor count : ℕ) (transfer : Finished) (moved : ℕ) → IsDevice a.device
+goes_on_still : (a : Attached) (before : List Finished) (descriptor control count : ℕ) (transfer : Finished) (moved : ℕ) → IsDevice a.device
     → IsMemory a.memory → CanRead a.device.items a.memory.top descriptor transfer → HasMoved a.device.items before transfer moved a
-    → be (bytes_at a.memory descriptor 4) ≢ 0 → 0 < a.device.spare → moved + count < transfer.length
-    → MovesOn before descriptor transfer a (moved_on descriptor transfer moved count a)
-goes_on_still a before descriptor count transfer moved device memory can has word room left =
+    → bytes_at a.memory descriptor 16 ≡ descriptor_bytes control transfer.length transfer.address → 0 < a.device.spare
+    → moved + count < transfer.length → MovesOn before descriptor control transfer a (moved_on descriptor transfer moved count a)
+goes_on_still a before descriptor control count transfer moved device memory can has written room left =
     let below : moved + count ≤ transfer.length = omega arith in
     let more = moved_more a before descriptor transfer moved count memory can has below in
     let bytes = next_of (holds a.device) a.device.offset count in (
@@ -157,7 +157,7 @@ goes_on_still a before descriptor count transfer moved device memory can has wor
         flight = refl;
         some_left = left;
         held = more.held;
-        control = λ none. word (sym (ap be (word_kept a descriptor transfer moved count memory can.beside below)) ∙ none);
+        written = descriptor_kept a descriptor transfer moved count memory can.beside below ∙ written;
         selected = more.selected;
         offset = more.offset;
         finished = more.finished;
@@ -275,25 +275,25 @@ piece_last a descriptor bytes transfer moved reads is some enough =
     ∙ ap (λ (kind : Kind). finish descriptor transfer (move_as kind (transfer.address + moved) (transfer.length - moved) a)) reads
 
 -- what was moved of a read that isn't over
-moved_of : (items : List Item) (before : List Finished) (descriptor : ℕ) (transfer : Finished) (a : Attached)
-    → (moving : IsMoving items before descriptor transfer a) → HasMoved items before transfer moving.moved a
-moved_of items before descriptor transfer a moving =
+moved_of : (items : List Item) (before : List Finished) (descriptor control : ℕ) (transfer : Finished) (a : Attached)
+    → (moving : IsMoving items before descriptor control transfer a) → HasMoved items before transfer moving.moved a
+moved_of items before descriptor control transfer a moving =
     record { held = moving.held; selected = moving.selected; offset = moving.offset; finished = moving.finished }
 
 -- a read that isn't over, over a piece
-moving_moves_on : (a : Attached) (before : List Finished) (descriptor bytes : ℕ) (transfer : Finished) → IsDevice a.device → IsMemory a.memory
-    → CanRead a.device.items a.memory.top descriptor transfer → IsMoving a.device.items before descriptor transfer a
-    → MovesOn before descriptor transfer a (piece bytes a)
-moving_moves_on a before descriptor bytes transfer device memory can moving =
+moving_moves_on : (a : Attached) (before : List Finished) (descriptor control bytes : ℕ) (transfer : Finished) → IsDevice a.device → IsMemory a.memory
+    → CanRead a.device.items a.memory.top descriptor transfer → IsMoving a.device.items before descriptor control transfer a
+    → MovesOn before descriptor control transfer a (piece bytes a)
+moving_moves_on a before descriptor control bytes transfer device memory can moving =
     let moved = moving.moved in
-    let has = moved_of a.device.items before descriptor transfer a moving in
+    let has = moved_of a.device.items before descriptor control transfer a moving in
     let room = room_for a (flight_of descriptor transfer moved) device moving.flight in
-    elim (cases_lt (moved + bytes) transfer.length) as (λ _. MovesOn before descriptor transfer a (piece bytes a)) [
+    elim (cases_lt (moved + bytes) transfer.length) as (λ _. MovesOn before descriptor control transfer a (piece bytes a)) [
       | inl left ↦
-          subst (MovesOn before descriptor transfer a) (sym (piece_fewer a descriptor bytes transfer moved can.kind moving.flight left))
-          (goes_on_still a before descriptor bytes transfer moved device memory can has moving.control room left)
+          subst (MovesOn before descriptor control transfer a) (sym (piece_fewer a descriptor bytes transfer moved can.kind moving.flight left))
+          (goes_on_still a before descriptor control bytes transfer moved device memory can has moving.written room left)
       | inr enough ↦
-          subst (MovesOn before descriptor transfer a)
+          subst (MovesOn before descriptor control transfer a)
           (sym (piece_last a descriptor bytes transfer moved can.kind moving.flight moving.some_left enough)) (
             inr (is_over a before descriptor transfer moved memory can has moving.some_left),
             over_goes_on a descriptor transfer moved device memory room,
@@ -302,15 +302,15 @@ moving_moves_on a before descriptor bytes transfer device memory can moving =
     ]
 
 -- A read that is awaited stays so over any piece, until it is over, and a piece changes memory in its range and its descriptor alone.
-pub read_moves_on : (a : Attached) (before : List Finished) (descriptor bytes : ℕ) (transfer : Finished) → IsDevice a.device → IsMemory a.memory
-    → CanRead a.device.items a.memory.top descriptor transfer → IsAwaited a.device.items before descriptor transfer a
-    → IsAwaited a.device.items before descriptor transfer (piece bytes a) × GoesOn a (piece bytes a)
+pub read_moves_on : (a : Attached) (before : List Finished) (descriptor control bytes : ℕ) (transfer : Finished) → IsDevice a.device → IsMemory a.memory
+    → CanRead a.device.items a.memory.top descriptor transfer → IsAwaited a.device.items before descriptor control transfer a
+    → IsAwaited a.device.items before descriptor control transfer (piece bytes a) × GoesOn a (piece bytes a)
     × ((address : ℕ) → IsBesideRead address descriptor transfer → at (piece bytes a).memory address ≡ at a.memory address)
-read_moves_on a before descriptor bytes transfer device memory can awaited =
-    elim awaited as (λ _. MovesOn before descriptor transfer a (piece bytes a)) [
-      | inl moving ↦ moving_moves_on a before descriptor bytes transfer device memory can moving
+read_moves_on a before descriptor control bytes transfer device memory can awaited =
+    elim awaited as (λ _. MovesOn before descriptor control transfer a (piece bytes a)) [
+      | inl moving ↦ moving_moves_on a before descriptor control bytes transfer device memory can moving
       | inr over ↦
-          subst (MovesOn before descriptor transfer a) (sym (piece_idle bytes a over.idle)) (
+          subst (MovesOn before descriptor control transfer a) (sym (piece_idle bytes a over.idle)) (
             inr over,
             record { items = refl; room = refl; device = device; memory = memory; top = refl; fill = refl },
             λ address other. refl,
@@ -318,13 +318,13 @@ read_moves_on a before descriptor bytes transfer device memory can awaited =
     ]
 
 -- a piece of as many bytes as an awaited read asks for ends it
-pub whole_piece : (a : Attached) (before : List Finished) (descriptor bytes : ℕ) (transfer : Finished) → IsDevice a.device → IsMemory a.memory
-    → CanRead a.device.items a.memory.top descriptor transfer → IsAwaited a.device.items before descriptor transfer a → transfer.length ≤ bytes
+pub whole_piece : (a : Attached) (before : List Finished) (descriptor control bytes : ℕ) (transfer : Finished) → IsDevice a.device → IsMemory a.memory
+    → CanRead a.device.items a.memory.top descriptor transfer → IsAwaited a.device.items before descriptor control transfer a → transfer.length ≤ bytes
     → IsOver a.device.items before descriptor transfer (piece bytes a)
-whole_piece a before descriptor bytes transfer device memory can awaited enough =
+whole_piece a before descriptor control bytes transfer device memory can awaited enough =
     elim awaited as (λ _. IsOver a.device.items before descriptor transfer (piece bytes a)) [
       | inl moving ↦
-          let has = moved_of a.device.items before descriptor transfer a moving in
+          let has = moved_of a.device.items before descriptor control transfer a moving in
           subst (IsOver a.device.items before descriptor transfer)
           (sym (piece_last a descriptor bytes transfer moving.moved can.kind moving.flight moving.some_left (omega arith)))
           (is_over a before descriptor transfer moving.moved memory can has moving.some_left)
@@ -334,14 +334,14 @@ whole_piece a before descriptor bytes transfer device memory can awaited enough 
 -- ---- another memory
 
 -- a read is awaited as well over a memory that holds the same in its descriptor and its range
-pub awaited_same : (items : List Item) (before : List Finished) (descriptor : ℕ) (transfer : Finished) (a : Attached) (m : Memory)
-    → IsAwaited items before descriptor transfer a → m.top ≡ a.memory.top
+pub awaited_same : (items : List Item) (before : List Finished) (descriptor control : ℕ) (transfer : Finished) (a : Attached) (m : Memory)
+    → IsAwaited items before descriptor control transfer a → m.top ≡ a.memory.top
     → ((i : ℕ) → i < 16 → at m (descriptor + i) ≡ at a.memory (descriptor + i))
     → ((i : ℕ) → i < transfer.length → at m (transfer.address + i) ≡ at a.memory (transfer.address + i))
-    → IsAwaited items before descriptor transfer (record a { memory = m })
-awaited_same items before descriptor transfer a m awaited top words range =
+    → IsAwaited items before descriptor control transfer (record a { memory = m })
+awaited_same items before descriptor control transfer a m awaited top words range =
     let word : bytes_at m descriptor 4 ≡ bytes_at a.memory descriptor 4 = bytes_at-same m a.memory descriptor 4 (λ i few. words i (omega arith)) in
-    elim awaited as (λ _. IsAwaited items before descriptor transfer (record a { memory = m })) [
+    elim awaited as (λ _. IsAwaited items before descriptor control transfer (record a { memory = m })) [
       | inl moving ↦
           let some_left = moving.some_left in
           inl (record {
@@ -349,7 +349,7 @@ awaited_same items before descriptor transfer a m awaited top words range =
             flight = moving.flight;
             some_left = moving.some_left;
             held = bytes_at-same m a.memory transfer.address moving.moved (λ i below. range i (omega arith)) ∙ moving.held;
-            control = λ none. moving.control (sym (ap be word) ∙ none);
+            written = bytes_at-same m a.memory descriptor 16 words ∙ moving.written;
             selected = moving.selected;
             offset = moving.offset;
             finished = moving.finished;

@@ -1,5 +1,5 @@
 -- A read that is asked for is started.
-use Rattle.std.proofs.Common.{◌≡◌, ◌≢◌, ℕ, ◌+◌, ◌*◌, ◌^◌, ◌≤◌, ◌<◌, ◌==◌, ◌-◌, Bool, true, false, not, cond, List, take, Some, None}
+use Rattle.std.proofs.Common.{◌≡◌, ℕ, ◌+◌, ◌*◌, ◌^◌, ◌≤◌, ◌<◌, ◌==◌, ◌-◌, Bool, true, false, not, cond, List, take, Some, None}
 use Rattle.std.proofs.Common.{inl, inr, arith, sym, refl, ap, ap₂, subst, ◌∙◌}
 use Rattle.std.specs.Int.RustNames.{bit_and}
 use Rattle.std.specs.Int.Bits.{and_block}
@@ -89,12 +89,11 @@ same_read transfer kind is sound asked =
     let with_both : Kind → Bool → Finished = λ kind error. record transfer { kind = kind; error = error } in
     ap₂ with_both (asked ∙ sym is) (sym sound)
 
--- What a control word asks for: a read, of the item and from the offset of the transfer. It isn't zero.
+-- What a control word asks for: a read, of the item and from the offset of the transfer.
 record Asked (control : ℕ) (d : DeviceState) (transfer : Finished) : Type 0 where
   kind : kind_of control ≡ Read
   device : cond (selects control) (with_selected d (select_of control)) d ≡ record d { select = transfer.select; offset = transfer.offset }
   fits : control < 2 ^ 32
-  some : control ≢ 0
 
 -- a device with another item and offset
 abbrev placed : DeviceState → ℕ → ℕ → DeviceState
@@ -109,14 +108,12 @@ asked control d transfer asks = elim asks as (λ _. Asked control d transfer) [
         kind = reads_it select;
         device = cond-true (selects (selected_read select)) _ _ (selects_it select) ∙ ap₂ (placed d) (names_it select) (sym first.2);
         fits = let below = first.1 in omega arith;
-        some = λ none. absurd (omega (arith, none));
       })
   | inr next ↦
       subst (λ (word : ℕ). Asked word d transfer) (sym next.0) (record {
         kind = refl;
         device = ap₂ (placed d) (sym next.1) (sym next.2);
         fits = omega arith;
-        some = λ none. absurd (omega (arith, none));
       })
 ]
 
@@ -176,8 +173,8 @@ reading_lawful d top descriptor transfer device room can = record {
   };
 }
 
--- a read's control word is in memory once its descriptor is
-word_written : (m : Memory) (descriptor control size address : ℕ) → bytes_at m descriptor 16 ≡ descriptor_bytes control size address
+-- a control word is in memory while its descriptor is
+pub word_written : (m : Memory) (descriptor control size address : ℕ) → bytes_at m descriptor 16 ≡ descriptor_bytes control size address
     → control < 2 ^ 32 → be (bytes_at m descriptor 4) ≡ control
 word_written m descriptor control size address written fits =
     ap be (sym (take-bytes_at m descriptor 4 16 (omega arith)) ∙ ap (take 4) written) ∙ be_four control fits
@@ -186,24 +183,21 @@ word_written m descriptor control size address written fits =
 pub read_is_started : (a : Attached) (before : List Finished) (descriptor control : ℕ) (transfer : Finished) → IsDevice a.device → IsMemory a.memory
     → a.device.flight ≡ None → 0 < a.device.spare → a.device.finished ≡ before → CanRead a.device.items a.memory.top descriptor transfer
     → AsksFor control a.device transfer
-    → IsMoving a.device.items before descriptor transfer (started descriptor control transfer.length transfer.address a)
+    → IsMoving a.device.items before descriptor control transfer (started descriptor control transfer.length transfer.address a)
     × GoesOn a (started descriptor control transfer.length transfer.address a)
     × ((started descriptor control transfer.length transfer.address a).memory
     ≡ with_bytes a.memory descriptor (descriptor_bytes control transfer.length transfer.address))
 read_is_started a before descriptor control transfer device memory idle room finished can asks =
     let bytes = descriptor_bytes control transfer.length transfer.address in
     let m = with_bytes a.memory descriptor bytes in
-    let asks_for = asked control a.device transfer asks in
-    let written = bytes_with a.memory descriptor bytes memory can.descriptor_ram in
-    let word = word_written m descriptor control transfer.length transfer.address written asks_for.fits in
-    subst (λ (b : Attached). IsMoving a.device.items before descriptor transfer b × GoesOn a b × (b.memory ≡ m))
+    subst (λ (b : Attached). IsMoving a.device.items before descriptor control transfer b × GoesOn a b × (b.memory ≡ m))
     (sym (starts a descriptor control transfer memory can asks)) (
       record {
         moved = 0;
         flight = refl;
         some_left = can.some;
         held = sym (bytes_at-none m transfer.address 0 refl);
-        control = λ none. asks_for.some (sym word ∙ none);
+        written = bytes_with a.memory descriptor bytes memory can.descriptor_ram;
         selected = refl;
         offset = omega arith;
         finished = finished;

@@ -1,5 +1,5 @@
 -- Reads that a firmware asks for: how one is started, and what holds of it until it is over (QEMU, docs/specs/fw_cfg, "DMA interface").
-use Rattle.std.specs.Prelude.{◌≡◌, ◌≢◌, ℕ, ◌+◌, ◌*◌, ◌^◌, ◌<◌, ◌≤◌, ◌⊎◌, false, List, [], ◌∷◌, ◌++◌, length, take, Some, None}
+use Rattle.std.specs.Prelude.{◌≡◌, ℕ, ◌+◌, ◌*◌, ◌^◌, ◌<◌, ◌≤◌, ◌⊎◌, false, List, [], ◌∷◌, ◌++◌, length, take, Some, None}
 use Rattle.vt_bytes.specs.Numbers.{be, be_bytes}
 use Rattle.vt_bytes.specs.Parts.{part}
 use Rattle.vt_bytes.specs.Memory.{IsRamRange, IsMemory, bytes_at, with_bytes}
@@ -54,14 +54,14 @@ AsksFor control d transfer =
     ((control ≡ selected_read transfer.select) × (transfer.select < 2 ^ 16) × (transfer.offset ≡ 0))
     ⊎ ((control ≡ next_read) × (transfer.select ≡ d.select) × (transfer.offset ≡ d.offset))
 
--- A read that isn't over: it is in flight, some of its bytes are still to come, memory holds those that were moved, and its control word
--- isn't zero.
-pub record IsMoving (items : List Item) (before : List Finished) (descriptor : ℕ) (transfer : Finished) (a : Attached) : Type 0 where
+-- A read that isn't over: it is in flight, some of its bytes are still to come, memory holds those that were moved, and its descriptor is the
+-- one that was written.
+pub record IsMoving (items : List Item) (before : List Finished) (descriptor control : ℕ) (transfer : Finished) (a : Attached) : Type 0 where
   pub moved : ℕ
   pub flight : a.device.flight ≡ Some (record { descriptor = descriptor; transfer = transfer; moved = moved })
   pub some_left : moved < transfer.length
   pub held : bytes_at a.memory transfer.address moved ≡ take moved (moved_by items transfer)
-  pub control : be (bytes_at a.memory descriptor 4) ≢ 0
+  pub written : bytes_at a.memory descriptor 16 ≡ descriptor_bytes control transfer.length transfer.address
   pub selected : a.device.select ≡ transfer.select
   pub offset : a.device.offset ≡ transfer.offset + moved
   pub finished : a.device.finished ≡ before
@@ -75,9 +75,10 @@ pub record IsOver (items : List Item) (before : List Finished) (descriptor : ℕ
   pub offset : a.device.offset ≡ transfer.offset + transfer.length
   pub finished : a.device.finished ≡ before ++ transfer ∷ []
 
--- a read that is awaited
-abbrev pub IsAwaited : List Item → List Finished → ℕ → Finished → Attached → Type 0
-IsAwaited items before descriptor transfer a = IsMoving items before descriptor transfer a ⊎ IsOver items before descriptor transfer a
+-- a read that is awaited, which was asked for with a control word
+abbrev pub IsAwaited : List Item → List Finished → ℕ → ℕ → Finished → Attached → Type 0
+IsAwaited items before descriptor control transfer a =
+    IsMoving items before descriptor control transfer a ⊎ IsOver items before descriptor transfer a
 
 -- A device goes on with its items and its room, and memory with its top and its fill byte; both stay lawful.
 pub record GoesOn (before after : Attached) : Type 0 where

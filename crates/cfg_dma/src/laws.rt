@@ -1,7 +1,9 @@
 //! Laws over all devices and memories, each the contract of a function that does nothing.
 
-ghost use Rattle.std.specs.Prelude.{◌≡◌, ℕ, ◌+◌, ◌<◌, ◌≤◌, ◌⊎◌, List, sum, Some, None, IsSome};
-ghost use Rattle.vt_bytes.specs.Memory.{IsMemory, at, with_bytes};
+ghost use Rattle.std.specs.Prelude.{◌≡◌, ℕ, ◌+◌, ◌^◌, ◌<◌, ◌≤◌, ◌⊎◌, List, sum, Some, None, IsSome};
+ghost use Rattle.vt_bytes.specs.Numbers.{be};
+ghost use Rattle.vt_bytes.specs.Memory.{IsMemory, at, bytes_at, with_bytes};
+ghost use Rattle.cfg_directory.specs.declared.item.Item.{Item};
 ghost use Rattle.cfg_dma.specs.declared.transfer.Finished.{Finished};
 ghost use Rattle.cfg_dma.specs.declared.transfer.Flight.{Flight};
 ghost use Rattle.cfg_dma.specs.Device.{IsDevice};
@@ -45,7 +47,7 @@ pub fn a_read_is_started()
     ensures { (a : Attached) (before : List Finished) (descriptor control : ℕ) (transfer : Finished) → IsDevice a.device → IsMemory a.memory
         → a.device.flight ≡ None → 0 < a.device.spare → a.device.finished ≡ before
         → CanRead a.device.items a.memory.top descriptor transfer → AsksFor control a.device transfer
-        → IsMoving a.device.items before descriptor transfer (started descriptor control transfer.length transfer.address a)
+        → IsMoving a.device.items before descriptor control transfer (started descriptor control transfer.length transfer.address a)
         × GoesOn a (started descriptor control transfer.length transfer.address a)
         × ((started descriptor control transfer.length transfer.address a).memory
         ≡ with_bytes a.memory descriptor (descriptor_bytes control transfer.length transfer.address)) }
@@ -54,8 +56,16 @@ pub fn a_read_is_started()
 /// States that a read that is awaited stays so over any piece, until it is over, and that a piece changes memory in its range and its
 /// descriptor alone.
 pub fn a_read_moves_on()
-    ensures { (a : Attached) (before : List Finished) (descriptor bytes : ℕ) (transfer : Finished) → IsDevice a.device → IsMemory a.memory
-        → CanRead a.device.items a.memory.top descriptor transfer → IsAwaited a.device.items before descriptor transfer a
-        → IsAwaited a.device.items before descriptor transfer (piece bytes a) × GoesOn a (piece bytes a)
+    ensures { (a : Attached) (before : List Finished) (descriptor control bytes : ℕ) (transfer : Finished) → IsDevice a.device
+        → IsMemory a.memory → CanRead a.device.items a.memory.top descriptor transfer
+        → IsAwaited a.device.items before descriptor control transfer a
+        → IsAwaited a.device.items before descriptor control transfer (piece bytes a) × GoesOn a (piece bytes a)
         × ((address : ℕ) → IsBesideRead address descriptor transfer → at (piece bytes a).memory address ≡ at a.memory address) }
+{}
+
+/// States that memory shows the control word of a read until it is over. So a firmware tells by that word alone whether it is, where it has
+/// written one that isn't zero.
+pub fn a_read_that_moves_shows_its_control_word()
+    ensures { (items : List Item) (before : List Finished) (descriptor control : ℕ) (transfer : Finished) (a : Attached) → control < 2 ^ 32
+        → IsMoving items before descriptor control transfer a → be (bytes_at a.memory descriptor 4) ≡ control }
 {}

@@ -81,7 +81,7 @@ small_within : (b : Bool) (s bytes : List ℕ) → (if b then parsed_hyphenated 
 small_within true s bytes is = small_hyphenated s bytes is
 small_within false s bytes is = absurd (none_some bytes is)
 
-small_parsed : (s bytes : List ℕ) → parsed s ≡ Some bytes → from_be_bytes w128 bytes < 2 ^ 128
+pub small_parsed : (s bytes : List ℕ) → parsed s ≡ Some bytes → from_be_bytes w128 bytes < 2 ^ 128
 small_parsed s bytes is =
     ⊎_elim (λ e. small_simple s bytes e) (λ rest.
     ⊎_elim (λ e. small_hyphenated s bytes e) (λ rest.

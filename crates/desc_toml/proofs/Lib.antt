@@ -1,7 +1,7 @@
 pub mod Each
 pub mod Steps
-pub mod Rules
 pub mod OneMachine
 pub mod Says
 pub mod Shown
 pub mod Faulty
+pub mod Fields

@@ -69,3 +69,10 @@ described_reads bytes m is =
     record { text = text; tables = (root, values, root_read (parse_document bytes) root parsed, says, this); accepted = read_accepted bytes m is })
     (λ other. absurd (not_read m (rw other at is)))
     (cases_Bool (is_utf8 bytes))
+
+-- the values of a machine that is read are those of a walk
+pub values_walked : (bytes : List ℕ) (m : Machine) → Reads bytes m
+    → (root : Members) × (values : List Item) × (walked schema root ≡ Ok values) × (m ≡ machine_of values)
+values_walked bytes m is =
+    let (root, values, parsed, says, made) = (described_reads bytes m is).tables in
+    (root, values, (walked_says schema root values).1 says, made)

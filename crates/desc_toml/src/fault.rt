@@ -23,7 +23,7 @@ pub enum DescFault {
     OutOfRange { table: u8, index: u32, key: u8 },
     /// The machine breaks the rule of this number, at this least index, and none before it; `Machine::check` says what each rule
     /// asks.
-    Broken { rule: u8, index: u32 },
+    Broken { rule: u16, index: u32 },
     /// Memory ran out, which may be at any bytes.
     OutOfMemory,
 }

@@ -18,5 +18,4 @@ mod read;
 mod schema;
 
 pub use fault::DescFault;
-pub use line::Line;
 pub use read::read_machine;

@@ -9,9 +9,7 @@ use crate::fault::DescFault;
 use crate::schema::SCHEMA;
 use arrayvec::ArrayString;
 use desc_schema::Key;
-
-/// A line in a buffer on the stack, so that telling a fault takes no memory.
-pub type Line = ArrayString<128>;
+use vt_outside::{Line, words};
 
 impl DescFault {
     /// Returns the line that tells this fault, with its line feed: the cause, the table, its position and the key, as in
@@ -40,16 +38,7 @@ impl DescFault {
     }
 }
 
-fn words(words: &str) -> Line
-    requires { length words.now ≤ 64 }
-    ensures { result.bytes ≡ words.now }
-{
-    let mut line = Line::new();
-    line.push_str(words);
-    line
-}
-
-fn rule_line(rule: u8, index: u32) -> Line
+fn rule_line(rule: u16, index: u32) -> Line
     ensures { result.bytes ≡ line_of (Broken rule index) }
 {
     let mut number = itoa::Buffer::new();

@@ -1,3 +1,5 @@
+ghost use Rattle.std.specs.Prelude.{◌≡◌, Err};
+ghost use Rattle.std.specs.Str.{IsUtf8};
 ghost use Rattle.toml.specs.View.{table_view};
 ghost use Rattle.desc_toml.specs.Reading.{Gives, root_in, values_in, machine_in, accepted, read_of};
 
@@ -12,9 +14,12 @@ use toml::Table;
 
 /// Returns the machine that `bytes` describe: they are a TOML document in UTF-8, each key is one that the description may have, with
 /// a value of its kind and within its limits, and the machine keeps every rule of `Machine::check`. Else the error is the first
-/// fault of the bytes, in this order, or `DescFault::OutOfMemory`. The machine takes its memory from `alloc`.
+/// fault of the bytes, in this order, or `DescFault::OutOfMemory`, which never comes of bytes that aren't UTF-8. The machine takes its
+/// memory from `alloc`.
 pub fn read_machine(alloc: Global, bytes: &[u8]) -> Result<Machine, DescFault>
-    ensures { Gives (λ machine. machine) result (read_of bytes.now) }
+    ensures read { Gives (λ machine. machine) result (read_of bytes.now) }
+    // Bytes that aren't UTF-8 are told before memory is taken.
+    ensures no_text { ¬ IsUtf8 bytes.now → result ≡ Err DescFault.NotToml }
 {
     let Ok(text) = str::from_utf8(bytes) else {
         return Err(DescFault::NotToml);
@@ -33,7 +38,7 @@ fn accepted(machine: Machine) -> Result<Machine, DescFault>
             // Given up by a call, since each of its parts would be a step of this proof if it ended in place.
             drop(machine);
             Err(DescFault::Broken {
-                rule: broken.rule as u8,
+                rule: broken.rule,
                 index: broken.index,
             })
         }

@@ -1,4 +1,4 @@
--- An Allocate that isn't refused: what is known of its file, what an allocator is asked and answers, and what is made of the machine.
+-- An Allocate that isn't refused: what is known of its file, what an allocator is asked and answers, and what is made of the load.
 use Rattle.std.proofs.Common.{◌≡◌, ◌≢◌, ℕ, ◌<◌, ◌⊎◌, List, [], ◌∷◌, ◌++◌, length, option_map, Option, Some, None, IsSome, IfSome}
 use Rattle.std.proofs.Common.{MatchOption, refl, sym, ap, ap₂, subst, arith, ◌∙◌}
 use Rattle.std.specs.Option.{option_map_or}
@@ -9,43 +9,44 @@ use Rattle.vt_outside.specs.Placement.{Range, IsFree}
 use Rattle.cfg_directory.specs.declared.item.Item.{Item}
 use Rattle.cfg_directory.specs.declared.listed.Listed.{Listed}
 use Rattle.cfg_directory.specs.Items.{IsItems, named}
-use Rattle.image_files.specs.Items.{files_of}
+use Rattle.cfg_directory.specs.Files.{files_of}
 use Rattle.loader_script.specs.declared.entry.Entry.{Entry}
 use Rattle.loader_script.specs.declared.entry.Entry.TheVariants.{Allocate}
 use Rattle.loader_script.specs.declared.refusing.Cause.{Cause}
 use Rattle.loader_script.specs.declared.refusing.FileInfo.{FileInfo}
 use Rattle.loader_script.specs.Conditions.{CanAllocate}
 use Rattle.loader_script.specs.Refusal.{info_of, AreDistinct}
-use Rattle.loader_script.specs.Run.{File, bytes_of, infos_of, cause_of}
+use Rattle.vt_outside.specs.File.{File}
+use Rattle.loader_script.specs.Run.{bytes_of, infos_of, cause_of}
 use Rattle.loader_script.proofs.Conditions.{conditions_from}
 use Rattle.loader_script.proofs.Named.{same_name, found_passes, find-map, IsSome-before_map}
 use Rattle.zone_alloc.specs.declared.alloc.Request.{Request}
-use Rattle.zone_alloc.specs.declared.policy.Policy.{Policy}
 use Rattle.zone_alloc.specs.declared.zone.Zone.{Zone}
-use Rattle.zone_alloc.specs.declared.zones.Zones.{Zones}
+use Rattle.zone_alloc.specs.Allocators.{AllocState}
 use Rattle.zone_alloc.specs.Places.{range_in}
 use Rattle.zone_alloc.specs.Zones.{zone_numbered}
 use Rattle.cfg_dma.specs.Reads.{started, selected_read}
 use Rattle.cfg_dma.specs.Transfers.{Attached, attached}
-use Rattle.script_load.specs.declared.fault.LoadFault.TheVariants as fault
-use Rattle.script_load.specs.declared.placed.PlacedFile.{PlacedFile}
-use Rattle.script_load.specs.declared.placements.Placements.{Placements}
-use Rattle.script_load.specs.Allocators.{MayAnswer}
-use Rattle.script_load.specs.FilesInMemory.{placed_range, placed_ranges, placed_named}
-use Rattle.script_load.specs.Placing.{ArePlacements}
-use Rattle.script_load.specs.Runs.{Answers, early_cause, request_of, request_by}
-use Rattle.script_load.proofs.Causes.{cause_late}
-use Rattle.script_load.proofs.Goes.{not_placed, is_a_file}
-use Rattle.script_load.proofs.Placings.{few_placed, distinct_infos}
-use Rattle.load_machine.specs.declared.stage.Stage.TheVariants.{AtCommand, AwaitsFile, Refused}
-use Rattle.load_machine.specs.Guarded.{descriptor_at}
-use Rattle.load_machine.specs.Machine.{Machine, listed_named, progress_of}
-use Rattle.load_machine.specs.Runs.{request_for}
-use Rattle.load_machine.specs.Steps.{at_command, placed_at}
-use Rattle.load_machine.proofs.NamedItems.{listing, listed_as_named, bytes_of_named}
+use Rattle.command_acts.specs.declared.fault.LoadFault.TheVariants as fault
+use Rattle.command_acts.specs.declared.placed.PlacedFile.{PlacedFile}
+use Rattle.command_acts.specs.declared.placements.Placements.{Placements}
+use Rattle.command_acts.specs.Allocators.{MayAnswer}
+use Rattle.command_acts.specs.FilesInMemory.{placed_range, placed_ranges, placed_named}
+use Rattle.command_acts.specs.Placing.{ArePlacements}
+use Rattle.command_acts.specs.Runs.{Answers, early_cause, request_of, request_by}
+use Rattle.command_acts.proofs.Causes.{cause_late}
+use Rattle.command_acts.proofs.Goes.{not_placed, is_a_file}
+use Rattle.command_acts.proofs.Placings.{few_placed, distinct_infos}
+use Rattle.load_states.specs.declared.stage.Stage.TheVariants.{AtCommand, Refused}
+use Rattle.load_states.specs.Guarded.{descriptor_at}
+use Rattle.load_states.specs.LoadState.{LoadState, listed_named, progress_of}
+use Rattle.load_states.specs.Runs.{request_for}
+use Rattle.load_states.specs.Steps.{awaits_file, at_command, placed_at}
+use Rattle.load_states.proofs.CommandPlaces.{placed_is}
+use Rattle.load_states.proofs.NamedItems.{listing, listed_as_named, bytes_of_named}
 use Rattle.firmware_load.specs.declared.guest.Guest.{Guest}
-use Rattle.firmware_load.specs.Inside.{GoesByCommand, IsReady, machine_at, progress_now}
-use Rattle.firmware_load.proofs.CommandsDone.{machine_with, by_cause}
+use Rattle.firmware_load.specs.Inside.{GoesByCommand, IsReady, load_at, progress_now}
+use Rattle.firmware_load.proofs.CommandsDone.{load_with, by_cause}
 
 -- ---- the placements
 
@@ -150,32 +151,32 @@ is_listed guest listed name align zone ready early =
 -- ---- the request and its answer
 
 -- what it asks
-request_is : (w : Machine) (name : List ℕ) (align zone : ℕ) → cause_of (Allocate name align zone) (progress_of w) ≡ None
+request_is : (w : LoadState) (name : List ℕ) (align zone : ℕ) → cause_of (Allocate name align zone) (progress_of w) ≡ None
     → request_for (Allocate name align zone) w ≡ Some (request_of (files_of w.attached.device.items) name align zone)
 request_is w name align zone none =
     let asked : Option Request = request_by (files_of w.attached.device.items) (Allocate name align zone) in
     ap (λ (found : Option Cause). option_map_or (λ (cause : Cause). None) found asked) none
 
 -- what an allocator answers is an answer that it may give
-pub may_answer : {A : Type 0} (handed_of : A → List Range) (zones_of : A → Zones) (policy_of : A → Policy)
-    (gives : A → Zone → ℕ → ℕ → Option ℕ → Type 0) (a : A) (files : List File) (placed : List PlacedFile) (name : List ℕ) (align zone size : ℕ)
-    (answer : Option ℕ) → size ≡ length (bytes_of files name) → handed_of a ≡ placed_ranges placed
-    → gives a (zone_numbered zone) size align answer
-    → IfSome answer (λ place. IsFree (range_in (zones_of a) (zone_numbered zone)) (handed_of a) size align place)
-    → MayAnswer handed_of zones_of policy_of gives (zones_of a) (policy_of a) (placed_ranges placed) (request_of files name align zone) answer
-may_answer handed_of zones_of policy_of gives a files placed name align zone size answer size_is handed given lawful = record {
-  allocator = a;
-  handed_is = handed;
-  zones_are = refl;
-  policy_is = refl;
-  given = subst (λ n. gives a (zone_numbered zone) n align answer) size_is given;
-  lawful = subst (λ ranges. IfSome answer (λ place. IsFree (range_in (zones_of a) (zone_numbered zone)) ranges
-      (length (bytes_of files name)) align place)) handed
-      (subst (λ n. IfSome answer (λ place. IsFree (range_in (zones_of a) (zone_numbered zone)) (handed_of a) n align place)) size_is lawful);
-}
+pub may_answer : {A : Type 0} (state_of : A → AllocState) (gives : A → Request → Option ℕ → Type 0) (a : A) (files : List File)
+    (placed : List PlacedFile) (name : List ℕ) (align zone size : ℕ) (answer : Option ℕ) → size ≡ length (bytes_of files name)
+    → (state_of a).handed ≡ placed_ranges placed → gives a (record { zone = zone_numbered zone; size = size; align = align }) answer
+    → IfSome answer (λ place. IsFree (range_in (state_of a).begun.zones (zone_numbered zone)) (state_of a).handed size align place)
+    → MayAnswer state_of gives (state_of a).begun (placed_ranges placed) (request_of files name align zone) answer
+may_answer state_of gives a files placed name align zone size answer size_is handed given lawful =
+    let zones = (state_of a).begun.zones in
+    record {
+      allocator = a;
+      begun_is = refl;
+      handed_is = handed;
+      given = subst (λ n. gives a (record { zone = zone_numbered zone; size = n; align = align }) answer) size_is given;
+      lawful = subst (λ ranges. IfSome answer (λ place. IsFree (range_in zones (zone_numbered zone)) ranges (length (bytes_of files name)) align place))
+          handed
+          (subst (λ n. IfSome answer (λ place. IsFree (range_in zones (zone_numbered zone)) (state_of a).handed n align place)) size_is lawful);
+    }
 
--- The machine goes on with that answer.
-goes_answered : (May : Answers) (w next : Machine) (index : ℕ) (name : List ℕ) (align zone : ℕ) (answer : Option ℕ)
+-- The load goes on with that answer.
+goes_answered : (May : Answers) (w next : LoadState) (index : ℕ) (name : List ℕ) (align zone : ℕ) (answer : Option ℕ)
     → cause_of (Allocate name align zone) (progress_of w) ≡ None
     → May (placed_ranges w.placed) (request_of (files_of w.attached.device.items) name align zone) answer
     → next ≡ at_command index (Some (Allocate name align zone)) answer w → GoesByCommand May index (Allocate name align zone) w next
@@ -187,25 +188,25 @@ goes_answered May w next index name align zone answer none may is =
 
 -- It asks for a place.
 pub asks : (guest : Guest) (listed : List Listed) (name : List ℕ) (align zone index : ℕ) (file : Listed) → IsAllocating guest name align zone file
-    → request_for (Allocate name align zone) (machine_at guest (AtCommand index) listed []) ≢ None
+    → request_for (Allocate name align zone) (load_at guest (AtCommand index) listed []) ≢ None
 asks guest listed name align zone index file is nothing =
     none-some (request_of (files_of guest.device.items) name align zone)
-    (sym nothing ∙ request_is (machine_at guest (AtCommand index) listed []) name align zone is.none)
+    (sym nothing ∙ request_is (load_at guest (AtCommand index) listed []) name align zone is.none)
 
 -- What was asked, where the code has found the zone.
 pub was_asked : (guest : Guest) (listed : List Listed) (name : List ℕ) (align zone index : ℕ) (file : Listed) (found : Zone)
     (refused : Option Request) → IsAllocating guest name align zone file → found ≡ zone_numbered zone
     → refused ≡ Some (record { zone = found; size = file.size; align = align })
-    → refused ≡ request_for (Allocate name align zone) (machine_at guest (AtCommand index) listed [])
+    → refused ≡ request_for (Allocate name align zone) (load_at guest (AtCommand index) listed [])
 was_asked guest listed name align zone index file found refused is zone_is asked =
     asked ∙ ap₂ (λ (z : Zone) (size : ℕ). Some (record { zone = z; size = size; align = align })) zone_is is.size
-    ∙ sym (request_is (machine_at guest (AtCommand index) listed []) name align zone is.none)
+    ∙ sym (request_is (load_at guest (AtCommand index) listed []) name align zone is.none)
 
 -- a load that ends without room ends so at its index alone
 pub same_index : (index at : ℕ) → Refused (fault.NoRoom index) ≡ Refused (fault.NoRoom at) → at ≡ index
 same_index index at is = cc
 
--- ---- what is made of the machine
+-- ---- what is made of the load
 
 -- The file is placed, and the read of all of it is started.
 pub goes_placed : (May : Answers) (guest new : Guest) (listed : List Listed) (script : List Entry) (name : List ℕ) (align zone index place : ℕ)
@@ -213,25 +214,25 @@ pub goes_placed : (May : Answers) (guest new : Guest) (listed : List Listed) (sc
     → May (placed_ranges guest.placements.placed.items) (request_of (files_of guest.device.items) name align zone) (Some place)
     → attached new.device new.memory ≡ started descriptor_at (selected_read file.select) file.size place (attached guest.device guest.memory)
     → new.placements.placed.items ≡ guest.placements.placed.items ++ record { name = file.name; place = place; size = file.size } ∷ []
-    → GoesByCommand May index (Allocate name align zone) (machine_at guest (AtCommand index) listed script)
-    (machine_at new (AwaitsFile index) listed script)
+    → GoesByCommand May index (Allocate name align zone) (load_at guest (AtCommand index) listed script)
+    (load_at new (awaits_file index) listed script)
 goes_placed May guest new listed script name align zone index place file is found may after placed =
-    let w = machine_at guest (AtCommand index) listed script in
+    let w = load_at guest (AtCommand index) listed script in
     let now = guest.placements.placed.items in
-    let next_is : machine_at new (AwaitsFile index) listed script ≡ at_command index (Some (Allocate name align zone)) (Some place) w =
-    ap₂ (λ (a : Attached) (ps : List PlacedFile). machine_with a ps (AwaitsFile index) listed script) after
+    let next_is : load_at new (awaits_file index) listed script ≡ at_command index (Some (Allocate name align zone)) (Some place) w =
+    ap₂ (λ (a : Attached) (ps : List PlacedFile). load_with a ps (awaits_file index) listed script) after
     (placed ∙ ap (λ n. now ++ record { name = n; place = place; size = file.size } ∷ []) is.named)
-    ∙ sym (ap (λ (o : Option Listed). placed_at index name place o w) found)
+    ∙ sym (placed_is index name place file w found) ∙ sym (ap (λ (o : Option Listed). placed_at index name place o w) found)
     ∙ sym (by_cause w index (Allocate name align zone) None (Some place) is.none) in
-    goes_answered May w (machine_at new (AwaitsFile index) listed script) index name align zone (Some place) is.none may next_is
+    goes_answered May w (load_at new (awaits_file index) listed script) index name align zone (Some place) is.none may next_is
 
 -- Or there is no room for it.
 pub goes_without : (May : Answers) (guest : Guest) (listed : List Listed) (script : List Entry) (name : List ℕ) (align zone index : ℕ)
     (file : Listed) → IsAllocating guest name align zone file
     → May (placed_ranges guest.placements.placed.items) (request_of (files_of guest.device.items) name align zone) None
-    → GoesByCommand May index (Allocate name align zone) (machine_at guest (AtCommand index) listed script)
-    (machine_at guest (Refused (fault.NoRoom index)) listed script)
+    → GoesByCommand May index (Allocate name align zone) (load_at guest (AtCommand index) listed script)
+    (load_at guest (Refused (fault.NoRoom index)) listed script)
 goes_without May guest listed script name align zone index file is may =
-    let w = machine_at guest (AtCommand index) listed script in
-    goes_answered May w (machine_at guest (Refused (fault.NoRoom index)) listed script) index name align zone None is.none may
+    let w = load_at guest (AtCommand index) listed script in
+    goes_answered May w (load_at guest (Refused (fault.NoRoom index)) listed script) index name align zone None is.none may
     (sym (by_cause w index (Allocate name align zone) None None is.none))

@@ -1,4 +1,4 @@
--- What a command that is carried out makes of the machine, over its parts.
+-- What a command that is carried out makes of the load, over its parts.
 use Rattle.std.proofs.Common.{◌≡◌, ℕ, suc, ◌+◌, ◌^◌, ◌<◌, ◌≤◌, List, [], Option, Some, None, MatchOption, refl, sym, ap, ap₂, subst, arith, ◌∙◌}
 use Rattle.std.specs.Option.{option_map_or}
 use Rattle.vt_bytes.specs.Memory.{Memory}
@@ -9,29 +9,30 @@ use Rattle.loader_script.specs.declared.refusing.Cause.{Cause}
 use Rattle.loader_script.specs.declared.refusing.Cause.TheVariants.{TooFar}
 use Rattle.loader_script.specs.declared.refusing.FileInfo.{FileInfo}
 use Rattle.loader_script.specs.Refusal.{causes_of, first_cause}
-use Rattle.loader_script.specs.Run.{File, infos_of, cause_of, pointer_sum}
+use Rattle.vt_outside.specs.File.{File}
+use Rattle.loader_script.specs.Run.{infos_of, cause_of, pointer_sum}
 use Rattle.loader_script.proofs.Conditions.{conditions_suffice}
-use Rattle.image_files.specs.Items.{files_of}
+use Rattle.cfg_directory.specs.Files.{files_of}
 use Rattle.zone_alloc.specs.declared.alloc.Request.{Request}
 use Rattle.cfg_dma.specs.Device.{DeviceState}
 use Rattle.cfg_dma.specs.Transfers.{Attached, attached}
-use Rattle.script_load.specs.declared.placed.PlacedFile.{PlacedFile}
-use Rattle.script_load.specs.declared.fault.LoadFault.TheVariants as fault
-use Rattle.script_load.specs.FilesInMemory.{files_in, placed_ranges, pointed, summed}
-use Rattle.script_load.specs.Placing.{places_in}
-use Rattle.script_load.specs.Runs.{Answers, at_files, early_cause, request_by}
-use Rattle.script_load.proofs.Causes.{cause_early, cause_late, pointer_goes, pointer_stops}
-use Rattle.script_load.proofs.Placings.{refusal_is}
-use Rattle.load_machine.specs.declared.stage.Stage.{Stage}
-use Rattle.load_machine.specs.declared.stage.Stage.TheVariants.{AtCommand, Refused}
-use Rattle.load_machine.specs.Machine.{Machine, progress_of}
-use Rattle.load_machine.specs.Runs.{request_for}
-use Rattle.load_machine.specs.Steps.{at_command, commanded}
+use Rattle.command_acts.specs.declared.placed.PlacedFile.{PlacedFile}
+use Rattle.command_acts.specs.declared.fault.LoadFault.TheVariants as fault
+use Rattle.command_acts.specs.FilesInMemory.{files_in, placed_ranges, pointed, summed}
+use Rattle.command_acts.specs.Placing.{places_in}
+use Rattle.command_acts.specs.Runs.{Answers, at_files, early_cause, request_by}
+use Rattle.command_acts.proofs.Causes.{cause_early, cause_late, pointer_goes, pointer_stops}
+use Rattle.command_acts.proofs.Placings.{refusal_is}
+use Rattle.load_states.specs.declared.stage.Stage.{Stage}
+use Rattle.load_states.specs.declared.stage.Stage.TheVariants.{AtCommand, Refused}
+use Rattle.load_states.specs.LoadState.{LoadState, progress_of}
+use Rattle.load_states.specs.Runs.{request_for}
+use Rattle.load_states.specs.Steps.{at_command, commanded}
 use Rattle.firmware_load.specs.Inside.{GoesByCommand}
 
--- a machine of these parts
-abbrev pub machine_with : Attached → List PlacedFile → Stage → List Listed → List Entry → Machine
-machine_with its_attached its_placed its_stage its_listed its_script = record {
+-- a load of these parts
+abbrev pub load_with : Attached → List PlacedFile → Stage → List Listed → List Entry → LoadState
+load_with its_attached its_placed its_stage its_listed its_script = record {
   attached = its_attached;
   stage = its_stage;
   listed = its_listed;
@@ -39,13 +40,13 @@ machine_with its_attached its_placed its_stage its_listed its_script = record {
   placed = its_placed;
 }
 
--- the machine does with a command what its first cause says
-pub by_cause : (w : Machine) (index : ℕ) (entry : Entry) (cause : Option Cause) (answer : Option ℕ) → cause_of entry (progress_of w) ≡ cause
+-- the load does with a command what its first cause says
+pub by_cause : (w : LoadState) (index : ℕ) (entry : Entry) (cause : Option Cause) (answer : Option ℕ) → cause_of entry (progress_of w) ≡ cause
     → at_command index (Some entry) answer w ≡ commanded index entry cause answer w
 by_cause w index entry cause answer is = ap (λ found. commanded index entry found answer w) is
 
--- The machine goes on so by a command that asks for no place.
-pub goes_unasked : (May : Answers) (w next : Machine) (index : ℕ) (entry : Entry) (cause : Option Cause) → cause_of entry (progress_of w) ≡ cause
+-- The load goes on so by a command that asks for no place.
+pub goes_unasked : (May : Answers) (w next : LoadState) (index : ℕ) (entry : Entry) (cause : Option Cause) → cause_of entry (progress_of w) ≡ cause
     → option_map_or (λ (why : Cause). None) cause (request_by (files_of w.attached.device.items) entry) ≡ None
     → next ≡ commanded index entry cause None w → GoesByCommand May index entry w next
 goes_unasked May w next index entry cause is unasked next_is =
@@ -56,7 +57,7 @@ goes_unasked May w next index entry cause is unasked next_is =
     (sym request) (next_is ∙ sym (by_cause w index entry cause None is))
 
 -- by one that is refused
-pub goes_refused : (May : Answers) (w : Machine) (index : ℕ) (entry : Entry) (cause : Cause) → early_cause entry (progress_of w) ≡ Some cause
+pub goes_refused : (May : Answers) (w : LoadState) (index : ℕ) (entry : Entry) (cause : Cause) → early_cause entry (progress_of w) ≡ Some cause
     → GoesByCommand May index entry w (record w { stage = Refused (fault.Command index cause) })
 goes_refused May w index entry cause early =
     goes_unasked May w (record w { stage = Refused (fault.Command index cause) }) index entry (Some cause)
@@ -67,7 +68,7 @@ behind : (index : ℕ) → index + 1 ≡ suc index
 behind index = omega arith
 
 -- and by one that is skipped
-pub goes_skipped : (May : Answers) (w : Machine) (index command : ℕ)
+pub goes_skipped : (May : Answers) (w : LoadState) (index command : ℕ)
     → GoesByCommand May index (Skipped command) w (record w { stage = AtCommand (index + 1) })
 goes_skipped May w index command =
     goes_unasked May w (record w { stage = AtCommand (index + 1) }) index (Skipped command) None
@@ -85,11 +86,11 @@ pub pointer_done : (device : DeviceState) (m new : Memory) (placed : List Placed
     (dest src : List ℕ) (offset size index : ℕ)
     → early_cause (AddPointer dest src offset size) (at_files (files_of device.items) (files_in m placed) []) ≡ None
     → pointer_sum (files_in m placed) dest src offset size < 256 ^ size → new ≡ pointed m placed dest src offset size
-    → machine_with (attached device new) placed (AtCommand (index + 1)) listed script
-    ≡ at_command index (Some (AddPointer dest src offset size)) None (machine_with (attached device m) placed (AtCommand index) listed script)
+    → load_with (attached device new) placed (AtCommand (index + 1)) listed script
+    ≡ at_command index (Some (AddPointer dest src offset size)) None (load_with (attached device m) placed (AtCommand index) listed script)
 pointer_done device m new placed listed script dest src offset size index early fits is =
-    let w = machine_with (attached device m) placed (AtCommand index) listed script in
-    ap₂ (λ (m : Memory) (n : ℕ). machine_with (attached device m) placed (AtCommand n) listed script) is (behind index)
+    let w = load_with (attached device m) placed (AtCommand index) listed script in
+    ap₂ (λ (m : Memory) (n : ℕ). load_with (attached device m) placed (AtCommand n) listed script) is (behind index)
     ∙ sym (by_cause w index (AddPointer dest src offset size) None None (pointer_goes dest src offset size (progress_of w) early fits))
 
 -- One whose sum doesn't fit is refused.
@@ -97,11 +98,11 @@ pub pointer_refused : (device : DeviceState) (m new : Memory) (placed : List Pla
     (dest src : List ℕ) (offset size index : ℕ)
     → early_cause (AddPointer dest src offset size) (at_files (files_of device.items) (files_in m placed) []) ≡ None
     → 256 ^ size ≤ pointer_sum (files_in m placed) dest src offset size → new ≡ m
-    → machine_with (attached device new) placed (Refused (fault.Command index TooFar)) listed script
-    ≡ at_command index (Some (AddPointer dest src offset size)) None (machine_with (attached device m) placed (AtCommand index) listed script)
+    → load_with (attached device new) placed (Refused (fault.Command index TooFar)) listed script
+    ≡ at_command index (Some (AddPointer dest src offset size)) None (load_with (attached device m) placed (AtCommand index) listed script)
 pointer_refused device m new placed listed script dest src offset size index early far same =
-    let w = machine_with (attached device m) placed (AtCommand index) listed script in
-    ap (λ (m : Memory). machine_with (attached device m) placed (Refused (fault.Command index TooFar)) listed script) same
+    let w = load_with (attached device m) placed (AtCommand index) listed script in
+    ap (λ (m : Memory). load_with (attached device m) placed (Refused (fault.Command index TooFar)) listed script) same
     ∙ sym (by_cause w index (AddPointer dest src offset size) (Some TooFar) None
     (pointer_stops dest src offset size (progress_of w) early far))
 
@@ -110,9 +111,9 @@ pub sum_done : (device : DeviceState) (m new : Memory) (placed : List PlacedFile
     (name : List ℕ) (offset start count index : ℕ)
     → early_cause (AddChecksum name offset start count) (at_files (files_of device.items) (files_in m placed) []) ≡ None
     → new ≡ summed m placed name offset start count
-    → machine_with (attached device new) placed (AtCommand (index + 1)) listed script
-    ≡ at_command index (Some (AddChecksum name offset start count)) None (machine_with (attached device m) placed (AtCommand index) listed script)
+    → load_with (attached device new) placed (AtCommand (index + 1)) listed script
+    ≡ at_command index (Some (AddChecksum name offset start count)) None (load_with (attached device m) placed (AtCommand index) listed script)
 sum_done device m new placed listed script name offset start count index early is =
-    let w = machine_with (attached device m) placed (AtCommand index) listed script in
-    ap₂ (λ (m : Memory) (n : ℕ). machine_with (attached device m) placed (AtCommand n) listed script) is (behind index)
+    let w = load_with (attached device m) placed (AtCommand index) listed script in
+    ap₂ (λ (m : Memory) (n : ℕ). load_with (attached device m) placed (AtCommand n) listed script) is (behind index)
     ∙ sym (by_cause w index (AddChecksum name offset start count) None None (cause_late (AddChecksum name offset start count) (progress_of w) early))

@@ -4,8 +4,8 @@ use Rattle.std.proofs.lemmas.Bool.{cond-true, lt-ltb}
 use Rattle.std.proofs.lemmas.List.{drop_more}
 use Rattle.std.proofs.lemmas.Option.{slice_get_within, get_or_from_slice_get}
 use Rattle.rand_pcg.specs.Lcg.{Lcg}
-use Rattle.load_machine.specs.declared.event.Event.{Event}
-use Rattle.firmware_load.specs.Schedules.{for_seed}
+use Rattle.load_states.specs.declared.event.Event.{Event}
+use Rattle.firmware_load.specs.Schedules.{ListedState, Plan, for_seed, seeded_events}
 use Rattle.firmware_load.specs.Drawing.{drawn_event, behind_event, drawn_events}
 
 -- none are left to draw
@@ -23,6 +23,21 @@ one_left (suc count) g some = ap (λ (n : ℕ). drawn_event g ∷ drawn_events n
 pub item_left : (events : List Event) (k : ℕ) (event : Event) → slice_get events k ≡ Some event → drop k events ≡ event ∷ drop (k + 1) events
 item_left events k event is =
     drop_more events k event (slice_get_within events k event is) ∙ ap (λ (e : Event). e ∷ drop (k + 1) events) (get_or_from_slice_get events k event event is)
+
+-- the plans that a list and a seed are, where these events are left
+abbrev pub listed_plan : ListedState → Plan
+listed_plan s = record { events = λ number. for_seed number s.events; left = s.left }
+
+abbrev pub seeded_plan : List Event → Plan
+seeded_plan events = record { events = λ number. for_seed number (seeded_events number); left = events }
+
+-- what is left of a plan that gave an event, and of one that gave none
+pub left_taken : (before after : Plan) (event : Event) → before ≡ record after { left = event ∷ after.left }
+    → (before.left ≡ event ∷ after.left) × (after.events ≡ before.events)
+left_taken before after event is = (ap (λ (p : Plan). p.left) is, sym (ap (λ (p : Plan). p.events) is))
+
+pub left_ended : (before after : Plan) → before.left ≡ [] → after ≡ before → after.left ≡ []
+left_ended before after none same = ap (λ (p : Plan). p.left) same ∙ none
 
 -- a seed has its events
 pub seed_has : (seed : ℕ) (events : List Event) → seed < 2 ^ 64 → events ≡ for_seed seed events

@@ -6,7 +6,7 @@ pub mod RoomOfLoads
 pub mod CommandsDone
 pub mod Allocating
 pub mod AtStages
-pub mod Machines
+pub mod LoadStates
 pub mod Opening
 pub mod AtCommands
 pub mod CanMove

@@ -5,33 +5,33 @@ use Rattle.std.proofs.lemmas.List.{append-nil}
 use Rattle.vt_outside.specs.Placement.{Range}
 use Rattle.vt_outside.specs.Stream.{next_count}
 use Rattle.zone_alloc.specs.declared.alloc.Request.{Request}
-use Rattle.script_load.specs.declared.fault.LoadFault.{LoadFault}
-use Rattle.script_load.specs.declared.fault.LoadFault.TheVariants.{NoRoom}
-use Rattle.script_load.specs.FilesInMemory.{placed_ranges}
-use Rattle.script_load.specs.Loads.{IsAsked}
-use Rattle.script_load.specs.Runs.{Answers}
-use Rattle.load_machine.specs.declared.event.Event.{Event}
-use Rattle.load_machine.specs.declared.stage.Stage.{Stage}
-use Rattle.load_machine.specs.declared.stage.Stage.TheVariants.{AsksCount, AwaitsCount, AsksEntries, AwaitsEntries, AsksScript, AwaitsScript}
-use Rattle.load_machine.specs.declared.stage.Stage.TheVariants.{AtCommand, AwaitsFile, Done, Refused}
-use Rattle.load_machine.specs.Loads.{most_closing, stage_after}
-use Rattle.load_machine.specs.Machine.{Machine, memory_of}
-use Rattle.load_machine.specs.Runs.{EndsAfter, closing_events, has_ended}
-use Rattle.load_machine.proofs.WholeRuns.{loaded_over}
+use Rattle.zone_alloc.specs.Allocators.{AllocState}
+use Rattle.command_acts.specs.declared.fault.LoadFault.{LoadFault}
+use Rattle.command_acts.specs.declared.fault.LoadFault.TheVariants.{NoRoom}
+use Rattle.command_acts.specs.FilesInMemory.{placed_ranges}
+use Rattle.command_acts.specs.Script.{IsAsked}
+use Rattle.command_acts.specs.Runs.{Answers}
+use Rattle.load_states.specs.declared.event.Event.{Event}
+use Rattle.load_states.specs.declared.stage.Stage.{Stage}
+use Rattle.load_states.specs.declared.stage.Stage.TheVariants.{Asks, Awaits, AtCommand, Done, Refused}
+use Rattle.load_states.specs.Loads.{most_closing, stage_after, opening_stage}
+use Rattle.load_states.specs.LoadState.{LoadState, memory_of}
+use Rattle.load_states.specs.Runs.{EndsAfter, closing_events, has_ended}
+use Rattle.load_states.proofs.WholeRuns.{loaded_over}
 use Rattle.firmware_load.specs.World.{IsLoadOver}
 use Rattle.firmware_load.specs.declared.loading.Loading.{Loading}
-use Rattle.firmware_load.specs.Inside.{machine_in, IsOnRun, AsksOnTheWay}
+use Rattle.firmware_load.specs.Inside.{load_in, IsOnRun, AsksOnTheWay}
 use Rattle.firmware_load.proofs.OnRun.{Follows, asks_through, asks_no_more}
 
 -- What closing a load leads to, from wherever it is on its run.
-abbrev pub IsClosed : Answers → Machine → Machine → Type 0
+abbrev pub IsClosed : Answers → LoadState → LoadState → Type 0
 IsClosed May between last =
-    (begun : Machine) (before : List Event) → IsOnRun May begun before between
+    (begun : LoadState) (before : List Event) → IsOnRun May begun before between
     → (closing : ℕ) × (closing ≤ most_closing between.attached.device.items) × (has_ended between.stage ≡ true → closing ≡ 0)
     × IsOnRun May begun (before ++ closing_events closing) last
 
 -- A load that was begun, has followed its plan and was closed, is over.
-pub load_over : (May : Answers) (first between last : Machine) (left_first left : List Event) (handed : List Range)
+pub load_over : (May : Answers) (first between last : LoadState) (left_first left : List Event) (handed : List Range)
     (answer : Result (Unit {0}) LoadFault) → IsOnRun May first [] first → Follows May first between left_first left
     → (has_ended between.stage ≡ true) ⊎ (left ≡ []) → IsClosed May between last → has_ended last.stage ≡ true
     → last.stage ≡ stage_after answer → handed ≡ placed_ranges last.placed → IsLoadOver May first left_first left handed answer last
@@ -55,29 +55,24 @@ load_over May first between last left_first left handed answer on follows ends c
     }
 
 -- what was asked on the whole way
-pub asks_in_all : (first between last : Loading) (refusals_first refusals_between refusals : ℕ) (refused_first refused_between refused : Option Request)
-    → AsksOnTheWay first between refusals_first refusals_between refused_first refused_between
-    → AsksOnTheWay between last refusals_between refusals refused_between refused
-    → AsksOnTheWay first last refusals_first refusals refused_first refused
-asks_in_all first between last refusals_first refusals_between refusals refused_first refused_between refused before after =
-    elim (cases_Bool (has_ended between.stage)) as (λ _. AsksOnTheWay first last refusals_first refusals refused_first refused) [
+pub asks_in_all : (first between last : Loading) (alloc_first alloc_between alloc_last : AllocState)
+    → AsksOnTheWay first between alloc_first alloc_between
+    → AsksOnTheWay between last alloc_between alloc_last
+    → AsksOnTheWay first last alloc_first alloc_last
+asks_in_all first between last alloc_first alloc_between alloc_last before after =
+    elim (cases_Bool (has_ended between.stage)) as (λ _. AsksOnTheWay first last alloc_first alloc_last) [
       | inl over ↦
-          asks_no_more first between last refusals_first refusals_between refusals refused_first refused_between refused over before after
+          asks_no_more first between last alloc_first alloc_between alloc_last over before after
       | inr running ↦
-          asks_through first between last refusals_first refusals_between refusals refused_first refused_between refused running before after
+          asks_through first between last alloc_first alloc_between alloc_last running before after
     ]
 
 -- whether a stage is a refusal
 abbrev is_refused : Stage → Bool
 is_refused (Refused why) = true
-is_refused AsksCount = false
-is_refused AwaitsCount = false
-is_refused (AsksEntries size taken) = false
-is_refused (AwaitsEntries size taken) = false
-is_refused (AsksScript select size taken) = false
-is_refused (AwaitsScript select size taken) = false
+is_refused (Asks reading) = false
+is_refused (Awaits reading) = false
 is_refused (AtCommand index) = false
-is_refused (AwaitsFile index) = false
 is_refused Done = false
 
 same_refusal : (why other : LoadFault) → Refused why ≡ Refused other → why ≡ other
@@ -90,13 +85,15 @@ answers_no_room (Ok nothing) index s is at = absurd (true≢false (ap is_refused
 answers_no_room (Err why) index s is at = ap Err (same_refusal why (NoRoom index) (sym is ∙ at))
 
 -- What a load says of its allocator: where it answers that there is no room, and where it doesn't.
-pub without_room : (first last : Loading) (refusals_first refusals : ℕ) (refused_first refused : Option Request) (answer : Result (Unit {0}) LoadFault)
-    → AsksOnTheWay first last refusals_first refusals refused_first refused → first.stage ≡ AsksCount → last.stage ≡ stage_after answer
-    → ((index : ℕ) → answer ≡ Err (NoRoom index) → (refusals ≡ next_count refusals_first) × IsAsked first.guest.device.items index refused)
-    × (((index : ℕ) → answer ≡ Err (NoRoom index) → ⊥) → refusals ≡ refusals_first)
-without_room first last refusals_first refusals refused_first refused answer asks begun stage = (
+pub without_room : (first last : Loading) (alloc_first alloc_last : AllocState) (answer : Result (Unit {0}) LoadFault)
+    → AsksOnTheWay first last alloc_first alloc_last → first.stage ≡ opening_stage → last.stage ≡ stage_after answer
+    → ((index : ℕ) → answer ≡ Err (NoRoom index)
+    → (alloc_last.refusals ≡ next_count alloc_first.refusals) × IsAsked first.guest.device.items index alloc_last.refused)
+    × (((index : ℕ) → answer ≡ Err (NoRoom index) → ⊥) → alloc_last.refusals ≡ alloc_first.refusals)
+without_room first last alloc_first alloc_last answer asks begun stage = (
   λ index is.
-      elim (asks.no_room index (stage ∙ ap stage_after is)) as (λ _. (refusals ≡ next_count refusals_first) × IsAsked first.guest.device.items index refused) [
+      elim (asks.no_room index (stage ∙ ap stage_after is))
+      as (λ _. (alloc_last.refusals ≡ next_count alloc_first.refusals) × IsAsked first.guest.device.items index alloc_last.refused) [
         | inl there ↦ absurd (true≢false (sym (ap has_ended there) ∙ ap has_ended begun))
         | inr so ↦ so
       ],
@@ -104,8 +101,8 @@ without_room first last refusals_first refusals refused_first refused answer ask
 )
 
 -- what was asked, said of a world that holds the load
-pub asked_of_world : (seen : Option Machine) (loading : Option Loading) (l : Loading) (index : ℕ) (asked : Option Request)
-    → machine_in loading ≡ seen → loading ≡ Some l → IsAsked l.guest.device.items index asked
+pub asked_of_world : (seen : Option LoadState) (loading : Option Loading) (l : Loading) (index : ℕ) (asked : Option Request)
+    → load_in loading ≡ seen → loading ≡ Some l → IsAsked l.guest.device.items index asked
     → IfSome seen (λ w. IsAsked w.attached.device.items index asked)
 asked_of_world seen loading l index asked is there asks =
-    subst (λ (o : Option Machine). IfSome o (λ w. IsAsked w.attached.device.items index asked)) (ap machine_in (sym there) ∙ is) asks
+    subst (λ (o : Option LoadState). IfSome o (λ w. IsAsked w.attached.device.items index asked)) (ap load_in (sym there) ∙ is) asks

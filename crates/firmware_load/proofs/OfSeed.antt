@@ -4,7 +4,7 @@ use Rattle.rand_core.specs.Pcg32Seed.{pcg32_seed}
 use Rattle.rand_pcg.specs.Lcg.{Lcg, next_state, state_after}
 use Rattle.rand_pcg.specs.Pcg.{multiplier_64, pcg32, pcg32_of_seed}
 use Rattle.zone_alloc.specs.Policies.{generator_after, word_of}
-use Rattle.load_machine.specs.declared.event.Event.{Event}
+use Rattle.load_states.specs.declared.event.Event.{Event}
 use Rattle.firmware_load.specs.Schedules.{event_as, words_as, event_at, word_behind, events_from, seeded_events}
 use Rattle.firmware_load.specs.Drawing.{behind_as, drawn_event, behind_event, drawn_events}
 

@@ -2,30 +2,30 @@
 use Rattle.std.proofs.Common.{◌≡◌, ℕ, ◌⊎◌, inl, inr, true, false, List, [], ◌∷◌, ◌++◌, Option, Some, None, append_assoc, refl, sym, ap, subst, ◌∙◌}
 use Rattle.std.proofs.lemmas.Bool.{true≢false}
 use Rattle.std.proofs.lemmas.Option.{none-some}
-use Rattle.std.proofs.lemmas.List.{append-nil}
 use Rattle.vt_outside.specs.Placement.{Range}
 use Rattle.vt_outside.specs.Stream.{next_count}
 use Rattle.zone_alloc.specs.declared.alloc.Request.{Request}
+use Rattle.zone_alloc.specs.Allocators.{AllocState}
 use Rattle.cfg_directory.specs.declared.item.Item.{Item}
-use Rattle.script_load.specs.Allocators.{AreLawful}
-use Rattle.script_load.specs.declared.fault.LoadFault.TheVariants.{NoRoom}
-use Rattle.script_load.specs.Loads.{IsAsked}
-use Rattle.script_load.specs.Runs.{Answers}
-use Rattle.load_machine.specs.declared.event.Event.{Event}
-use Rattle.load_machine.specs.declared.stage.Stage.{Stage}
-use Rattle.load_machine.specs.declared.stage.Stage.TheVariants.{AsksCount, AwaitsCount, AsksEntries, AwaitsEntries, AsksScript, AwaitsScript}
-use Rattle.load_machine.specs.declared.stage.Stage.TheVariants.{AtCommand, AwaitsFile, Done, Refused}
-use Rattle.load_machine.specs.Machine.{Machine, memory_of}
-use Rattle.load_machine.specs.Runs.{AnyLawful, EndsAfter, StepsTo, has_ended, request_of}
-use Rattle.load_machine.proofs.NoRoomAsked.{no_room_of, no_room_asks}
-use Rattle.load_machine.proofs.StepKeeps.{step_keeps}
+use Rattle.command_acts.specs.Allocators.{AreLawful}
+use Rattle.command_acts.specs.declared.fault.LoadFault.TheVariants.{NoRoom}
+use Rattle.command_acts.specs.Script.{IsAsked}
+use Rattle.command_acts.specs.Runs.{Answers}
+use Rattle.load_states.specs.declared.event.Event.{Event}
+use Rattle.load_states.specs.declared.stage.Stage.{Stage}
+use Rattle.load_states.specs.declared.stage.Stage.TheVariants.{Asks, Awaits, AtCommand, Done, Refused}
+use Rattle.load_states.specs.LoadState.{LoadState, memory_of}
+use Rattle.load_states.specs.Runs.{AnyLawful, EndsAfter, StepsTo, has_ended, request_of}
+use Rattle.load_states.proofs.NoRoomAsked.{no_room_asks}
+use Rattle.load_states.proofs.Readings.{no_room_of}
+use Rattle.load_states.proofs.StepKeeps.{step_keeps}
 use Rattle.firmware_load.specs.World.{IsWithoutRoom, IsSound}
 use Rattle.firmware_load.specs.declared.loading.Loading.{Loading}
-use Rattle.firmware_load.specs.Inside.{machine_of, IsInside, IsOnRun, AsksOnTheWay}
+use Rattle.firmware_load.specs.Inside.{load_of, IsInside, IsOnRun, AsksOnTheWay}
 use Rattle.firmware_load.proofs.StepInside.{asked_by}
 
 -- one more event
-pub run_more : (May : Answers) (begun : Machine) (events : List Event) (event : Event) (w next : Machine) → AreLawful May (memory_of begun).top
+pub run_more : (May : Answers) (begun : LoadState) (events : List Event) (event : Event) (w next : LoadState) → AreLawful May (memory_of begun).top
     → IsOnRun May begun events w → has_ended w.stage ≡ false → StepsTo May event w next → IsOnRun May begun (events ++ event ∷ []) next
 run_more May begun events event w next lawful on running steps = record {
   goes_on = λ rest last ends.
@@ -35,17 +35,13 @@ run_more May begun events event w next lawful on running steps = record {
 }
 
 -- What a load follows: from wherever it is on its run, the events that a schedule has given.
-abbrev pub Follows : Answers → Machine → Machine → List Event → List Event → Type 0
+abbrev pub Follows : Answers → LoadState → LoadState → List Event → List Event → Type 0
 Follows May first w left_first left =
-    (begun : Machine) (before : List Event) → IsOnRun May begun before first
+    (begun : LoadState) (before : List Event) → IsOnRun May begun before first
     → (taken : List Event) × (left_first ≡ taken ++ left) × IsOnRun May begun (before ++ taken) w
 
--- it has followed none yet
-pub follows_none : (May : Answers) (first : Machine) (left : List Event) → Follows May first first left left
-follows_none May first left = λ begun before on. ([], refl, subst (λ (es : List Event). IsOnRun May begun es first) (sym (append-nil before)) on)
-
 -- and it follows one more
-pub follows_more : (May : Answers) (first w next : Machine) (event : Event) (left_first left left_now : List Event) → AreLawful May (memory_of first).top
+pub follows_more : (May : Answers) (first w next : LoadState) (event : Event) (left_first left left_now : List Event) → AreLawful May (memory_of first).top
     → Follows May first w left_first left → left ≡ event ∷ left_now → has_ended w.stage ≡ false → StepsTo May event w next
     → Follows May first next left_first left_now
 follows_more May first w next event left_first left left_now lawful follows is running steps = λ begun before on.
@@ -57,7 +53,7 @@ follows_more May first w next event left_first left left_now lawful follows is r
     )
 
 -- the schedule has no more
-pub follows_all : (May : Answers) (first w : Machine) (left_first left left_now : List Event) → Follows May first w left_first left → left ≡ []
+pub follows_all : (May : Answers) (first w : LoadState) (left_first left left_now : List Event) → Follows May first w left_first left → left ≡ []
     → left_now ≡ [] → Follows May first w left_first left_now
 follows_all May first w left_first left left_now follows none none_now =
     subst (Follows May first w left_first) (none ∙ sym none_now) follows
@@ -69,50 +65,44 @@ lawful_answer May top handed request None lawful may = tt
 lawful_answer May top handed request (Some place) lawful may = lawful handed request place may
 
 -- a step whose answers are lawful is one of any lawful allocator
-pub lawful_steps : (May : Answers) (top : ℕ) (event : Event) (w next : Machine) → AreLawful May top → StepsTo May event w next
+pub lawful_steps : (May : Answers) (top : ℕ) (event : Event) (w next : LoadState) → AreLawful May top → StepsTo May event w next
     → StepsTo (AnyLawful top) event w next
 lawful_steps May top event w next lawful steps =
     asked_by May (AnyLawful top) event w next (request_of event w) (λ handed request answer may. lawful_answer May top handed request answer lawful may) steps
 
 -- a load that ends without room has ended
 no_room_ended : (s : Stage) (index : ℕ) → no_room_of s ≡ Some index → has_ended s ≡ true
-no_room_ended AsksCount index is = absurd (none-some index is)
-no_room_ended AwaitsCount index is = absurd (none-some index is)
-no_room_ended (AsksEntries size taken) index is = absurd (none-some index is)
-no_room_ended (AwaitsEntries size taken) index is = absurd (none-some index is)
-no_room_ended (AsksScript select size taken) index is = absurd (none-some index is)
-no_room_ended (AwaitsScript select size taken) index is = absurd (none-some index is)
+no_room_ended (Asks reading) index is = absurd (none-some index is)
+no_room_ended (Awaits reading) index is = absurd (none-some index is)
 no_room_ended (AtCommand at) index is = absurd (none-some index is)
-no_room_ended (AwaitsFile at) index is = absurd (none-some index is)
 no_room_ended Done index is = absurd (none-some index is)
 no_room_ended (Refused why) index is = refl
 
 -- nothing was asked yet
-pub asks_nothing : (l : Loading) (refusals : ℕ) (refused : Option Request) → AsksOnTheWay l l refusals refusals refused refused
-asks_nothing l refusals refused =
-    record { no_room = λ index is. inl is; sound = λ same. refl; ended = λ over. (refl, refl, refl); items = refl; top = refl }
+pub asks_nothing : (l : Loading) (alloc : AllocState) → AsksOnTheWay l l alloc alloc
+asks_nothing l alloc = record { no_room = λ index is. inl is; sound = λ same. refl; ended = λ over. (refl, refl); items = refl; top = refl }
 
 -- What a step of a load asks that hasn't ended, as its code says it.
-pub step_asks : (May : Answers) (event : Event) (before after : Loading) (refusals_before refusals : ℕ) (refused_before refused : Option Request)
+pub step_asks : (May : Answers) (event : Event) (before after : Loading) (alloc_before alloc_after : AllocState)
     → AreLawful May before.guest.memory.top → IsInside before → has_ended before.stage ≡ false
-    → StepsTo May event (machine_of before) (machine_of after)
-    → IsWithoutRoom event (machine_of before) (machine_of after) refusals_before refusals refused
-    → IsSound (machine_of before) (machine_of after) refusals_before refusals
-    → AsksOnTheWay before after refusals_before refusals refused_before refused
-step_asks May event before after refusals_before refusals refused_before refused lawful inside running steps without sound =
+    → StepsTo May event (load_of before) (load_of after)
+    → IsWithoutRoom event (load_of before) (load_of after) alloc_before alloc_after
+    → IsSound (load_of before) (load_of after) alloc_before alloc_after → AsksOnTheWay before after alloc_before alloc_after
+step_asks May event before after alloc_before alloc_after lawful inside running steps without sound =
     let items = before.guest.device.items in
     let top = before.guest.memory.top in
     let fill = before.guest.memory.fill in
-    let kept = step_keeps (AnyLawful top) items top fill inside.events event (machine_of before) (machine_of after) (λ handed request place free. free)
-    inside.kept (lawful_steps May top event (machine_of before) (machine_of after) lawful steps) in
+    let kept = step_keeps (AnyLawful top) items top fill inside.events event (load_of before) (load_of after) (λ handed request place free. free)
+    inside.kept (lawful_steps May top event (load_of before) (load_of after) lawful steps) in
     record {
       no_room = λ index is.
-          elim (without index is) as (λ _. (before.stage ≡ Refused (NoRoom index)) ⊎ ((refusals ≡ next_count refusals_before) × IsAsked items index refused)) [
+          elim (without index is) as (λ _. (before.stage ≡ Refused (NoRoom index))
+          ⊎ ((alloc_after.refusals ≡ next_count alloc_before.refusals) × IsAsked items index alloc_after.refused)) [
             | inl there ↦ inl there
             | inr refuses ↦ inr (
               refuses.0,
-              elim (no_room_asks May (AnyLawful top) items top fill inside.events event (machine_of before) (machine_of after) index inside.kept steps is)
-                  as (λ _. IsAsked items index refused) [
+              elim (no_room_asks May (AnyLawful top) items top fill inside.events event (load_of before) (load_of after) index inside.kept steps is)
+                  as (λ _. IsAsked items index alloc_after.refused) [
                     | inl there ↦ absurd (true≢false (sym (no_room_ended before.stage index there) ∙ running))
                     | inr asked ↦ subst (IsAsked items index) (sym refuses.1) asked
                   ],
@@ -129,19 +119,20 @@ not_there : (s : Stage) (index : ℕ) → has_ended s ≡ false → s ≡ Refuse
 not_there s index running is = true≢false (sym (ap has_ended is) ∙ running)
 
 -- What was asked on the way to a load that hasn't ended, and from there on.
-pub asks_through : (first between last : Loading) (refusals_first refusals_between refusals : ℕ) (refused_first refused_between refused : Option Request)
-    → has_ended between.stage ≡ false → AsksOnTheWay first between refusals_first refusals_between refused_first refused_between
-    → AsksOnTheWay between last refusals_between refusals refused_between refused
-    → AsksOnTheWay first last refusals_first refusals refused_first refused
-asks_through first between last refusals_first refusals_between refusals refused_first refused_between refused running before after =
-    let same : refusals_between ≡ refusals_first = before.sound (λ index is. absurd (not_there between.stage index running is)) in
+pub asks_through : (first between last : Loading) (alloc_first alloc_between alloc_last : AllocState)
+    → has_ended between.stage ≡ false → AsksOnTheWay first between alloc_first alloc_between
+    → AsksOnTheWay between last alloc_between alloc_last
+    → AsksOnTheWay first last alloc_first alloc_last
+asks_through first between last alloc_first alloc_between alloc_last running before after =
+    let same : alloc_between.refusals ≡ alloc_first.refusals = before.sound (λ index is. absurd (not_there between.stage index running is)) in
     record {
       no_room = λ index is.
-          inr (elim (after.no_room index is) as (λ _. (refusals ≡ next_count refusals_first) × IsAsked first.guest.device.items index refused) [
+          inr (elim (after.no_room index is)
+          as (λ _. (alloc_last.refusals ≡ next_count alloc_first.refusals) × IsAsked first.guest.device.items index alloc_last.refused) [
             | inl there ↦ absurd (not_there between.stage index running there)
             | inr refuses ↦ (
               refuses.0 ∙ ap next_count same,
-              subst (λ (its : List Item). IsAsked its index refused) before.items refuses.1,
+              subst (λ (its : List Item). IsAsked its index alloc_last.refused) before.items refuses.1,
             )
           ]);
       sound = λ there. after.sound (λ index is. (before.ended (ap has_ended (there index is))).0 ∙ there index is) ∙ same;
@@ -151,24 +142,24 @@ asks_through first between last refusals_first refusals_between refusals refused
     }
 
 -- a load that has ended asks nothing more
-pub asks_no_more : (first between last : Loading) (refusals_first refusals_between refusals : ℕ) (refused_first refused_between refused : Option Request)
-    → has_ended between.stage ≡ true → AsksOnTheWay first between refusals_first refusals_between refused_first refused_between
-    → AsksOnTheWay between last refusals_between refusals refused_between refused
-    → AsksOnTheWay first last refusals_first refusals refused_first refused
-asks_no_more first between last refusals_first refusals_between refusals refused_first refused_between refused over before after =
+pub asks_no_more : (first between last : Loading) (alloc_first alloc_between alloc_last : AllocState)
+    → has_ended between.stage ≡ true → AsksOnTheWay first between alloc_first alloc_between
+    → AsksOnTheWay between last alloc_between alloc_last
+    → AsksOnTheWay first last alloc_first alloc_last
+asks_no_more first between last alloc_first alloc_between alloc_last over before after =
     let still = after.ended over in
     record {
       no_room = λ index is.
           elim (before.no_room index (sym still.0 ∙ is)) as (λ _. (first.stage ≡ Refused (NoRoom index))
-          ⊎ ((refusals ≡ next_count refusals_first) × IsAsked first.guest.device.items index refused)) [
+          ⊎ ((alloc_last.refusals ≡ next_count alloc_first.refusals) × IsAsked first.guest.device.items index alloc_last.refused)) [
             | inl there ↦ inl there
             | inr refuses ↦ inr (
-              still.1 ∙ refuses.0,
-              subst (IsAsked first.guest.device.items index) (sym still.2) refuses.1,
+              ap (λ (s : AllocState). s.refusals) still.1 ∙ refuses.0,
+              subst (λ (s : AllocState). IsAsked first.guest.device.items index s.refused) (sym still.1) refuses.1,
             )
           ];
-      sound = λ there. still.1 ∙ before.sound (λ index is. there index (still.0 ∙ is));
-      ended = λ was. let so = before.ended was in (still.0 ∙ so.0, still.1 ∙ so.1, still.2 ∙ so.2);
+      sound = λ there. ap (λ (s : AllocState). s.refusals) still.1 ∙ before.sound (λ index is. there index (still.0 ∙ is));
+      ended = λ was. let so = before.ended was in (still.0 ∙ so.0, still.1 ∙ so.1);
       items = after.items ∙ before.items;
       top = after.top ∙ before.top;
     }

@@ -1,48 +1,33 @@
 -- What a load keeps when it begins.
-use Rattle.std.proofs.Common.{◌≡◌, ℕ, ◌≤◌, ◌∙◌, List, [], length, None, Result, Ok, Err, IfOk, vec_capacity, arith, sym, ap, subst}
+use Rattle.std.proofs.Common.{◌≡◌, ℕ, ◌≤◌, ◌∙◌, List, [], length, Result, Ok, Err, IfOk, vec_capacity, arith, sym, ap, subst}
 use Rattle.std.specs.List.{AllByRecursion}
 use Rattle.vt_outside.specs.Name.{IsName}
 use Rattle.vt_bytes.specs.Memory.{IsTop, IsMemory, IsRam, at}
 use Rattle.cfg_directory.specs.declared.item.Item.{Item}
 use Rattle.cfg_directory.specs.Items.{IsItems}
-use Rattle.image_files.specs.Items.{files_of}
+use Rattle.cfg_directory.specs.Files.{files_of}
 use Rattle.loader_script.specs.declared.entry.Entry.{Entry}
 use Rattle.loader_script.specs.Run.{infos_of}
-use Rattle.cfg_dma.specs.Device.{DeviceState, IsDevice}
-use Rattle.cfg_dma.specs.Transfers.{room_of}
-use Rattle.script_load.specs.Placing.{ArePlacements}
-use Rattle.script_load.specs.Runs.{Answers}
-use Rattle.script_load.specs.declared.fault.LoadFault.{LoadFault}
-use Rattle.script_load.specs.Script.{script_in}
-use Rattle.load_machine.specs.declared.event.Event.{Event}
-use Rattle.load_machine.specs.declared.stage.Stage.TheVariants.{AsksCount}
-use Rattle.load_machine.specs.Moves.{most_transfers}
-use Rattle.load_machine.specs.Kept.{IsKept}
-use Rattle.load_machine.specs.Loads.{IsBegun}
-use Rattle.load_machine.specs.Runs.{AnyLawful}
-use Rattle.load_machine.proofs.Opening.{begun_keeps}
+use Rattle.cfg_dma.specs.Device.{DeviceState}
+use Rattle.command_acts.specs.Placing.{ArePlacements}
+use Rattle.command_acts.specs.Runs.{Answers}
+use Rattle.command_acts.specs.declared.fault.LoadFault.{LoadFault}
+use Rattle.command_acts.specs.Script.{script_in}
+use Rattle.load_states.specs.declared.event.Event.{Event}
+use Rattle.load_states.specs.Kept.{IsKept}
+use Rattle.load_states.specs.Loads.{IsBegun, begun_device, opening_stage}
+use Rattle.load_states.specs.Runs.{AnyLawful}
+use Rattle.load_states.proofs.Opening.{begun_keeps}
 use Rattle.firmware_load.specs.declared.loading.Loading.{Loading}
-use Rattle.firmware_load.specs.Inside.{machine_of, IsInside, IsOnRun, HasRooms}
-
--- a device that was made of items, with room for all transfers of a load
-abbrev pub new_device : List Item → DeviceState
-new_device items = record {
-  items = items;
-  select = 0;
-  offset = 0;
-  address = 0;
-  flight = None;
-  finished = [];
-  spare = most_transfers items;
-}
+use Rattle.firmware_load.specs.Inside.{load_of, IsInside, IsOnRun, HasRooms}
 
 -- a load keeps what is told of its own items, its own top and its own fill byte
 pub kept_own : (l : Loading) (items : List Item) (top fill : ℕ) (events : List Event)
-    → IsKept (AnyLawful top) items top fill events (machine_of l)
-    → IsKept (AnyLawful l.guest.memory.top) l.guest.device.items l.guest.memory.top l.guest.memory.fill events (machine_of l)
+    → IsKept (AnyLawful top) items top fill events (load_of l)
+    → IsKept (AnyLawful l.guest.memory.top) l.guest.device.items l.guest.memory.top l.guest.memory.fill events (load_of l)
 kept_own l items top fill events kept =
     let m = l.guest.memory in
-    let w = machine_of l in
+    let w = load_of l in
     subst (λ (its : List Item). IsKept (AnyLawful m.top) its m.top m.fill events w) (sym kept.items)
     (subst (λ byte. IsKept (AnyLawful m.top) items m.top byte events w) (sym kept.fill)
     (subst (λ end. IsKept (AnyLawful end) items end fill events w) (sym kept.top) kept))
@@ -57,14 +42,13 @@ room_more (Err why) few many more room = tt
 pub record IsOpening (items : List Item) (top fill : ℕ) (l : Loading) : Type 0 where
   pub lawful : IsItems items
   pub names : AllByRecursion (λ (item : Item). IsName item.name) items
-  pub device : IsDevice l.guest.device
-  pub device_is : l.guest.device ≡ new_device items
+  pub device_is : l.guest.device ≡ begun_device items
   pub memory : IsMemory l.guest.memory
   pub top_is : l.guest.memory.top ≡ top
   pub fill_is : l.guest.memory.fill ≡ fill
   pub filled : (address : ℕ) → IsRam top address → at l.guest.memory address ≡ fill
   pub is_top : IsTop top
-  pub stage : l.stage ≡ AsksCount
+  pub stage : l.stage ≡ opening_stage
   pub listed : l.listed.items ≡ []
   pub script : l.script.items ≡ []
   pub placed : l.guest.placements.placed.items ≡ []
@@ -73,22 +57,16 @@ pub record IsOpening (items : List Item) (top fill : ℕ) (l : Loading) : Type 0
   pub listed_room : length items ≤ vec_capacity l.listed
   pub script_room : IfOk (script_in items) (λ script. length script ≤ vec_capacity l.script)
 
--- its machine is one that is begun
-pub opening_begun : (items : List Item) (top fill : ℕ) (l : Loading) → IsOpening items top fill l → IsBegun items top fill (machine_of l)
+-- its load is one that is begun
+pub opening_begun : (items : List Item) (top fill : ℕ) (l : Loading) → IsOpening items top fill l → IsBegun items top fill (load_of l)
 opening_begun items top fill l opening = record {
   lawful = opening.lawful;
   names = opening.names;
-  device = opening.device;
-  room = subst (λ (d : DeviceState). most_transfers items ≤ room_of d) (sym opening.device_is) (omega arith);
+  device = opening.device_is;
   memory = opening.memory;
-  items = ap (λ (d : DeviceState). d.items) opening.device_is;
   top = opening.top_is;
   fill = opening.fill_is;
   blank = λ address ram. opening.filled address (subst (λ t. IsRam t address) opening.top_is ram) ∙ sym opening.fill_is;
-  idle = record {
-    idle = ap (λ (d : DeviceState). d.flight) opening.device_is;
-    finished = ap (λ (d : DeviceState). d.finished) opening.device_is;
-  };
   nothing = record { listed = opening.listed; script = opening.script; placed = opening.placed };
   stage = opening.stage;
 }
@@ -99,7 +77,7 @@ opening_inside items top fill l opening =
     let its : l.guest.device.items ≡ items = ap (λ (d : DeviceState). d.items) opening.device_is in
     record {
       events = [];
-      kept = kept_own l items top fill [] (begun_keeps (AnyLawful top) items top fill (machine_of l) (opening_begun items top fill l opening));
+      kept = kept_own l items top fill [] (begun_keeps (AnyLawful top) items top fill (load_of l) (opening_begun items top fill l opening));
       rooms = subst (λ (is : List Item). HasRooms is l) (sym its) (record {
         listed = opening.listed_room;
         script = opening.script_room;
@@ -110,8 +88,8 @@ opening_inside items top fill l opening =
 
 -- A load that was just begun is at the start of its run, however places will be answered.
 pub opening_on_run : (May : Answers) (l : Loading)
-    → IsBegun l.guest.device.items l.guest.memory.top l.guest.memory.fill (machine_of l) → IsOnRun May (machine_of l) [] (machine_of l)
+    → IsBegun l.guest.device.items l.guest.memory.top l.guest.memory.fill (load_of l) → IsOnRun May (load_of l) [] (load_of l)
 opening_on_run May l begun = record {
   goes_on = λ rest last ends. ends;
-  kept = begun_keeps May l.guest.device.items l.guest.memory.top l.guest.memory.fill (machine_of l) begun;
+  kept = begun_keeps May l.guest.device.items l.guest.memory.top l.guest.memory.fill (load_of l) begun;
 }

@@ -9,14 +9,14 @@ use Rattle.std.proofs.lemmas.List.Sums.{sum_by-cons}
 use Rattle.std.proofs.lemmas.Option.{same_Some, none-some}
 use Rattle.cfg_directory.specs.declared.item.Item.{Item}
 use Rattle.cfg_directory.specs.Items.{IsItems, named, total_size}
-use Rattle.image_files.specs.Items.{loader_name}
+use Rattle.loader_script.specs.LoaderName.{loader_name}
 use Rattle.loader_script.specs.declared.entry.Entry.{Entry}
 use Rattle.loader_script.specs.Spelling.{entries_of, is_script_length}
-use Rattle.script_load.specs.declared.fault.LoadFault.{LoadFault}
-use Rattle.script_load.specs.Script.{script_of, script_from, script_in}
-use Rattle.load_machine.specs.Loads.{script_size}
-use Rattle.load_machine.specs.Moves.{all_reads, most_transfers, pieces_of}
-use Rattle.load_machine.proofs.Counting.{length-first_reads}
+use Rattle.command_acts.specs.declared.fault.LoadFault.{LoadFault}
+use Rattle.command_acts.specs.Script.{script_of, script_from, script_in}
+use Rattle.load_states.specs.Loads.{script_size}
+use Rattle.load_states.specs.Moves.{all_reads, most_transfers, pieces_of}
+use Rattle.load_states.proofs.Counting.{length-first_reads}
 
 -- No item has more bytes than all of them.
 pub named_small : (items : List Item) (name : List ℕ) (item : Item) → named items name ≡ Some item → length item.bytes ≤ total_size items

@@ -5,19 +5,20 @@ use Rattle.std.proofs.lemmas.Bool.{cond-true, cond-false, true≢false}
 use Rattle.std.proofs.lemmas.List.{append-nil}
 use Rattle.cfg_directory.specs.declared.item.Item.{Item}
 use Rattle.cfg_dma.specs.declared.transfer.Flight.{Flight}
-use Rattle.script_load.specs.Allocators.{AreLawful}
-use Rattle.script_load.specs.Runs.{Answers}
-use Rattle.load_machine.specs.declared.event.Event.{Event}
-use Rattle.load_machine.specs.declared.event.Event.TheVariants.{Firmware}
-use Rattle.load_machine.specs.declared.stage.Stage.{Stage}
-use Rattle.load_machine.specs.Kept.{IsKept}
-use Rattle.load_machine.specs.Loads.{most_steps, most_closing}
-use Rattle.load_machine.specs.Machine.{Machine, memory_of}
-use Rattle.load_machine.specs.Runs.{AnyLawful, StepsTo, closing_events, has_ended, whole_piece}
-use Rattle.load_machine.proofs.Ending.{steps_left, step_goes, step_not_back, whole_piece_idle, steps_left_most}
-use Rattle.load_machine.proofs.StepKeeps.{step_keeps}
+use Rattle.command_acts.specs.Allocators.{AreLawful}
+use Rattle.command_acts.specs.Runs.{Answers}
+use Rattle.load_states.specs.declared.event.Event.{Event}
+use Rattle.load_states.specs.declared.event.Event.TheVariants.{Firmware}
+use Rattle.load_states.specs.declared.stage.Stage.{Stage}
+use Rattle.load_states.specs.Kept.{IsKept}
+use Rattle.load_states.specs.Loads.{most_steps, most_closing}
+use Rattle.load_states.specs.LoadState.{LoadState, memory_of}
+use Rattle.load_states.specs.Runs.{AnyLawful, StepsTo, closing_events, has_ended, whole_piece}
+use Rattle.load_states.proofs.Ending.{step_goes, step_not_back, whole_piece_idle, steps_left_most}
+use Rattle.load_states.proofs.Readings.{steps_left}
+use Rattle.load_states.proofs.StepKeeps.{step_keeps}
 use Rattle.firmware_load.specs.declared.loading.Loading.{Loading}
-use Rattle.firmware_load.specs.Inside.{machine_of, IsInside, IsOnRun, IsTurn}
+use Rattle.firmware_load.specs.Inside.{load_of, IsInside, IsOnRun, IsTurn}
 use Rattle.firmware_load.proofs.OnRun.{run_more, lawful_steps}
 
 -- 1 while a transfer is in flight, whose look may still be in vain
@@ -26,12 +27,12 @@ in_flight None = 0
 in_flight (Some flight) = 1
 
 -- What gets less with each turn of a load that hasn't ended: twice the steps that are left, and one more while a transfer is in flight.
-abbrev pub turns_left : Machine → ℕ
+abbrev pub turns_left : LoadState → ℕ
 turns_left w =
     if has_ended w.stage then 0 else 1 + 2 * steps_left w.attached.device.items w.stage + in_flight w.attached.device.flight
 
 -- What a turn does to the steps that are left: the load has ended, or they are fewer by one or at least no more, and no transfer is in flight.
-record IsTaken (items : List Item) (w next : Machine) : Type 0 where
+record IsTaken (items : List Item) (w next : LoadState) : Type 0 where
   fewer : in_flight w.attached.device.flight ≡ 0 → steps_left items next.stage + 1 ≤ steps_left items w.stage
   no_more : steps_left items next.stage ≤ steps_left items w.stage
 
@@ -40,7 +41,7 @@ idle_flight None is = refl
 idle_flight (Some flight) is = absurd (omega (arith, is))
 
 -- by a step of the firmware
-step_taken : (May : Answers) (items : List Item) (top fill : ℕ) (events : List Event) (w next : Machine) → IsKept May items top fill events w
+step_taken : (May : Answers) (items : List Item) (top fill : ℕ) (events : List Event) (w next : LoadState) → IsKept May items top fill events w
     → StepsTo May Firmware w next → has_ended w.stage ≡ false → IsTaken items w next
 step_taken May items top fill events w next kept steps running = record {
   fewer = λ idle. step_goes May items top fill events w next kept steps (idle_flight w.attached.device.flight idle) running;
@@ -48,7 +49,7 @@ step_taken May items top fill events w next kept steps running = record {
 }
 
 -- a step and a piece
-piece_taken : (May : Answers) (items : List Item) (top fill : ℕ) (events : List Event) (w middle next : Machine) → IsKept May items top fill events middle
+piece_taken : (May : Answers) (items : List Item) (top fill : ℕ) (events : List Event) (w middle next : LoadState) → IsKept May items top fill events middle
     → StepsTo May whole_piece middle next → IsTaken items w middle → IsTaken items w next × (next.attached.device.flight ≡ None) × (next.stage ≡ middle.stage)
 piece_taken May items top fill events w middle next kept steps taken =
     let idle = whole_piece_idle May items top fill events middle next kept steps in (
@@ -66,21 +67,21 @@ flight_few None = inl refl
 flight_few (Some flight) = inr refl
 
 -- what is left behind an ended load, and behind one that runs
-left_ended : (w : Machine) → has_ended w.stage ≡ true → turns_left w ≡ 0
+left_ended : (w : LoadState) → has_ended w.stage ≡ true → turns_left w ≡ 0
 left_ended w is = cond-true (has_ended w.stage) _ _ is
 
-left_running : (w : Machine) → has_ended w.stage ≡ false
+left_running : (w : LoadState) → has_ended w.stage ≡ false
     → turns_left w ≡ 1 + 2 * steps_left w.attached.device.items w.stage + in_flight w.attached.device.flight
 left_running w is = cond-false (has_ended w.stage) _ _ is
 
 -- Each turn leaves less.
-pub turn_less : (May : Answers) (items : List Item) (top fill : ℕ) (events : List Event) (w next : Machine) → AreLawful May top
+pub turn_less : (May : Answers) (items : List Item) (top fill : ℕ) (events : List Event) (w next : LoadState) → AreLawful May top
     → IsKept May items top fill events w → has_ended w.stage ≡ false → IsTurn May w next → turns_left next < turns_left w
 turn_less May items top fill events w next lawful kept running turn =
     let was = left_running w running in
     elim turn.second as (λ _. turns_left next < turns_left w) [
       | inl over ↦
-          let now = left_ended next (ap (λ (m : Machine). has_ended m.stage) over.1 ∙ over.0) in
+          let now = left_ended next (ap (λ (m : LoadState). has_ended m.stage) over.1 ∙ over.0) in
           omega (arith, was, now)
       | inr more ↦
           let middle_kept = step_keeps May items top fill events Firmware w turn.middle lawful kept turn.first in
@@ -101,26 +102,26 @@ turn_less May items top fill events w next lawful kept running turn =
 
 -- and each turn of a load that keeps what it keeps inside
 pub turn_less_inside : (May : Answers) (l next : Loading) → AreLawful May l.guest.memory.top → IsInside l → has_ended l.stage ≡ false
-    → IsTurn May (machine_of l) (machine_of next) → turns_left (machine_of next) < turns_left (machine_of l)
+    → IsTurn May (load_of l) (load_of next) → turns_left (load_of next) < turns_left (load_of l)
 turn_less_inside May l next lawful inside running turn =
     let top = l.guest.memory.top in
-    turn_less (AnyLawful top) l.guest.device.items top l.guest.memory.fill inside.events (machine_of l) (machine_of next) (λ handed request place free. free)
+    turn_less (AnyLawful top) l.guest.device.items top l.guest.memory.fill inside.events (load_of l) (load_of next) (λ handed request place free. free)
     inside.kept running (record {
       middle = turn.middle;
-      first = lawful_steps May top Firmware (machine_of l) turn.middle lawful turn.first;
+      first = lawful_steps May top Firmware (load_of l) turn.middle lawful turn.first;
       second = turn.second;
     })
 
 -- How many closing events were taken: they are few, and between two turns they are twice as many as the turns, which the steps that are left
 -- bound. Where the load had ended before, there are none.
-pub record IsCount (items : List Item) (first : Stage) (closing : ℕ) (w : Machine) : Type 0 where
+pub record IsCount (items : List Item) (first : Stage) (closing : ℕ) (w : LoadState) : Type 0 where
   pub few : closing ≤ most_closing items
   pub turns : has_ended w.stage ≡ false
       → (k : ℕ) × (closing ≡ 2 * k) × (k + steps_left items w.stage + in_flight w.attached.device.flight ≤ most_steps items + 1)
   pub ended : has_ended first ≡ true → closing ≡ 0
 
 -- none was taken yet
-pub counts_none : (items : List Item) (w : Machine) → IsCount items w.stage 0 w
+pub counts_none : (items : List Item) (w : LoadState) → IsCount items w.stage 0 w
 counts_none items w = record {
   few = omega arith;
   turns = λ running. (
@@ -152,12 +153,12 @@ two_closing (suc k) =
     ∙ ap closing_events (sym again)
 
 -- What closing events lead to, from wherever the load is on its run.
-abbrev pub Closes : Answers → Machine → Machine → Type 0
+abbrev pub Closes : Answers → LoadState → LoadState → Type 0
 Closes May first w =
-    (begun : Machine) (before : List Event) → IsOnRun May begun before first
+    (begun : LoadState) (before : List Event) → IsOnRun May begun before first
     → (closing : ℕ) × IsCount first.attached.device.items first.stage closing w × IsOnRun May begun (before ++ closing_events closing) w
 
-pub closes_none : (May : Answers) (first : Machine) → Closes May first first
+pub closes_none : (May : Answers) (first : LoadState) → Closes May first first
 closes_none May first = λ begun before on. (
   0,
   counts_none first.attached.device.items first,
@@ -165,7 +166,7 @@ closes_none May first = λ begun before on. (
 )
 
 -- the steps that are left bound the turns still, behind one more
-bound_after : (its items : List Item) (w next : Machine) (k : ℕ) → its ≡ items → IsTaken its w next
+bound_after : (its items : List Item) (w next : LoadState) (k : ℕ) → its ≡ items → IsTaken its w next
     → k + steps_left items w.stage + in_flight w.attached.device.flight ≤ most_steps items + 1 → k + 1 + steps_left items next.stage ≤ most_steps items + 1
 bound_after its items w next k is taken bound =
     let here : steps_left its w.stage ≡ steps_left items w.stage = ap (λ (some : List Item). steps_left some w.stage) is in
@@ -176,12 +177,12 @@ bound_after its items w next k is taken bound =
       | inr busy ↦ omega (arith, here, there, bound, busy, no_more)
     ]
 
-few_after : (its items : List Item) (w next : Machine) (k : ℕ) → its ≡ items → IsTaken its w next
+few_after : (its items : List Item) (w next : LoadState) (k : ℕ) → its ≡ items → IsTaken its w next
     → k + steps_left items w.stage + in_flight w.attached.device.flight ≤ most_steps items + 1 → 2 * k + 1 ≤ most_closing items
 few_after its items w next k is taken bound = let after = bound_after its items w next k is taken bound in omega (arith, after)
 
 -- A turn of a load on its run, whose closing events were counted.
-turn_on : (May : Answers) (begun first w next : Machine) (before : List Event) (items : List Item) (closing : ℕ) → AreLawful May (memory_of begun).top
+turn_on : (May : Answers) (begun first w next : LoadState) (before : List Event) (items : List Item) (closing : ℕ) → AreLawful May (memory_of begun).top
     → begun.attached.device.items ≡ items → (has_ended first.stage ≡ true → ⊥) → IsCount items first.stage closing w
     → IsOnRun May begun (before ++ closing_events closing) w → has_ended w.stage ≡ false → IsTurn May w next
     → (more : ℕ) × IsCount items first.stage more next × IsOnRun May begun (before ++ closing_events more) next
@@ -200,10 +201,10 @@ turn_on May begun first w next before items closing lawful its_items running_fir
         2 * k + 1,
         record {
           few = few_after its items w turn.middle k its_items taken so.2;
-          turns = λ runs. absurd (true≢false (sym (ap (λ (m : Machine). has_ended m.stage) over.1 ∙ over.0) ∙ runs));
+          turns = λ runs. absurd (true≢false (sym (ap (λ (m : LoadState). has_ended m.stage) over.1 ∙ over.0) ∙ runs));
           ended = λ was. absurd (running_first was);
         },
-        subst (λ (m : Machine). IsOnRun May begun (before ++ closing_events (2 * k + 1)) m) (sym over.1)
+        subst (λ (m : LoadState). IsOnRun May begun (before ++ closing_events (2 * k + 1)) m) (sym over.1)
             (subst (λ (es : List Event). IsOnRun May begun es turn.middle)
             (append_assoc before (closing_events closing) (Firmware ∷ []) ∙ ap (λ es. before ++ es) (ap (λ es. es ++ Firmware ∷ []) even ∙ one_closing k)) first_on),
       )
@@ -228,7 +229,7 @@ turn_on May begun first w next before items closing lawful its_items running_fir
     ]
 
 -- and a turn more
-pub closes_more : (May : Answers) (first w next : Machine) → AreLawful May (memory_of first).top → (has_ended first.stage ≡ true → ⊥) → Closes May first w
+pub closes_more : (May : Answers) (first w next : LoadState) → AreLawful May (memory_of first).top → (has_ended first.stage ≡ true → ⊥) → Closes May first w
     → has_ended w.stage ≡ false → IsTurn May w next → Closes May first next
 closes_more May first w next lawful running_first closes running turn = λ begun before on.
     let so = closes begun before on in

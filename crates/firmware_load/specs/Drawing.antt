@@ -2,7 +2,7 @@
 use Rattle.std.specs.Prelude.{ℕ, zero, suc, ◌%◌, List, [], ◌∷◌}
 use Rattle.rand_pcg.specs.Lcg.{Lcg}
 use Rattle.rand_pcg.specs.Pcg.{pcg32}
-use Rattle.load_machine.specs.declared.event.Event.{Event}
+use Rattle.load_states.specs.declared.event.Event.{Event}
 use Rattle.firmware_load.specs.Schedules.{event_as}
 
 -- the generator behind an event of a kind, from the one behind its first word on

@@ -8,31 +8,30 @@ use Rattle.cfg_directory.specs.Items.{IsItems}
 use Rattle.cfg_directory.specs.Listing.{listed_of}
 use Rattle.loader_script.specs.declared.entry.Entry.{Entry}
 use Rattle.loader_script.specs.Run.{Progress, infos_of}
-use Rattle.image_files.specs.Items.{files_of}
+use Rattle.cfg_directory.specs.Files.{files_of}
 use Rattle.cfg_dma.specs.Transfers.{attached}
-use Rattle.script_load.specs.FilesInMemory.{IsLoading, files_in, placed_ranges}
-use Rattle.script_load.specs.Placing.{ArePlacements}
-use Rattle.script_load.specs.Runs.{Answers, at_files}
-use Rattle.script_load.specs.Loads.{IsAsked}
-use Rattle.script_load.specs.Script.{script_in}
-use Rattle.script_load.specs.declared.fault.LoadFault.TheVariants.{NoRoom}
+use Rattle.command_acts.specs.FilesInMemory.{IsLoading, files_in, placed_ranges}
+use Rattle.command_acts.specs.Placing.{ArePlacements}
+use Rattle.command_acts.specs.Runs.{Answers, at_files}
+use Rattle.command_acts.specs.Script.{script_in, IsAsked}
+use Rattle.command_acts.specs.declared.fault.LoadFault.TheVariants.{NoRoom}
 use Rattle.vt_outside.specs.Stream.{next_count}
-use Rattle.zone_alloc.specs.declared.alloc.Request.{Request}
-use Rattle.script_load.specs.Steps.{WritesNothing}
-use Rattle.load_machine.specs.declared.event.Event.{Event}
-use Rattle.load_machine.specs.declared.event.Event.TheVariants.{Firmware}
-use Rattle.load_machine.specs.declared.stage.Stage.{Stage}
-use Rattle.load_machine.specs.declared.stage.Stage.TheVariants.{Refused}
-use Rattle.load_machine.specs.Machine.{Machine, memory_of}
-use Rattle.load_machine.specs.Steps.{at_command}
-use Rattle.load_machine.specs.Runs.{AnyLawful, EndsAfter, StepsTo, request_for, has_ended, whole_piece}
-use Rattle.load_machine.specs.Kept.{IsKept}
+use Rattle.zone_alloc.specs.Allocators.{AllocState}
+use Rattle.command_acts.specs.Steps.{WritesNothing}
+use Rattle.load_states.specs.declared.event.Event.{Event}
+use Rattle.load_states.specs.declared.event.Event.TheVariants.{Firmware}
+use Rattle.load_states.specs.declared.stage.Stage.{Stage}
+use Rattle.load_states.specs.declared.stage.Stage.TheVariants.{Refused}
+use Rattle.load_states.specs.LoadState.{LoadState, memory_of}
+use Rattle.load_states.specs.Steps.{at_command}
+use Rattle.load_states.specs.Runs.{AnyLawful, EndsAfter, StepsTo, request_for, has_ended, whole_piece}
+use Rattle.load_states.specs.Kept.{IsKept}
 use Rattle.firmware_load.specs.declared.guest.Guest.{Guest}
 use Rattle.firmware_load.specs.declared.loading.Loading.{Loading}
 
--- the machine of a guest whose firmware is so far, and has taken these files and commands
-abbrev pub machine_at : Guest → Stage → List Listed → List Entry → Machine
-machine_at guest its_stage its_listed its_script = record {
+-- the load of a guest whose firmware is so far, and has taken these files and commands
+abbrev pub load_at : Guest → Stage → List Listed → List Entry → LoadState
+load_at guest its_stage its_listed its_script = record {
   attached = attached guest.device guest.memory;
   stage = its_stage;
   listed = its_listed;
@@ -40,11 +39,11 @@ machine_at guest its_stage its_listed its_script = record {
   placed = guest.placements.placed.items;
 }
 
-abbrev pub machine_of : Loading → Machine
-machine_of l = machine_at l.guest l.stage l.listed.items l.script.items
+abbrev pub load_of : Loading → LoadState
+load_of l = load_at l.guest l.stage l.listed.items l.script.items
 
-abbrev pub machine_in : Option Loading → Option Machine
-machine_in loading = option_map machine_of loading
+abbrev pub load_in : Option Loading → Option LoadState
+load_in loading = option_map load_of loading
 
 -- how far the run of the script on plain lists is, where the placed files stand as they do now
 abbrev pub progress_now : Guest → Progress
@@ -57,10 +56,10 @@ pub record HasRooms (items : List Item) (l : Loading) : Type 0 where
   pub infos : l.guest.placements.infos.items ≡ infos_of (files_of items)
   pub placements : ArePlacements l.guest.placements
 
--- A load that was begun with items keeps, over some events, what the machine keeps.
+-- A load that was begun with items keeps, over some events, what a load keeps.
 pub record IsInside (l : Loading) : Type 0 where
   pub events : List Event
-  pub kept : IsKept (AnyLawful l.guest.memory.top) l.guest.device.items l.guest.memory.top l.guest.memory.fill events (machine_of l)
+  pub kept : IsKept (AnyLawful l.guest.memory.top) l.guest.device.items l.guest.memory.top l.guest.memory.fill events (load_of l)
   pub rooms : HasRooms l.guest.device.items l
 
 -- What a step leaves of the rooms: capacities, and the files that may be placed.
@@ -83,32 +82,33 @@ pub record IsReady (guest : Guest) (listed : List Listed) (entry : Entry) : Type
   pub room : length guest.placements.placed.items < length guest.device.items → 0 < guest.device.spare
   pub writes : WritesNothing entry
 
--- The machine goes on by the command of an index: as the definition of its step says, with an answer that the allocator may give where it is
+-- The load goes on by the command of an index: as the definition of its step says, with an answer that the allocator may give where it is
 -- asked.
-abbrev pub GoesByCommand : Answers → ℕ → Entry → Machine → Machine → Type 0
+abbrev pub GoesByCommand : Answers → ℕ → Entry → LoadState → LoadState → Type 0
 GoesByCommand May index entry w next =
     MatchOption (request_for entry w) (next ≡ at_command index (Some entry) None w)
     (λ request. (answer : Option ℕ) × May (placed_ranges w.placed) request answer × (next ≡ at_command index (Some entry) answer w))
 
--- A load is on its run: over these events from a machine that was begun, none of which came behind the run's end. So however it ends from here
--- on, it ends from there on; and it keeps what a machine keeps.
-pub record IsOnRun (May : Answers) (begun : Machine) (events : List Event) (w : Machine) : Type 0 where
-  pub goes_on : (rest : List Event) (last : Machine) → EndsAfter May rest w last → EndsAfter May (events ++ rest) begun last
+-- A load is on its run: over these events from a load that was begun, none of which came behind the run's end. So however it ends from here
+-- on, it ends from there on; and it keeps what a load keeps.
+pub record IsOnRun (May : Answers) (begun : LoadState) (events : List Event) (w : LoadState) : Type 0 where
+  pub goes_on : (rest : List Event) (last : LoadState) → EndsAfter May rest w last → EndsAfter May (events ++ rest) begun last
   pub kept : IsKept May begun.attached.device.items (memory_of begun).top (memory_of begun).fill events w
 
 -- A turn: a step of the firmware and then, unless the load has ended, a piece as long as any transfer.
-pub record IsTurn (May : Answers) (before after : Machine) : Type 0 where
-  pub middle : Machine
+pub record IsTurn (May : Answers) (before after : LoadState) : Type 0 where
+  pub middle : LoadState
   pub first : StepsTo May Firmware before middle
   pub second : ((has_ended middle.stage ≡ true) × (after ≡ middle))
       ⊎ ((has_ended middle.stage ≡ false) × StepsTo May whole_piece middle after)
 
 -- What an allocator was asked on the way from one state of a load to another: it refused exactly where the load ends without room, and then what
 -- the command of that index asks; a load that has ended asks nothing.
-pub record AsksOnTheWay (before after : Loading) (refusals_before refusals : ℕ) (refused_before refused : Option Request) : Type 0 where
+pub record AsksOnTheWay (before after : Loading) (alloc_before alloc_after : AllocState) : Type 0 where
   pub no_room : (index : ℕ) → after.stage ≡ Refused (NoRoom index) → (before.stage ≡ Refused (NoRoom index))
-      ⊎ ((refusals ≡ next_count refusals_before) × IsAsked before.guest.device.items index refused)
-  pub sound : ((index : ℕ) → after.stage ≡ Refused (NoRoom index) → before.stage ≡ Refused (NoRoom index)) → refusals ≡ refusals_before
-  pub ended : has_ended before.stage ≡ true → (after.stage ≡ before.stage) × (refusals ≡ refusals_before) × (refused ≡ refused_before)
+      ⊎ ((alloc_after.refusals ≡ next_count alloc_before.refusals) × IsAsked before.guest.device.items index alloc_after.refused)
+  pub sound : ((index : ℕ) → after.stage ≡ Refused (NoRoom index) → before.stage ≡ Refused (NoRoom index))
+      → alloc_after.refusals ≡ alloc_before.refusals
+  pub ended : has_ended before.stage ≡ true → (after.stage ≡ before.stage) × (alloc_after ≡ alloc_before)
   pub items : after.guest.device.items ≡ before.guest.device.items
   pub top : after.guest.memory.top ≡ before.guest.memory.top

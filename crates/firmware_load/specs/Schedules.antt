@@ -1,8 +1,13 @@
 -- The events that schedules have for a seed.
 use Rattle.std.specs.Prelude.{⊤, ℕ, zero, suc, ◌+◌, ◌/◌, ◌%◌, ◌^◌, ◌<◌, ◌≤◌, List, [], ◌∷◌, nat_lt, if◌then◌else◌}
 use Rattle.zone_alloc.specs.Policies.{word_of}
-use Rattle.load_machine.specs.declared.event.Event.{Event}
-use Rattle.load_machine.specs.declared.event.Event.TheVariants.{Device, Firmware, Other}
+use Rattle.load_states.specs.declared.event.Event.{Event}
+use Rattle.load_states.specs.declared.event.Event.TheVariants.{Device, Firmware, Other}
+
+-- A schedule: the events that it has for each seed, none for a number that is no u64, and those that are left.
+pub record Plan : Type 0 where
+  pub events : ℕ → List Event
+  pub left : List Event
 
 -- A listed schedule: its events, and those of them that are left.
 pub record ListedState : Type 0 where

@@ -2,30 +2,30 @@ ghost use Rattle.std.specs.Prelude.{◌≡◌, ◌≢◌, ℕ, ◌+◌, ◌<◌,
 ghost use Rattle.vt_outside.specs.Stream.{next_count};
 ghost use Rattle.loader_script.specs.declared.entry.Entry.{Entry};
 ghost use Rattle.loader_script.specs.declared.entry.Entry.TheVariants.{Allocate, AddPointer, AddChecksum};
-ghost use Rattle.script_load.specs.Allocators.{AreZonesOf, MayAnswer};
-ghost use Rattle.script_load.specs.declared.fault.LoadFault.TheVariants.{NoRoom};
-ghost use Rattle.script_load.specs.FilesInMemory.{placed_ranges, placed_named, IsLoading};
-ghost use Rattle.script_load.specs.Placing.{ArePlacements};
+ghost use Rattle.command_acts.specs.Allocators.{AreZonesOf, MayAnswer};
+ghost use Rattle.command_acts.specs.declared.fault.LoadFault.TheVariants.{NoRoom};
+ghost use Rattle.command_acts.specs.FilesInMemory.{placed_ranges, placed_named, IsLoading};
+ghost use Rattle.command_acts.specs.Placing.{ArePlacements};
 ghost use Rattle.cfg_directory.specs.declared.listed.Listed.{Listed as ListedFile};
 ghost use Rattle.loader_script.specs.Refusal.{info_of, AreDistinct};
-ghost use Rattle.image_files.specs.Items.{files_of};
+ghost use Rattle.cfg_directory.specs.Files.{files_of};
 ghost use Rattle.cfg_dma.specs.Reads.{started, selected_read};
 ghost use Rattle.cfg_dma.specs.Transfers.{attached};
-ghost use Rattle.load_machine.specs.Guarded.{descriptor_at};
-ghost use Rattle.load_machine.specs.Machine.{listed_named};
-ghost use Rattle.load_machine.specs.Steps.{at_command};
-ghost use Rattle.load_machine.specs.declared.stage.Stage.TheVariants.{AtCommand, Refused};
-ghost use Rattle.load_machine.specs.Runs.{request_for};
-ghost use Rattle.script_load.specs.Runs.{early_cause};
-ghost use Rattle.firmware_load.specs.Inside.{machine_at, progress_now, IsReady, GoesByCommand};
+ghost use Rattle.load_states.specs.Guarded.{descriptor_at};
+ghost use Rattle.load_states.specs.LoadState.{listed_named};
+ghost use Rattle.load_states.specs.Steps.{at_command};
+ghost use Rattle.load_states.specs.declared.stage.Stage.TheVariants.{AtCommand, Refused};
+ghost use Rattle.load_states.specs.Runs.{request_for};
+ghost use Rattle.command_acts.specs.Runs.{early_cause};
+ghost use Rattle.firmware_load.specs.Inside.{load_at, progress_now, IsReady, GoesByCommand};
 
 use crate::firmware::find_listed;
 use crate::guest::{Guest, selected_read};
 use cfg_directory::Listed;
+use command_acts::{LoadFault, PlacedFile, add_checksum, add_pointer};
 use guest_memory::TooFar;
-use load_machine::Stage;
+use load_states::{Reading, Stage};
 use loader_script::{Cause, Entry};
-use script_load::{LoadFault, PlacedFile, add_checksum, add_pointer};
 use vt_outside::Name;
 use zone_alloc::{Zone, ZoneAlloc};
 
@@ -41,22 +41,21 @@ impl Guest {
     ) -> Stage
         requires ready { IsReady self.old listed.now entry.now }
         requires index { index + 1 < 2 ^ 32 }
-        requires begun { A.begun place.old ≡ true }
-        requires zones { AreZonesOf self.old.memory.top (A.zones place.old) }
-        requires handed { A.handed place.old ≡ placed_ranges self.old.placements.placed.items }
+        requires begun { (A.state place.old).begun.ready ≡ true }
+        requires zones { AreZonesOf self.old.memory.top (A.state place.old).begun.zones }
+        requires handed { (A.state place.old).handed ≡ placed_ranges self.old.placements.placed.items }
         ensures goes { (script : List Entry) → GoesByCommand
-            (MayAnswer A.handed A.zones A.policy A.gives (A.zones place.old) (A.policy place.old)) index entry.now
-            (machine_at self.old (AtCommand index) listed.now script) (machine_at self.new result listed.now script) }
+            (MayAnswer A.state A.gives (A.state place.old).begun) index entry.now
+            (load_at self.old (AtCommand index) listed.now script) (load_at self.new result listed.now script) }
         ensures placements { ArePlacements self.new.placements }
         ensures infos { self.new.placements.infos ≡ self.old.placements.infos }
-        ensures handed { A.handed place.new ≡ placed_ranges self.new.placements.placed.items }
-        ensures unasked { request_for entry.now (machine_at self.old (AtCommand index) listed.now []) ≡ None → place.new ≡ place.old }
-        ensures no_room { (at : ℕ) → result ≡ Refused (NoRoom at) → (at ≡ index) × (A.refusals place.new ≡ next_count (A.refusals place.old))
-            × (A.refused place.new ≡ request_for entry.now (machine_at self.old (AtCommand index) listed.now [])) }
-        ensures sound { ((at : ℕ) → result ≢ Refused (NoRoom at)) → A.refusals place.new ≡ A.refusals place.old }
-        ensures zones { A.zones place.new ≡ A.zones place.old }
-        ensures policy { A.policy place.new ≡ A.policy place.old }
-        ensures begun { A.begun place.new ≡ A.begun place.old }
+        ensures handed { (A.state place.new).handed ≡ placed_ranges self.new.placements.placed.items }
+        ensures unasked { request_for entry.now (load_at self.old (AtCommand index) listed.now []) ≡ None → place.new ≡ place.old }
+        ensures no_room { (at : ℕ) → result ≡ Refused (NoRoom at) → (at ≡ index)
+            × ((A.state place.new).refusals ≡ next_count (A.state place.old).refusals)
+            × ((A.state place.new).refused ≡ request_for entry.now (load_at self.old (AtCommand index) listed.now [])) }
+        ensures sound { ((at : ℕ) → result ≢ Refused (NoRoom at)) → (A.state place.new).refusals ≡ (A.state place.old).refusals }
+        ensures begun { (A.state place.new).begun ≡ (A.state place.old).begun }
     {
         if let Some(cause) = self.placements.refusal(entry) {
             return Stage::Refused(LoadFault::Command { index, cause });
@@ -95,28 +94,27 @@ impl Guest {
     ) -> Stage
         requires ready { IsReady self.old listed.now (Allocate name.now align zone) }
         requires early { early_cause (Allocate name.now align zone) (progress_now self.old) ≡ None }
-        requires begun { A.begun place.old ≡ true }
-        requires zones { AreZonesOf self.old.memory.top (A.zones place.old) }
-        requires handed { A.handed place.old ≡ placed_ranges self.old.placements.placed.items }
+        requires begun { (A.state place.old).begun.ready ≡ true }
+        requires zones { AreZonesOf self.old.memory.top (A.state place.old).begun.zones }
+        requires handed { (A.state place.old).handed ≡ placed_ranges self.old.placements.placed.items }
         ensures goes { (script : List Entry) → GoesByCommand
-            (MayAnswer A.handed A.zones A.policy A.gives (A.zones place.old) (A.policy place.old)) index (Allocate name.now align zone)
-            (machine_at self.old (AtCommand index) listed.now script) (machine_at self.new result listed.now script) }
+            (MayAnswer A.state A.gives (A.state place.old).begun) index (Allocate name.now align zone)
+            (load_at self.old (AtCommand index) listed.now script) (load_at self.new result listed.now script) }
         ensures placements { ArePlacements self.new.placements }
         ensures infos { self.new.placements.infos ≡ self.old.placements.infos }
-        ensures handed { A.handed place.new ≡ placed_ranges self.new.placements.placed.items }
-        ensures asked { request_for (Allocate name.now align zone) (machine_at self.old (AtCommand index) listed.now []) ≢ None }
-        ensures no_room { (at : ℕ) → result ≡ Refused (NoRoom at) → (at ≡ index) × (A.refusals place.new ≡ next_count (A.refusals place.old))
-            × (A.refused place.new ≡ request_for (Allocate name.now align zone) (machine_at self.old (AtCommand index) listed.now [])) }
-        ensures sound { ((at : ℕ) → result ≢ Refused (NoRoom at)) → A.refusals place.new ≡ A.refusals place.old }
-        ensures zones { A.zones place.new ≡ A.zones place.old }
-        ensures policy { A.policy place.new ≡ A.policy place.old }
-        ensures begun { A.begun place.new ≡ A.begun place.old }
+        ensures handed { (A.state place.new).handed ≡ placed_ranges self.new.placements.placed.items }
+        ensures asked { request_for (Allocate name.now align zone) (load_at self.old (AtCommand index) listed.now []) ≢ None }
+        ensures no_room { (at : ℕ) → result ≡ Refused (NoRoom at) → (at ≡ index)
+            × ((A.state place.new).refusals ≡ next_count (A.state place.old).refusals)
+            × ((A.state place.new).refused ≡ request_for (Allocate name.now align zone) (load_at self.old (AtCommand index) listed.now [])) }
+        ensures sound { ((at : ℕ) → result ≢ Refused (NoRoom at)) → (A.state place.new).refusals ≡ (A.state place.old).refusals }
+        ensures begun { (A.state place.new).begun ≡ (A.state place.old).begun }
     {
         let file = listed_of(listed, name);
         match place.place(Zone::numbered(zone), file.size, align) {
             Ok(at) => {
                 self.bring(file, at);
-                Stage::AwaitsFile(index)
+                Stage::Awaits(Reading::File(index))
             }
             Err(_) => Stage::Refused(LoadFault::NoRoom { index }),
         }
@@ -151,8 +149,8 @@ impl Guest {
         requires early { early_cause (AddPointer dest.now src.now offset size) (progress_now self.old) ≡ None }
         requires index { index + 1 < 2 ^ 32 }
         ensures goes { (listed : List ListedFile) (script : List Entry) →
-            machine_at self.new result listed script
-            ≡ at_command index (Some (AddPointer dest.now src.now offset size)) None (machine_at self.old (AtCommand index) listed script) }
+            load_at self.new result listed script
+            ≡ at_command index (Some (AddPointer dest.now src.now offset size)) None (load_at self.old (AtCommand index) listed script) }
         ensures placements { self.new.placements ≡ self.old.placements }
         ensures roomy { (at : ℕ) → result ≢ Refused (NoRoom at) }
     {
@@ -185,8 +183,8 @@ impl Guest {
         requires early { early_cause (AddChecksum name.now offset start length) (progress_now self.old) ≡ None }
         requires index { index + 1 < 2 ^ 32 }
         ensures goes { (listed : List ListedFile) (script : List Entry) →
-            machine_at self.new result listed script
-            ≡ at_command index (Some (AddChecksum name.now offset start length)) None (machine_at self.old (AtCommand index) listed script) }
+            load_at self.new result listed script
+            ≡ at_command index (Some (AddChecksum name.now offset start length)) None (load_at self.old (AtCommand index) listed script) }
         ensures placements { self.new.placements ≡ self.old.placements }
         ensures roomy { (at : ℕ) → result ≢ Refused (NoRoom at) }
     {

@@ -4,26 +4,27 @@ ghost use Rattle.std.specs.Option.{option_copied};
 ghost use Rattle.vt_bytes.specs.Numbers.{be};
 ghost use Rattle.cfg_directory.specs.declared.listed.Listed.{Listed as ListedFile};
 ghost use Rattle.loader_script.specs.Spelling.{entries_of};
-ghost use Rattle.image_files.specs.Items.{loader_name};
+ghost use Rattle.loader_script.specs.LoaderName.{loader_name};
 ghost use Rattle.cfg_dma.specs.Reads.{selected_read, next_read};
-ghost use Rattle.script_load.specs.Allocators.{AreZonesOf, MayAnswer};
-ghost use Rattle.script_load.specs.FilesInMemory.{placed_ranges};
-ghost use Rattle.load_machine.specs.declared.event.Event.TheVariants.{Firmware};
-ghost use Rattle.load_machine.specs.declared.stage.Stage.TheVariants.{AsksCount, AwaitsCount, AsksEntries, AwaitsEntries, AsksScript};
-ghost use Rattle.load_machine.specs.declared.stage.Stage.TheVariants.{AwaitsScript, AtCommand, AwaitsFile};
-ghost use Rattle.load_machine.specs.Machine.{listed_named};
-ghost use Rattle.load_machine.specs.Runs.{StepsTo, request_of};
-ghost use Rattle.load_machine.specs.Steps.{asked, buffered, is_over, counted, entries_taken, commands_taken, stage_for, firmware_step};
+ghost use Rattle.command_acts.specs.Allocators.{AreZonesOf, MayAnswer};
+ghost use Rattle.command_acts.specs.FilesInMemory.{placed_ranges};
+ghost use Rattle.load_states.specs.declared.event.Event.TheVariants.{Firmware};
+ghost use Rattle.load_states.specs.declared.reading.Reading.TheVariants.{Count, Entries, Commands};
+ghost use Rattle.load_states.specs.declared.stage.Stage.TheVariants.{Asks, Awaits, AtCommand};
+ghost use Rattle.load_states.specs.Guarded.{buffer_at};
+ghost use Rattle.load_states.specs.Kept.{IsLeft};
+ghost use Rattle.load_states.specs.LoadState.{LoadState, listed_named};
+ghost use Rattle.load_states.specs.Runs.{StepsTo, request_of};
+ghost use Rattle.load_states.specs.Steps.{asked, asking_for, is_over, script_control, stage_for, taken_of, firmware_step};
 ghost use Rattle.firmware_load.specs.World.{IsWithoutRoom, IsSound};
-ghost use Rattle.firmware_load.specs.Inside.{machine_of, IsInside, SameRooms};
+ghost use Rattle.firmware_load.specs.Inside.{load_of, IsInside, SameRooms};
 
 use crate::guest::{BUFFER, BUFFER_BYTES, Guest, NEXT_READ, selected_read};
 use crate::loading::Loading;
 use cfg_directory::{ENTRY_SIZE, Listed, list_entries};
-use image_files::loader_name;
-use load_machine::Stage;
-use loader_script::{ENTRY_BYTES, Entry, LONGEST_SCRIPT, decode_entry};
-use script_load::LoadFault;
+use command_acts::LoadFault;
+use load_states::{Reading, Stage};
+use loader_script::{ENTRY_BYTES, Entry, LONGEST_SCRIPT, decode_entry, loader_name};
 use vt_bytes::get_be;
 use vt_outside::Name;
 use zone_alloc::ZoneAlloc;
@@ -35,162 +36,135 @@ impl Loading {
     /// Takes a step of the firmware.
     pub(crate) fn firmware_step<A: ZoneAlloc>(&mut self, place: &mut A)
         requires inside { IsInside self.old }
-        requires begun { A.begun place.old ≡ true }
-        requires zones { AreZonesOf self.old.guest.memory.top (A.zones place.old) }
-        requires handed { A.handed place.old ≡ placed_ranges self.old.guest.placements.placed.items }
-        ensures steps { StepsTo (MayAnswer A.handed A.zones A.policy A.gives (A.zones place.old) (A.policy place.old)) Firmware
-            (machine_of self.old) (machine_of self.new) }
+        requires begun { (A.state place.old).begun.ready ≡ true }
+        requires zones { AreZonesOf self.old.guest.memory.top (A.state place.old).begun.zones }
+        requires handed { (A.state place.old).handed ≡ placed_ranges self.old.guest.placements.placed.items }
+        ensures steps { StepsTo (MayAnswer A.state A.gives (A.state place.old).begun) Firmware
+            (load_of self.old) (load_of self.new) }
         ensures rooms { SameRooms self.old self.new }
-        ensures handed { A.handed place.new ≡ placed_ranges self.new.guest.placements.placed.items }
-        ensures unasked { request_of Firmware (machine_of self.old) ≡ None → place.new ≡ place.old }
-        ensures no_room { IsWithoutRoom Firmware (machine_of self.old) (machine_of self.new)
-            (A.refusals place.old) (A.refusals place.new) (A.refused place.new) }
-        ensures sound { IsSound (machine_of self.old) (machine_of self.new) (A.refusals place.old) (A.refusals place.new) }
-        ensures zones { A.zones place.new ≡ A.zones place.old }
-        ensures policy { A.policy place.new ≡ A.policy place.old }
-        ensures begun { A.begun place.new ≡ A.begun place.old }
+        ensures handed { (A.state place.new).handed ≡ placed_ranges self.new.guest.placements.placed.items }
+        ensures unasked { request_of Firmware (load_of self.old) ≡ None → place.new ≡ place.old }
+        ensures no_room { IsWithoutRoom Firmware (load_of self.old) (load_of self.new)
+            (A.state place.old) (A.state place.new) }
+        ensures sound { IsSound (load_of self.old) (load_of self.new) (A.state place.old) (A.state place.new) }
+        ensures begun { (A.state place.new).begun ≡ (A.state place.old).begun }
     {
         match self.stage {
-            Stage::AsksCount => self.ask_count(),
-            Stage::AwaitsCount => self.await_count(),
-            Stage::AsksEntries { size, taken } => self.ask_entries(size, taken),
-            Stage::AwaitsEntries { size, taken } => self.await_entries(size, taken),
-            Stage::AsksScript {
-                select,
-                size,
-                taken,
-            } => self.ask_script(select, size, taken),
-            Stage::AwaitsScript {
-                select,
-                size,
-                taken,
-            } => self.await_script(select, size, taken),
+            Stage::Asks(reading) => self.ask(reading),
+            Stage::Awaits(reading) => self.look(reading),
             Stage::AtCommand(index) => self.come_to(index, place),
-            Stage::AwaitsFile(index) => self.await_file(index),
             Stage::Done | Stage::Refused(_) => {}
         }
     }
 
-    // Asks for the number of files.
-    fn ask_count(&mut self)
+    // Asks for the transfer of a reading.
+    fn ask(&mut self, reading: Reading)
         requires inside { IsInside self.old }
-        requires stage { self.old.stage ≡ AsksCount }
-        ensures after { machine_of self.new ≡ firmware_step AsksCount None (machine_of self.old) }
+        requires stage { self.old.stage ≡ Asks reading }
+        ensures after { load_of self.new ≡ firmware_step (Asks reading) None (load_of self.old) }
         ensures rooms { SameRooms self.old self.new }
     {
-        self.guest.start(selected_read(DIRECTORY), 4, BUFFER);
-        self.stage = Stage::AwaitsCount;
+        let (control, size) = asking_for(reading);
+        self.guest.start(control, size, BUFFER);
+        self.stage = Stage::Awaits(reading);
     }
 
-    // Takes the number of files, if it is there.
-    fn await_count(&mut self)
+    // Looks whether the transfer of a reading is over, and then takes what it has read.
+    fn look(&mut self, reading: Reading)
         requires inside { IsInside self.old }
-        requires stage { self.old.stage ≡ AwaitsCount }
-        ensures after { machine_of self.new ≡ firmware_step AwaitsCount None (machine_of self.old) }
+        requires stage { self.old.stage ≡ Awaits reading }
+        ensures after { load_of self.new ≡ firmware_step (Awaits reading) None (load_of self.old) }
         ensures rooms { SameRooms self.old self.new }
     {
         if self.guest.is_over() {
-            let count = get_be(self.guest.buffered(4), 0, 4) as u32;
-            self.stage = if count == 0 {
-                Stage::Refused(LoadFault::NoScript)
-            } else {
-                Stage::AsksEntries {
-                    size: ENTRY_SIZE as u32 * count,
-                    taken: 0,
-                }
-            };
-        }
-    }
-
-    // Asks for the next entries of the directory.
-    fn ask_entries(&mut self, size: u32, taken: u32)
-        requires inside { IsInside self.old }
-        requires stage { self.old.stage ≡ AsksEntries size taken }
-        ensures after { machine_of self.new ≡ firmware_step (AsksEntries size taken) None (machine_of self.old) }
-        ensures rooms { SameRooms self.old self.new }
-    {
-        self.guest.start(NEXT_READ, asked(size - taken), BUFFER);
-        self.stage = Stage::AwaitsEntries { size, taken };
-    }
-
-    // Takes entries of the directory, if they are there.
-    fn await_entries(&mut self, size: u32, taken: u32)
-        requires inside { IsInside self.old }
-        requires stage { self.old.stage ≡ AwaitsEntries size taken }
-        ensures after { machine_of self.new ≡ firmware_step (AwaitsEntries size taken) None (machine_of self.old) }
-        ensures rooms { SameRooms self.old self.new }
-    {
-        if self.guest.is_over() {
-            let count = asked(size - taken);
-            let entries = self.guest.buffered(count);
-            list_entries(count / ENTRY_SIZE as u32, entries, &mut self.listed);
-            self.stage = if taken + count == size {
-                stage_for(&self.listed)
-            } else {
-                Stage::AsksEntries {
+            match reading {
+                Reading::Count => self.take_count(),
+                Reading::Entries { size, taken } => self.take_entries(size, taken),
+                Reading::Commands {
+                    select,
                     size,
-                    taken: taken + count,
-                }
-            };
+                    taken,
+                } => self.take_script(select, size, taken),
+                Reading::File(index) => self.stage = Stage::AtCommand(index + 1),
+            }
         }
     }
 
-    // Asks for the next commands of the script.
-    fn ask_script(&mut self, select: u16, size: u32, taken: u32)
+    // Takes the number of files.
+    fn take_count(&mut self)
         requires inside { IsInside self.old }
-        requires stage { self.old.stage ≡ AsksScript select size taken }
-        ensures after { machine_of self.new ≡ firmware_step (AsksScript select size taken) None (machine_of self.old) }
+        requires stage { self.old.stage ≡ Awaits Count }
+        requires over { is_over (load_of self.old) ≡ true }
+        ensures after { load_of self.new ≡ taken_of Count (load_of self.old) }
         ensures rooms { SameRooms self.old self.new }
     {
-        let control = script_control(select, taken);
-        self.guest.start(control, asked(size - taken), BUFFER);
-        self.stage = Stage::AwaitsScript {
-            select,
-            size,
-            taken,
+        let count = get_be(self.guest.buffered(4), 0, 4) as u32;
+        self.stage = if count == 0 {
+            Stage::Refused(LoadFault::NoScript)
+        } else {
+            Stage::Asks(Reading::Entries {
+                size: ENTRY_SIZE as u32 * count,
+                taken: 0,
+            })
         };
     }
 
-    // Takes commands of the script, if they are there.
-    fn await_script(&mut self, select: u16, size: u32, taken: u32)
+    // Takes entries of the directory.
+    fn take_entries(&mut self, size: u32, taken: u32)
         requires inside { IsInside self.old }
-        requires stage { self.old.stage ≡ AwaitsScript select size taken }
-        ensures after { machine_of self.new ≡ firmware_step (AwaitsScript select size taken) None (machine_of self.old) }
+        requires stage { self.old.stage ≡ Awaits (Entries size taken) }
+        ensures after { load_of self.new ≡ taken_of (Entries size taken) (load_of self.old) }
         ensures rooms { SameRooms self.old self.new }
     {
-        if self.guest.is_over() {
-            let bytes = asked(size - taken);
-            take_commands(self.guest.buffered(bytes), &mut self.script);
-            self.stage = if taken + bytes == size {
-                Stage::AtCommand(0)
-            } else {
-                Stage::AsksScript {
-                    select,
-                    size,
-                    taken: taken + bytes,
-                }
-            };
-        }
+        let count = asked(size - taken);
+        let entries = self.guest.buffered(count);
+        list_entries(count / ENTRY_SIZE as u32, entries, &mut self.listed);
+        self.stage = if taken + count == size {
+            stage_for(&self.listed)
+        } else {
+            Stage::Asks(Reading::Entries {
+                size,
+                taken: taken + count,
+            })
+        };
+    }
+
+    // Takes commands of the script.
+    fn take_script(&mut self, select: u16, size: u32, taken: u32)
+        requires inside { IsInside self.old }
+        requires stage { self.old.stage ≡ Awaits (Commands select size taken) }
+        ensures after { load_of self.new ≡ taken_of (Commands select size taken) (load_of self.old) }
+        ensures rooms { SameRooms self.old self.new }
+    {
+        let bytes = asked(size - taken);
+        take_commands(self.guest.buffered(bytes), &mut self.script);
+        self.stage = if taken + bytes == size {
+            Stage::AtCommand(0)
+        } else {
+            Stage::Asks(Reading::Commands {
+                select,
+                size,
+                taken: taken + bytes,
+            })
+        };
     }
 
     // Carries out the command of an index, or ends the load behind the last one.
     fn come_to<A: ZoneAlloc>(&mut self, index: u32, place: &mut A)
         requires inside { IsInside self.old }
         requires stage { self.old.stage ≡ AtCommand index }
-        requires begun { A.begun place.old ≡ true }
-        requires zones { AreZonesOf self.old.guest.memory.top (A.zones place.old) }
-        requires handed { A.handed place.old ≡ placed_ranges self.old.guest.placements.placed.items }
-        ensures steps { StepsTo (MayAnswer A.handed A.zones A.policy A.gives (A.zones place.old) (A.policy place.old)) Firmware
-            (machine_of self.old) (machine_of self.new) }
+        requires begun { (A.state place.old).begun.ready ≡ true }
+        requires zones { AreZonesOf self.old.guest.memory.top (A.state place.old).begun.zones }
+        requires handed { (A.state place.old).handed ≡ placed_ranges self.old.guest.placements.placed.items }
+        ensures steps { StepsTo (MayAnswer A.state A.gives (A.state place.old).begun) Firmware
+            (load_of self.old) (load_of self.new) }
         ensures rooms { SameRooms self.old self.new }
-        ensures handed { A.handed place.new ≡ placed_ranges self.new.guest.placements.placed.items }
-        ensures unasked { request_of Firmware (machine_of self.old) ≡ None → place.new ≡ place.old }
-        ensures no_room { IsWithoutRoom Firmware (machine_of self.old) (machine_of self.new)
-            (A.refusals place.old) (A.refusals place.new) (A.refused place.new) }
-        ensures sound { IsSound (machine_of self.old) (machine_of self.new) (A.refusals place.old) (A.refusals place.new) }
-        ensures zones { A.zones place.new ≡ A.zones place.old }
-        ensures policy { A.policy place.new ≡ A.policy place.old }
-        ensures begun { A.begun place.new ≡ A.begun place.old }
+        ensures handed { (A.state place.new).handed ≡ placed_ranges self.new.guest.placements.placed.items }
+        ensures unasked { request_of Firmware (load_of self.old) ≡ None → place.new ≡ place.old }
+        ensures no_room { IsWithoutRoom Firmware (load_of self.old) (load_of self.new)
+            (A.state place.old) (A.state place.new) }
+        ensures sound { IsSound (load_of self.old) (load_of self.new) (A.state place.old) (A.state place.new) }
+        ensures begun { (A.state place.new).begun ≡ (A.state place.old).begun }
     {
         match self.script.get(index as usize) {
             Some(entry) => {
@@ -202,17 +176,23 @@ impl Loading {
             }
         }
     }
+}
 
-    // Goes on behind a file, if it is there.
-    fn await_file(&mut self, index: u32)
-        requires inside { IsInside self.old }
-        requires stage { self.old.stage ≡ AwaitsFile index }
-        ensures after { machine_of self.new ≡ firmware_step (AwaitsFile index) None (machine_of self.old) }
-        ensures rooms { SameRooms self.old self.new }
-    {
-        if self.guest.is_over() {
-            self.stage = Stage::AtCommand(index + 1);
-        }
+// The control word that asks for a reading which goes through the buffer, and how many bytes it asks for.
+fn asking_for(reading: Reading) -> (u32, u32)
+    requires { IsLeft reading }
+    ensures { (w : LoadState) → asking_for reading w ≡ record { control = result.0; size = result.1; address = buffer_at } }
+{
+    match reading {
+        Reading::Count => (selected_read(DIRECTORY), 4),
+        Reading::Entries { size, taken } => (NEXT_READ, asked(size - taken)),
+        Reading::Commands {
+            select,
+            size,
+            taken,
+        } => (script_control(select, taken), asked(size - taken)),
+        // A file is asked for where it is placed.
+        Reading::File(_) => unreachable!(),
     }
 }
 
@@ -225,7 +205,7 @@ fn asked(left: u32) -> u32
 
 // The control word of the next read of the script: its first one selects the script's file.
 fn script_control(select: u16, taken: u32) -> u32
-    ensures { result ≡ (if taken == 0 then selected_read select else next_read) }
+    ensures { result ≡ script_control select taken }
 {
     if taken == 0 {
         selected_read(select)
@@ -260,11 +240,11 @@ fn stage_of_script(select: u16, size: u32) -> Stage
     } else if size == 0 {
         Stage::AtCommand(0)
     } else {
-        Stage::AsksScript {
+        Stage::Asks(Reading::Commands {
             select,
             size,
             taken: 0,
-        }
+        })
     }
 }
 

@@ -3,12 +3,12 @@ ghost use Rattle.vt_bytes.specs.Numbers.{be};
 ghost use Rattle.vt_bytes.specs.Memory.{IsTop, bytes_at};
 ghost use Rattle.cfg_dma.specs.Reads.{started, descriptor_bytes, selected_read};
 ghost use Rattle.cfg_dma.specs.Transfers.{attached};
-ghost use Rattle.load_machine.specs.Guarded.{descriptor_at, buffer_at, is_guarded, written_by_other};
-ghost use Rattle.load_machine.specs.Steps.{cleared};
+ghost use Rattle.load_states.specs.Guarded.{descriptor_at, buffer_at, is_guarded, written_by_other};
+ghost use Rattle.load_states.specs.Steps.{cleared};
 
 use cfg_dma::Device;
+use command_acts::Placements;
 use guest_memory::GuestMemory;
-use script_load::Placements;
 use vt_bytes::{get_be, put_be};
 use zone_alloc::zones_of;
 

@@ -1,7 +1,7 @@
 //! A load over events: a firmware reads the directory, the script and the files from a fw_cfg device by its DMA engine, while the device
 //! moves bytes in pieces and the guest's other processors write memory, in any order.
 //!
-//! [`World`] is the machine of such a load (`load_machine` defines it): [`World::step`] is one step of it for one `Event`, and
+//! [`World`] is such a load (`load_states` defines its states): [`World::step`] is one step of it for one `Event`, and
 //! [`World::load`] takes the events of a plan until the load has ended. Its contract says that its answer and the files in memory are those
 //! of the run of the script on plain lists, with the places that the allocator gave, whatever the events are; and what else it leaves.
 //!
@@ -22,9 +22,13 @@ mod rooms;
 mod run;
 mod schedule;
 mod seeded_schedule;
+mod state;
 mod world;
 
+pub use command_acts::LoadFault;
 pub use list_schedule::ListSchedule;
+pub use load_states::Event;
 pub use schedule::Schedule;
 pub use seeded_schedule::SeededSchedule;
+pub use state::State;
 pub use world::World;

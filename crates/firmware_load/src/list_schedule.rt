@@ -1,7 +1,7 @@
 ghost use Rattle.std.specs.Prelude.{◌≡◌, []};
 
 use crate::schedule::Schedule;
-use load_machine::Event;
+use load_states::Event;
 use std::marker::Model;
 use vt_outside::List;
 
@@ -35,9 +35,7 @@ impl ListSchedule {
 impl Schedule for ListSchedule {
     ghost use Rattle.firmware_load.specs.Schedules.{for_seed};
 
-    ghost events = { λ s number. for_seed number s.events };
-
-    ghost left = { λ s. s.left };
+    ghost plan = { λ s. record { events = λ number. for_seed number s.events; left = s.left } };
 
     fn begin(&mut self, seed: u64) {
         self.taken = 0;

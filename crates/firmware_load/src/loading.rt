@@ -1,23 +1,24 @@
 ghost use Rattle.std.specs.Prelude.{◌≡◌, ◌≢◌, ℕ, [], true, None, IfOk};
 ghost use Rattle.vt_bytes.specs.Memory.{IsTop};
-ghost use Rattle.script_load.specs.Allocators.{AreZonesOf, MayAnswer};
-ghost use Rattle.script_load.specs.FilesInMemory.{placed_ranges};
-ghost use Rattle.load_machine.specs.declared.event.Event.TheVariants.{Device as Moved, Firmware as Stepped, Other as Written};
-ghost use Rattle.load_machine.specs.Guarded.{is_guarded, written_by_other};
-ghost use Rattle.load_machine.specs.Loads.{IsBegun};
-ghost use Rattle.load_machine.specs.Runs.{StepsTo, request_of};
-ghost use Rattle.load_machine.specs.Steps.{step};
+ghost use Rattle.command_acts.specs.Allocators.{AreZonesOf, MayAnswer};
+ghost use Rattle.command_acts.specs.FilesInMemory.{placed_ranges};
+ghost use Rattle.load_states.specs.declared.event.Event.TheVariants.{Device as Moved, Firmware as Stepped, Other as Written};
+ghost use Rattle.load_states.specs.Guarded.{is_guarded, written_by_other};
+ghost use Rattle.load_states.specs.Kept.{IsKept};
+ghost use Rattle.load_states.specs.Loads.{IsBegun};
+ghost use Rattle.load_states.specs.Runs.{NoAnswer, StepsTo, request_of};
+ghost use Rattle.load_states.specs.Steps.{step};
 ghost use Rattle.firmware_load.specs.World.{IsWithoutRoom, IsSound};
-ghost use Rattle.firmware_load.specs.Inside.{machine_of, IsInside, SameRooms};
+ghost use Rattle.firmware_load.specs.Inside.{load_of, IsInside, SameRooms};
 
 use crate::guest::Guest;
 use crate::rooms::{most_transfers, script_len};
 use cfg_directory::{Items, Listed};
 use cfg_dma::Device;
+use command_acts::{Placements, infos_of};
 use guest_memory::GuestMemory;
-use load_machine::{Event, Stage};
+use load_states::{Event, Reading, Stage};
 use loader_script::Entry;
-use script_load::{Placements, infos_of};
 use std::alloc::Global;
 use vt_outside::OutOfMemory;
 use zone_alloc::ZoneAlloc;
@@ -42,7 +43,8 @@ impl Loading {
         fill: u8,
     ) -> Result<Loading, OutOfMemory>
         requires { IsTop top }
-        ensures begun { IfOk result (λ l. IsBegun items top fill (machine_of l)) }
+        ensures begun { IfOk result (λ l. IsBegun items top fill (load_of l)) }
+        ensures kept { IfOk result (λ l. IsKept NoAnswer items top fill [] (load_of l)) }
         ensures inside { IfOk result IsInside }
     {
         let transfers = most_transfers(&items);
@@ -58,7 +60,7 @@ impl Loading {
                 memory,
                 placements,
             },
-            stage: Stage::AsksCount,
+            stage: Stage::Asks(Reading::Count),
             listed,
             script,
         })
@@ -67,19 +69,17 @@ impl Loading {
     /// Takes the step of an event. `place` is asked once, where the firmware carries out an Allocate, and else not at all.
     pub(crate) fn step<A: ZoneAlloc>(&mut self, place: &mut A, event: Event)
         requires inside { IsInside self.old }
-        requires begun { A.begun place.old ≡ true }
-        requires zones { AreZonesOf self.old.guest.memory.top (A.zones place.old) }
-        requires handed { A.handed place.old ≡ placed_ranges self.old.guest.placements.placed.items }
+        requires begun { (A.state place.old).begun.ready ≡ true }
+        requires zones { AreZonesOf self.old.guest.memory.top (A.state place.old).begun.zones }
+        requires handed { (A.state place.old).handed ≡ placed_ranges self.old.guest.placements.placed.items }
         ensures inside { IsInside self.new }
-        ensures steps { StepsTo (MayAnswer A.handed A.zones A.policy A.gives (A.zones place.old) (A.policy place.old)) event
-            (machine_of self.old) (machine_of self.new) }
-        ensures handed { A.handed place.new ≡ placed_ranges self.new.guest.placements.placed.items }
-        ensures unasked { request_of event (machine_of self.old) ≡ None → place.new ≡ place.old }
-        ensures no_room { IsWithoutRoom event (machine_of self.old) (machine_of self.new) (A.refusals place.old) (A.refusals place.new) (A.refused place.new) }
-        ensures sound { IsSound (machine_of self.old) (machine_of self.new) (A.refusals place.old) (A.refusals place.new) }
-        ensures zones { A.zones place.new ≡ A.zones place.old }
-        ensures policy { A.policy place.new ≡ A.policy place.old }
-        ensures begun { A.begun place.new ≡ A.begun place.old }
+        ensures steps { StepsTo (MayAnswer A.state A.gives (A.state place.old).begun) event
+            (load_of self.old) (load_of self.new) }
+        ensures handed { (A.state place.new).handed ≡ placed_ranges self.new.guest.placements.placed.items }
+        ensures unasked { request_of event (load_of self.old) ≡ None → place.new ≡ place.old }
+        ensures no_room { IsWithoutRoom event (load_of self.old) (load_of self.new) (A.state place.old) (A.state place.new) }
+        ensures sound { IsSound (load_of self.old) (load_of self.new) (A.state place.old) (A.state place.new) }
+        ensures begun { (A.state place.new).begun ≡ (A.state place.old).begun }
     {
         match event {
             Event::Device(bytes) => self.move_piece(bytes),
@@ -91,7 +91,7 @@ impl Loading {
     // The device moves a piece of its transfer.
     fn move_piece(&mut self, bytes: u32)
         requires { IsInside self.old }
-        ensures steps { machine_of self.new ≡ step (Moved bytes) None (machine_of self.old) }
+        ensures steps { load_of self.new ≡ step (Moved bytes) None (load_of self.old) }
         ensures rooms { SameRooms self.old self.new }
     {
         self.guest.device.piece(&mut self.guest.memory, bytes);
@@ -100,7 +100,7 @@ impl Loading {
     // Another processor writes a byte, unless the address is no RAM or is guarded.
     fn write_by_other(&mut self, addr: u64, byte: u8)
         requires { IsInside self.old }
-        ensures steps { machine_of self.new ≡ step (Written addr byte) None (machine_of self.old) }
+        ensures steps { load_of self.new ≡ step (Written addr byte) None (load_of self.old) }
         ensures rooms { SameRooms self.old self.new }
     {
         self.guest.write_by_other(addr, byte);

@@ -1,12 +1,11 @@
 ghost use Rattle.std.specs.Prelude.{◌≡◌, ◌≤◌, ◌<◌, ◌-◌, ◌^◌, length, IfOk};
-ghost use Rattle.load_machine.specs.Loads.{script_size};
-ghost use Rattle.load_machine.specs.Moves.{most_transfers, pieces_of};
-ghost use Rattle.script_load.specs.Script.{script_in};
+ghost use Rattle.load_states.specs.Loads.{script_size};
+ghost use Rattle.load_states.specs.Moves.{most_transfers, pieces_of};
+ghost use Rattle.command_acts.specs.Script.{script_in};
 
 use crate::guest::BUFFER_BYTES;
 use cfg_directory::{ENTRY_SIZE, Items};
-use image_files::loader_name;
-use loader_script::{ENTRY_BYTES, LONGEST_SCRIPT};
+use loader_script::{ENTRY_BYTES, LONGEST_SCRIPT, loader_name};
 
 /// Returns how many transfers a load of items makes at most.
 pub(crate) fn most_transfers(items: &Items) -> u32

@@ -1,19 +1,20 @@
 ghost use Rattle.std.specs.Prelude.{◌≡◌, ◌≢◌, ◌≤◌, ◌⊎◌, ℕ, List, [], ◌++◌, true, false, Err};
 ghost use Rattle.vt_outside.specs.Stream.{next_count};
-ghost use Rattle.script_load.specs.Allocators.{AreZonesOf, MayAnswer};
-ghost use Rattle.script_load.specs.Loads.{IsAsked};
-ghost use Rattle.load_machine.specs.Loads.{IsBegun, stage_after, most_closing};
-ghost use Rattle.load_machine.specs.Runs.{has_ended, closing_events};
-ghost use Rattle.load_machine.specs.Machine.{Machine};
-ghost use Rattle.load_machine.specs.declared.event.Event.{Event as EventOf};
+ghost use Rattle.command_acts.specs.Allocators.{AreZonesOf, MayAnswer};
+ghost use Rattle.command_acts.specs.Script.{IsAsked};
+ghost use Rattle.load_states.specs.Loads.{IsBegun, stage_after, most_closing};
+ghost use Rattle.load_states.specs.Runs.{has_ended, closing_events};
+ghost use Rattle.load_states.specs.LoadState.{LoadState};
+ghost use Rattle.load_states.specs.declared.event.Event.{Event as EventOf};
 ghost use Rattle.firmware_load.specs.World.{state_at, IsLoadOver};
-ghost use Rattle.firmware_load.specs.Inside.{machine_of, IsInside, IsOnRun, IsTurn, AsksOnTheWay};
-ghost use Rattle.script_load.specs.FilesInMemory.{placed_ranges};
+ghost use Rattle.firmware_load.specs.Inside.{load_of, IsInside, IsOnRun, IsTurn, AsksOnTheWay};
+ghost use Rattle.command_acts.specs.FilesInMemory.{placed_ranges};
 
 use crate::loading::Loading;
 use crate::schedule::Schedule;
-use load_machine::{Event, Stage};
-use script_load::{LoadFault, State};
+use crate::state::State;
+use command_acts::LoadFault;
+use load_states::{Event, Stage};
 use zone_alloc::ZoneAlloc;
 
 impl Loading {
@@ -24,20 +25,19 @@ impl Loading {
         plan: &mut C,
     ) -> Result<(), LoadFault>
         requires inside { IsInside self.old }
-        requires fresh { IsBegun self.old.guest.device.items self.old.guest.memory.top self.old.guest.memory.fill (machine_of self.old) }
-        requires begun { A.begun place.old ≡ true }
-        requires zones { AreZonesOf self.old.guest.memory.top (A.zones place.old) }
-        requires handed { A.handed place.old ≡ [] }
+        requires fresh { IsBegun self.old.guest.device.items self.old.guest.memory.top self.old.guest.memory.fill (load_of self.old) }
+        requires begun { (A.state place.old).begun.ready ≡ true }
+        requires zones { AreZonesOf self.old.guest.memory.top (A.state place.old).begun.zones }
+        requires handed { (A.state place.old).handed ≡ [] }
         ensures inside { IsInside self.new }
-        ensures loaded { IsLoadOver (MayAnswer A.handed A.zones A.policy A.gives (A.zones place.old) (A.policy place.old)) (machine_of self.old)
-            (C.left plan.old) (C.left plan.new) (A.handed place.new) result (machine_of self.new) }
-        ensures plan { C.events plan.new ≡ C.events plan.old }
-        ensures no_room { (index : ℕ) → result ≡ Err (LoadFault.NoRoom index) → (A.refusals place.new ≡ next_count (A.refusals place.old))
-            × IsAsked self.old.guest.device.items index (A.refused place.new) }
-        ensures sound { ((index : ℕ) → result ≢ Err (LoadFault.NoRoom index)) → A.refusals place.new ≡ A.refusals place.old }
-        ensures zones { A.zones place.new ≡ A.zones place.old }
-        ensures policy { A.policy place.new ≡ A.policy place.old }
-        ensures begun { A.begun place.new ≡ A.begun place.old }
+        ensures loaded { IsLoadOver (MayAnswer A.state A.gives (A.state place.old).begun) (load_of self.old)
+            (C.plan plan.old).left (C.plan plan.new).left (A.state place.new).handed result (load_of self.new) }
+        ensures plan { (C.plan plan.new).events ≡ (C.plan plan.old).events }
+        ensures no_room { (index : ℕ) → result ≡ Err (LoadFault.NoRoom index)
+            → ((A.state place.new).refusals ≡ next_count (A.state place.old).refusals)
+            × IsAsked self.old.guest.device.items index (A.state place.new).refused }
+        ensures sound { ((index : ℕ) → result ≢ Err (LoadFault.NoRoom index)) → (A.state place.new).refusals ≡ (A.state place.old).refusals }
+        ensures begun { (A.state place.new).begun ≡ (A.state place.old).begun }
     {
         self.follow(place, plan);
         self.close(place);
@@ -77,21 +77,19 @@ impl Loading {
     // Takes the events of a plan until the load has ended, or the plan has no more.
     fn follow<A: ZoneAlloc, C: Schedule>(&mut self, place: &mut A, plan: &mut C)
         requires inside { IsInside self.old }
-        requires begun { A.begun place.old ≡ true }
-        requires zones { AreZonesOf self.old.guest.memory.top (A.zones place.old) }
-        requires handed { A.handed place.old ≡ placed_ranges self.old.guest.placements.placed.items }
+        requires begun { (A.state place.old).begun.ready ≡ true }
+        requires zones { AreZonesOf self.old.guest.memory.top (A.state place.old).begun.zones }
+        requires handed { (A.state place.old).handed ≡ placed_ranges self.old.guest.placements.placed.items }
         ensures inside { IsInside self.new }
-        ensures follows { (begun : Machine) (before : List EventOf) →
-            IsOnRun (MayAnswer A.handed A.zones A.policy A.gives (A.zones place.old) (A.policy place.old)) begun before (machine_of self.old) →
-            (taken : List EventOf) × (C.left plan.old ≡ taken ++ C.left plan.new)
-            × IsOnRun (MayAnswer A.handed A.zones A.policy A.gives (A.zones place.old) (A.policy place.old)) begun (before ++ taken) (machine_of self.new) }
-        ensures over { (has_ended self.new.stage ≡ true) ⊎ (C.left plan.new ≡ []) }
-        ensures plan { C.events plan.new ≡ C.events plan.old }
-        ensures asks { AsksOnTheWay self.old self.new (A.refusals place.old) (A.refusals place.new) (A.refused place.old) (A.refused place.new) }
-        ensures handed { A.handed place.new ≡ placed_ranges self.new.guest.placements.placed.items }
-        ensures zones { A.zones place.new ≡ A.zones place.old }
-        ensures policy { A.policy place.new ≡ A.policy place.old }
-        ensures begun { A.begun place.new ≡ A.begun place.old }
+        ensures follows { (begun : LoadState) (before : List EventOf) →
+            IsOnRun (MayAnswer A.state A.gives (A.state place.old).begun) begun before (load_of self.old) →
+            (taken : List EventOf) × ((C.plan plan.old).left ≡ taken ++ (C.plan plan.new).left)
+            × IsOnRun (MayAnswer A.state A.gives (A.state place.old).begun) begun (before ++ taken) (load_of self.new) }
+        ensures over { (has_ended self.new.stage ≡ true) ⊎ ((C.plan plan.new).left ≡ []) }
+        ensures plan { (C.plan plan.new).events ≡ (C.plan plan.old).events }
+        ensures asks { AsksOnTheWay self.old self.new (A.state place.old) (A.state place.new) }
+        ensures handed { (A.state place.new).handed ≡ placed_ranges self.new.guest.placements.placed.items }
+        ensures begun { (A.state place.new).begun ≡ (A.state place.old).begun }
     {
         while !self.has_ended() {
             match plan.next() {
@@ -104,21 +102,19 @@ impl Loading {
     // Takes a step of the firmware and a piece as long as any transfer, in turn, until the load has ended.
     fn close<A: ZoneAlloc>(&mut self, place: &mut A)
         requires inside { IsInside self.old }
-        requires begun { A.begun place.old ≡ true }
-        requires zones { AreZonesOf self.old.guest.memory.top (A.zones place.old) }
-        requires handed { A.handed place.old ≡ placed_ranges self.old.guest.placements.placed.items }
+        requires begun { (A.state place.old).begun.ready ≡ true }
+        requires zones { AreZonesOf self.old.guest.memory.top (A.state place.old).begun.zones }
+        requires handed { (A.state place.old).handed ≡ placed_ranges self.old.guest.placements.placed.items }
         ensures inside { IsInside self.new }
-        ensures follows { (begun : Machine) (before : List EventOf) →
-            IsOnRun (MayAnswer A.handed A.zones A.policy A.gives (A.zones place.old) (A.policy place.old)) begun before (machine_of self.old) →
+        ensures follows { (begun : LoadState) (before : List EventOf) →
+            IsOnRun (MayAnswer A.state A.gives (A.state place.old).begun) begun before (load_of self.old) →
             (closing : ℕ) × (closing ≤ most_closing self.old.guest.device.items) × (has_ended self.old.stage ≡ true → closing ≡ 0)
-            × IsOnRun (MayAnswer A.handed A.zones A.policy A.gives (A.zones place.old) (A.policy place.old)) begun
-            (before ++ closing_events closing) (machine_of self.new) }
+            × IsOnRun (MayAnswer A.state A.gives (A.state place.old).begun) begun
+            (before ++ closing_events closing) (load_of self.new) }
         ensures over { has_ended self.new.stage ≡ true }
-        ensures asks { AsksOnTheWay self.old self.new (A.refusals place.old) (A.refusals place.new) (A.refused place.old) (A.refused place.new) }
-        ensures handed { A.handed place.new ≡ placed_ranges self.new.guest.placements.placed.items }
-        ensures zones { A.zones place.new ≡ A.zones place.old }
-        ensures policy { A.policy place.new ≡ A.policy place.old }
-        ensures begun { A.begun place.new ≡ A.begun place.old }
+        ensures asks { AsksOnTheWay self.old self.new (A.state place.old) (A.state place.new) }
+        ensures handed { (A.state place.new).handed ≡ placed_ranges self.new.guest.placements.placed.items }
+        ensures begun { (A.state place.new).begun ≡ (A.state place.old).begun }
     {
         while !self.has_ended() {
             self.take_turn(place);
@@ -129,17 +125,14 @@ impl Loading {
     fn take_turn<A: ZoneAlloc>(&mut self, place: &mut A)
         requires inside { IsInside self.old }
         requires running { has_ended self.old.stage ≡ false }
-        requires begun { A.begun place.old ≡ true }
-        requires zones { AreZonesOf self.old.guest.memory.top (A.zones place.old) }
-        requires handed { A.handed place.old ≡ placed_ranges self.old.guest.placements.placed.items }
+        requires begun { (A.state place.old).begun.ready ≡ true }
+        requires zones { AreZonesOf self.old.guest.memory.top (A.state place.old).begun.zones }
+        requires handed { (A.state place.old).handed ≡ placed_ranges self.old.guest.placements.placed.items }
         ensures inside { IsInside self.new }
-        ensures turn { IsTurn (MayAnswer A.handed A.zones A.policy A.gives (A.zones place.old) (A.policy place.old))
-            (machine_of self.old) (machine_of self.new) }
-        ensures asks { AsksOnTheWay self.old self.new (A.refusals place.old) (A.refusals place.new) (A.refused place.old) (A.refused place.new) }
-        ensures handed { A.handed place.new ≡ placed_ranges self.new.guest.placements.placed.items }
-        ensures zones { A.zones place.new ≡ A.zones place.old }
-        ensures policy { A.policy place.new ≡ A.policy place.old }
-        ensures begun { A.begun place.new ≡ A.begun place.old }
+        ensures turn { IsTurn (MayAnswer A.state A.gives (A.state place.old).begun) (load_of self.old) (load_of self.new) }
+        ensures asks { AsksOnTheWay self.old self.new (A.state place.old) (A.state place.new) }
+        ensures handed { (A.state place.new).handed ≡ placed_ranges self.new.guest.placements.placed.items }
+        ensures begun { (A.state place.new).begun ≡ (A.state place.old).begun }
     {
         self.step(place, Event::Firmware);
         if !self.has_ended() {

@@ -4,7 +4,7 @@ ghost use Rattle.firmware_load.specs.Schedules.{write_by};
 ghost use Rattle.firmware_load.specs.Drawing.{drawn_event, behind_event};
 
 use crate::schedule::Schedule;
-use load_machine::Event;
+use load_states::Event;
 use rand_core::SeedableRng;
 use rand_core::utils::NextWord;
 use rand_pcg::Pcg32;
@@ -27,7 +27,7 @@ pub struct SeededSchedule {
 
 impl Model for SeededSchedule {
     ghost use Rattle.std.specs.Prelude.{List};
-    ghost use Rattle.load_machine.specs.declared.event.Event.{Event};
+    ghost use Rattle.load_states.specs.declared.event.Event.{Event};
     ghost use Rattle.firmware_load.specs.Drawing.{drawn_events};
 
     ghost Value = { List Event };
@@ -50,9 +50,7 @@ impl SeededSchedule {
 impl Schedule for SeededSchedule {
     ghost use Rattle.firmware_load.specs.Schedules.{for_seed, seeded_events};
 
-    ghost events = { λ s number. for_seed number (seeded_events number) };
-
-    ghost left = { λ s. s };
+    ghost plan = { λ s. record { events = λ number. for_seed number (seeded_events number); left = s } };
 
     fn begin(&mut self, seed: u64) {
         self.words = Pcg32::seed_from_u64(seed);

@@ -2,23 +2,24 @@ ghost use Rattle.std.specs.Prelude.{◌≡◌, ◌≢◌, ℕ, List, [], ◌∷�
 ghost use Rattle.vt_outside.specs.Stream.{next_count};
 ghost use Rattle.vt_bytes.specs.Memory.{IsTop};
 ghost use Rattle.cfg_directory.specs.declared.item.Item.{Item};
-ghost use Rattle.script_load.specs.Allocators.{AreZonesOf, MayAnswer};
-ghost use Rattle.script_load.specs.FilesInMemory.{placed_ranges};
-ghost use Rattle.script_load.specs.Loads.{IsAsked};
-ghost use Rattle.load_machine.specs.declared.event.Event.{Event as EventOf};
-ghost use Rattle.load_machine.specs.Kept.{IsKept};
-ghost use Rattle.load_machine.specs.Loads.{IsBegun};
-ghost use Rattle.load_machine.specs.Machine.{memory_of};
-ghost use Rattle.load_machine.specs.Runs.{StepsTo, request_of};
+ghost use Rattle.command_acts.specs.Allocators.{AreZonesOf, MayAnswer};
+ghost use Rattle.command_acts.specs.FilesInMemory.{placed_ranges};
+ghost use Rattle.command_acts.specs.Script.{IsAsked};
+ghost use Rattle.load_states.specs.declared.event.Event.{Event as EventOf};
+ghost use Rattle.load_states.specs.Kept.{IsKept};
+ghost use Rattle.load_states.specs.Loads.{IsBegun};
+ghost use Rattle.load_states.specs.LoadState.{memory_of};
+ghost use Rattle.load_states.specs.Runs.{NoAnswer, StepsTo, request_of};
 ghost use Rattle.firmware_load.specs.World.{state_of, IsWithoutRoom, IsSound, IsLoadOver};
 
 use crate::loading::Loading;
 use crate::schedule::Schedule;
+use crate::state::State;
 use cfg_directory::Items;
 use cfg_dma::Device;
+use command_acts::LoadFault;
 use guest_memory::GuestMemory;
-use load_machine::Event;
-use script_load::{LoadFault, State};
+use load_states::Event;
 use std::alloc::Global;
 use std::marker::Model;
 use vt_outside::OutOfMemory;
@@ -32,12 +33,12 @@ pub struct World {
 
 impl Model for World {
     ghost use Rattle.std.specs.Prelude.{Option, IfSome};
-    ghost use Rattle.load_machine.specs.Machine.{Machine};
-    ghost use Rattle.firmware_load.specs.Inside.{machine_in, IsInside};
+    ghost use Rattle.load_states.specs.LoadState.{LoadState};
+    ghost use Rattle.firmware_load.specs.Inside.{load_in, IsInside};
 
-    ghost Value = { Option Machine };
+    ghost Value = { Option LoadState };
 
-    ghost view = { λ w. machine_in w.loading };
+    ghost view = { λ w. load_in w.loading };
 
     ghost invariant = { λ w. IfSome w.loading IsInside };
 }
@@ -53,6 +54,8 @@ impl World {
     /// Begins a load of `items` into memory below the address `top`, in which every byte is `fill`. `top` is a multiple of 1 MiB
     /// from 0x4000000 to 0xC0000000. A load that was begun before is dropped. All memory that the load needs comes from `alloc`.
     /// Returns `OutOfMemory` when memory runs out; the world is then idle.
+    ///
+    /// Steps keep what the world keeps from here on, however places will be answered: none was asked for yet.
     pub fn begin(
         &mut self,
         alloc: Global,
@@ -62,6 +65,7 @@ impl World {
     ) -> Result<(), OutOfMemory>
         requires { IsTop top }
         ensures ok { OnOk result (IsSomeAnd self.new (IsBegun items top fill)) }
+        ensures kept { OnOk result (IsSomeAnd self.new (IsKept NoAnswer items top fill [])) }
         ensures err { OnErr result (self.new ≡ None) }
     {
         self.loading = None;
@@ -76,26 +80,22 @@ impl World {
     /// When the load has ended, an event of the firmware has no effect.
     pub fn step<A: ZoneAlloc>(&mut self, place: &mut A, event: Event)
         requires some { IsSome self.old }
-        requires begun { A.begun place.old ≡ true }
-        requires zones { IfSome self.old (λ w. AreZonesOf (memory_of w).top (A.zones place.old)) }
-        requires handed { IfSome self.old (λ w. A.handed place.old ≡ placed_ranges w.placed) }
+        requires begun { (A.state place.old).begun.ready ≡ true }
+        requires zones { IfSome self.old (λ w. AreZonesOf (memory_of w).top (A.state place.old).begun.zones) }
+        requires handed { IfSome self.old (λ w. (A.state place.old).handed ≡ placed_ranges w.placed) }
 
-        // It is the one step of the machine, with an answer that the allocator may give.
-        ensures steps { IfSome self.old (λ old. IsSomeAnd self.new (StepsTo
-            (MayAnswer A.handed A.zones A.policy A.gives (A.zones place.old) (A.policy place.old)) event old)) }
+        // It is the one step of the load, with an answer that the allocator may give.
+        ensures steps { IfSome self.old (λ old. IsSomeAnd self.new (StepsTo (MayAnswer A.state A.gives (A.state place.old).begun) event old)) }
         ensures kept { IfSome self.old (λ old. IsSomeAnd self.new (λ new. (items : List Item) (top fill : ℕ) (events : List EventOf)
-            → IsKept (MayAnswer A.handed A.zones A.policy A.gives (A.zones place.old) (A.policy place.old)) items top fill events old
-            → IsKept (MayAnswer A.handed A.zones A.policy A.gives (A.zones place.old) (A.policy place.old)) items top fill (events ++ event ∷ []) new)) }
+            → IsKept (MayAnswer A.state A.gives (A.state place.old).begun) items top fill events old
+            → IsKept (MayAnswer A.state A.gives (A.state place.old).begun) items top fill (events ++ event ∷ []) new)) }
 
         // What the allocator was asked, where it refused, and what it keeps.
-        ensures handed { IfSome self.new (λ w. A.handed place.new ≡ placed_ranges w.placed) }
+        ensures handed { IfSome self.new (λ w. (A.state place.new).handed ≡ placed_ranges w.placed) }
         ensures unasked { IfSome self.old (λ w. request_of event w ≡ None → place.new ≡ place.old) }
-        ensures no_room { IfSome self.old (λ old. IsSomeAnd self.new (λ new.
-            IsWithoutRoom event old new (A.refusals place.old) (A.refusals place.new) (A.refused place.new))) }
-        ensures sound { IfSome self.old (λ old. IsSomeAnd self.new (λ new. IsSound old new (A.refusals place.old) (A.refusals place.new))) }
-        ensures zones { A.zones place.new ≡ A.zones place.old }
-        ensures policy { A.policy place.new ≡ A.policy place.old }
-        ensures begun { A.begun place.new ≡ A.begun place.old }
+        ensures no_room { IfSome self.old (λ old. IsSomeAnd self.new (λ new. IsWithoutRoom event old new (A.state place.old) (A.state place.new))) }
+        ensures sound { IfSome self.old (λ old. IsSomeAnd self.new (λ new. IsSound old new (A.state place.old) (A.state place.new))) }
+        ensures begun { (A.state place.new).begun ≡ (A.state place.old).begun }
     {
         match &mut self.loading {
             Some(loading) => loading.step(place, event),
@@ -117,23 +117,21 @@ impl World {
         plan: &mut C,
     ) -> Result<(), LoadFault>
         requires fresh { IsSomeAnd self.old (λ w. IsBegun w.attached.device.items (memory_of w).top (memory_of w).fill w) }
-        requires begun { A.begun place.old ≡ true }
-        requires zones { IfSome self.old (λ w. AreZonesOf (memory_of w).top (A.zones place.old)) }
-        requires handed { A.handed place.old ≡ [] }
+        requires begun { (A.state place.old).begun.ready ≡ true }
+        requires zones { IfSome self.old (λ w. AreZonesOf (memory_of w).top (A.state place.old).begun.zones) }
+        requires handed { (A.state place.old).handed ≡ [] }
 
         // It is the run over the plan's events that it has taken and, behind their end, over some that end it; and no shorter run has ended.
-        ensures loaded { IfSome self.old (λ old. IsSomeAnd self.new (IsLoadOver
-            (MayAnswer A.handed A.zones A.policy A.gives (A.zones place.old) (A.policy place.old)) old (C.left plan.old) (C.left plan.new)
-            (A.handed place.new) result)) }
-        ensures plan { C.events plan.new ≡ C.events plan.old }
+        ensures loaded { IfSome self.old (λ old. IsSomeAnd self.new (IsLoadOver (MayAnswer A.state A.gives (A.state place.old).begun) old
+            (C.plan plan.old).left (C.plan plan.new).left (A.state place.new).handed result)) }
+        ensures plan { (C.plan plan.new).events ≡ (C.plan plan.old).events }
 
         // Where the allocator refused, and what it keeps.
-        ensures no_room { (index : ℕ) → result ≡ Err (LoadFault.NoRoom index) → (A.refusals place.new ≡ next_count (A.refusals place.old))
-            × IfSome self.old (λ w. IsAsked w.attached.device.items index (A.refused place.new)) }
-        ensures sound { ((index : ℕ) → result ≢ Err (LoadFault.NoRoom index)) → A.refusals place.new ≡ A.refusals place.old }
-        ensures zones { A.zones place.new ≡ A.zones place.old }
-        ensures policy { A.policy place.new ≡ A.policy place.old }
-        ensures begun { A.begun place.new ≡ A.begun place.old }
+        ensures no_room { (index : ℕ) → result ≡ Err (LoadFault.NoRoom index)
+            → ((A.state place.new).refusals ≡ next_count (A.state place.old).refusals)
+            × IfSome self.old (λ w. IsAsked w.attached.device.items index (A.state place.new).refused) }
+        ensures sound { ((index : ℕ) → result ≢ Err (LoadFault.NoRoom index)) → (A.state place.new).refusals ≡ (A.state place.old).refusals }
+        ensures begun { (A.state place.new).begun ≡ (A.state place.old).begun }
     {
         match &mut self.loading {
             Some(loading) => loading.load(place, plan),

@@ -11,7 +11,8 @@ use Rattle.vt_layout.specs.Rows.{places_end}
 use Rattle.vt_outside.specs.Placement.{Range}
 use Rattle.loader_script.specs.declared.entry.Entry.{Entry}
 use Rattle.loader_script.specs.declared.entry.Entry.TheVariants.{Allocate}
-use Rattle.loader_script.specs.Run.{File, Placed, Progress, placed_of, bytes_of, cause_of, carried_out, run_from}
+use Rattle.vt_outside.specs.File.{File}
+use Rattle.loader_script.specs.Run.{Placed, Progress, placed_of, bytes_of, cause_of, carried_out, run_from}
 use Rattle.loader_script.proofs.Conditions.{conditions_suffice}
 use Rattle.loader_script.proofs.Runs.{goes-on}
 use Rattle.image_files.specs.declared.file.Placing.{Placing}

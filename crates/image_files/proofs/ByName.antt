@@ -7,13 +7,16 @@ use Rattle.std.proofs.lemmas.Bool.Decides.{not_from_Decides}
 use Rattle.std.proofs.lemmas.List.Sums.{sum_by-cons}
 use Rattle.std.proofs.lemmas.Slice.Eq.{bytes_eq-Decides}
 use Rattle.loader_script.specs.declared.entry.Entry.{Entry}
-use Rattle.loader_script.specs.Run.{File, file_of}
+use Rattle.vt_outside.specs.File.{File}
+use Rattle.loader_script.specs.Run.{file_of}
 use Rattle.loader_script.specs.Spelling.{entry_bytes}
 use Rattle.loader_script.proofs.Named.{other_name}
 use Rattle.vt_bytes.proofs.Each.{each_from}
 use Rattle.image_files.specs.Files.{ImageFile, is_not_behind, among, by_name}
 use Rattle.image_files.specs.Script.{script_of}
-use Rattle.image_files.specs.Items.{items_from, loader_name, loader_file, items_of, files_of}
+use Rattle.loader_script.specs.LoaderName.{loader_name}
+use Rattle.cfg_directory.specs.Files.{files_of}
+use Rattle.image_files.specs.Items.{items_from, loader_file, items_of}
 use Rattle.image_files.specs.Linkable.{HasNoName, AreDistinct}
 use Rattle.image_files.specs.Linked.{BeginsWith}
 

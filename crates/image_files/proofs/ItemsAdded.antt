@@ -9,7 +9,8 @@ use Rattle.cfg_directory.specs.Items as items
 use Rattle.loader_script.specs.declared.entry.Entry.{Entry}
 use Rattle.image_files.specs.Files.{ImageFile, among, by_name}
 use Rattle.image_files.specs.Script.{script_of}
-use Rattle.image_files.specs.Items.{AreSorted, items_from, items_of, total_bytes, image_limit, loader_name, loader_file}
+use Rattle.loader_script.specs.LoaderName.{loader_name}
+use Rattle.image_files.specs.Items.{AreSorted, items_from, items_of, total_bytes, image_limit, loader_file}
 use Rattle.image_files.specs.Linkable.{HasNoName, AreDistinct}
 use Rattle.image_files.proofs.ByName.{differ_turned, AreDistinct-by_name, length-by_name}
 

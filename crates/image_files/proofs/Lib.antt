@@ -10,3 +10,5 @@ pub mod InTurn
 pub mod Sorted
 pub mod ItemsAdded
 pub mod Writable
+pub mod ScriptFits
+pub mod Counted

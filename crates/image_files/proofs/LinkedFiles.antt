@@ -11,7 +11,8 @@ use Rattle.blob_holes.specs.Blob.{BlobState}
 use Rattle.blob_holes.specs.Filled.{IsFilled}
 use Rattle.blob_holes.proofs.Pointers.{number_in}
 use Rattle.loader_script.specs.declared.entry.Entry.{Entry}
-use Rattle.loader_script.specs.Run.{File, Placed, placed_of, place_of, run, run_from}
+use Rattle.vt_outside.specs.File.{File}
+use Rattle.loader_script.specs.Run.{Placed, placed_of, place_of, run, run_from}
 use Rattle.loader_script.proofs.Runs.{goes-on}
 use Rattle.image_files.specs.Files.{ImageFile}
 use Rattle.image_files.specs.Script.{allocation, add_pointer, add_checksum, add_pointers, add_checksums}

@@ -13,7 +13,8 @@ use Rattle.blob_holes.specs.declared.hole.SumHole.{SumHole}
 use Rattle.blob_holes.proofs.Pointers.{put_number, number_in}
 use Rattle.blob_holes.proofs.Sums.{one_summed}
 use Rattle.loader_script.specs.declared.entry.Entry.{Entry}
-use Rattle.loader_script.specs.Run.{File, Placed, Progress, file_of, placed_of, place_of, placed_with, pointer_sum, with_pointer, with_sum}
+use Rattle.vt_outside.specs.File.{File}
+use Rattle.loader_script.specs.Run.{Placed, Progress, file_of, placed_of, place_of, placed_with, pointer_sum, with_pointer, with_sum}
 use Rattle.loader_script.specs.Run.{cause_of, carried_out}
 use Rattle.loader_script.proofs.Conditions.{conditions_suffice}
 use Rattle.loader_script.proofs.Named.{same_name}

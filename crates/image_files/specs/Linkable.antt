@@ -1,8 +1,9 @@
 -- Files that a script can place and link, wherever they come to stand.
-use Rattle.std.specs.Prelude.{◌≡◌, ℕ, ◌⊎◌, ◌<◌, true, false, List, [], ◌∷◌, IsSome, MatchOption, length}
+use Rattle.std.specs.Prelude.{◌≡◌, ℕ, ◌^◌, ◌⊎◌, ◌<◌, true, false, List, [], ◌∷◌, IsSome, IfSome, MatchOption, length}
 use Rattle.std.specs.Int.{is_power_of_two}
 use Rattle.std.specs.List.{AllByRecursion}
 use Rattle.std.specs.Str.{bytes_eq}
+use Rattle.vt_outside.specs.Name.{IsName}
 use Rattle.blob_holes.specs.declared.hole.PointerHole.{PointerHole}
 use Rattle.blob_holes.specs.Blob.{BlobState, IsBlob}
 use Rattle.blob_holes.specs.Grown.{IsLinkable}
@@ -45,3 +46,8 @@ pub record AreLinkable (files : List ImageFile) : Type 0 where
   pub distinct : AreDistinct files
   pub each : AllByRecursion IsLinkableFile files
   pub leads : AllByRecursion (LeadsAmong files) files
+
+-- a file has a name, and an align of 32 bits, as each file of the program has
+pub record HasFittingPlace (file : ImageFile) : Type 0 where
+  pub name : IsName file.name
+  pub align : IfSome file.placing (λ (placing : Placing). placing.align < 2 ^ 32)

@@ -1,7 +1,8 @@
 -- Files that stand in memory with their holes filled.
 use Rattle.std.specs.Prelude.{◌≡◌, ℕ, List, [], ◌∷◌, Some, MatchOption}
 use Rattle.std.specs.List.{AllByRecursion}
-use Rattle.loader_script.specs.Run.{File, Placed, file_of}
+use Rattle.vt_outside.specs.File.{File}
+use Rattle.loader_script.specs.Run.{Placed, file_of}
 use Rattle.blob_holes.specs.Filled.{IsFilled}
 use Rattle.image_files.specs.Files.{ImageFile}
 

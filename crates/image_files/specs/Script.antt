@@ -11,8 +11,11 @@ use Rattle.zone_alloc.specs.Zones.{number_of_zone}
 use Rattle.image_files.specs.Files.{ImageFile, by_name}
 
 -- the command that places a file, where it is to be placed
+abbrev pub place_command : List ℕ → Placing → Entry
+place_command name placing = Allocate name placing.align (number_of_zone placing.zone)
+
 abbrev pub allocation : ImageFile → List Entry
-allocation file = option_map_or (λ (placing : Placing). Allocate file.name placing.align (number_of_zone placing.zone) ∷ []) file.placing []
+allocation file = option_map_or (λ (placing : Placing). place_command file.name placing ∷ []) file.placing []
 
 -- the command that fills a pointer's field, and the one that fills a sum's byte
 abbrev pub add_pointer : List ℕ → PointerHole → Entry

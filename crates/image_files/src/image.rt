@@ -1,22 +1,27 @@
-ghost use Rattle.std.specs.Prelude.{◌≡◌, ◌++◌, ◌<◌, ◌≤◌, length, IfOk, IfErr, OnOk};
+ghost use Rattle.std.specs.Prelude.{◌≡◌, ◌++◌, ◌<◌, ◌≤◌, ◌↔◌, length, Err, IfOk, IfErr, OnOk};
 ghost use Rattle.std.specs.List.{flat_map, AllByRecursion};
 ghost use Rattle.loader_script.specs.Spelling.{CanBeWritten, Fits};
 ghost use Rattle.cfg_directory.specs.Items.{total_size};
 ghost use Rattle.image_files.specs.declared.image.ImageBuildFault.TheVariants.{ImageTooLarge, OutOfMemory as NoMemory};
 ghost use Rattle.image_files.specs.Files.{by_name};
 ghost use Rattle.image_files.specs.Script.{script_of, add_pointers};
-ghost use Rattle.image_files.specs.Items.{AreSorted, items_from, items_of, total_bytes, image_limit, loader_name, loader_file};
+ghost use Rattle.loader_script.specs.LoaderName.{loader_name};
+ghost use Rattle.image_files.specs.Items.{AreSorted, items_of, image_limit, loader_file};
 ghost use Rattle.image_files.specs.Linkable.{HasNoName, AreDistinct};
 
 use crate::by_name::{by_name, put_among};
 use crate::file::ImageFile;
-use crate::items::{are_few_bytes, items_of};
+use crate::items::items_of;
 use crate::script::{push_allocations, push_checksums, push_pointers};
+use crate::sizes::image_size;
 use blob_holes::Parts;
 use cfg_directory::Items;
-use loader_script::{Entry, encode_script};
+use loader_script::{Entry, encode_script, loader_name};
 use std::alloc::Global;
-use vt_outside::{List, Name, OutOfMemory};
+use vt_outside::{List, OutOfMemory};
+
+// The most bytes that the files of an image may have in all.
+const IMAGE_LIMIT: usize = 409_600;
 
 /// What a firmware loads: the items of fw_cfg, and the script that one of them holds.
 #[derive(Drop)]
@@ -47,7 +52,7 @@ impl From<OutOfMemory> for ImageBuildFault {
 /// Makes the image of `files`, in memory from `alloc`. Its script places them in their order, links them, and goes on with the
 /// commands `later`, which hold no `Misnamed` and no `Skipped` of 1 to 3. There are fewer than 1,024 files, their names differ,
 /// and none is `etc/table-loader`. Returns `ImageTooLarge` where they have, with the script's file, more than 409,600 bytes in
-/// all, and `OutOfMemory` when memory runs out.
+/// all, which are counted before memory is taken, and else `OutOfMemory` when memory runs out.
 pub fn link(alloc: Global, files: Vec<ImageFile>, later: &[Entry]) -> Result<Image, ImageBuildFault>
     requires distinct { AreDistinct files.items }
     requires others { HasNoName files.items loader_name }
@@ -57,10 +62,27 @@ pub fn link(alloc: Global, files: Vec<ImageFile>, later: &[Entry]) -> Result<Ima
     ensures script { IfOk result (λ image. image.script ≡ script_of files.items later.now) }
     ensures fits { IfOk result (λ image. AllByRecursion Fits image.script) }
     ensures small { OnOk result (total_size (items_of files.items later.now) ≤ image_limit) }
-    ensures large { IfErr result (λ fault. fault ≡ ImageTooLarge → image_limit < total_size (items_of files.items later.now)) }
+    ensures large { (result ≡ Err ImageTooLarge) ↔ (image_limit < total_size (items_of files.items later.now)) }
+{
+    if image_size(files.as_slice(), later) > IMAGE_LIMIT {
+        return Err(ImageBuildFault::ImageTooLarge);
+    }
+    Ok(image_from(alloc, files, later)?)
+}
+
+// Makes the image of files that have few bytes in all.
+fn image_from(alloc: Global, files: Vec<ImageFile>, later: &[Entry]) -> Result<Image, OutOfMemory>
+    requires distinct { AreDistinct files.items }
+    requires others { HasNoName files.items loader_name }
+    requires few { length files.items < 1024 }
+    requires later { AllByRecursion CanBeWritten later.now }
+    requires small { total_size (items_of files.items later.now) ≤ image_limit }
+    ensures items { IfOk result (λ image. image.items ≡ items_of files.items later.now) }
+    ensures script { IfOk result (λ image. image.script ≡ script_of files.items later.now) }
+    ensures fits { IfOk result (λ image. AllByRecursion Fits image.script) }
 {
     let Arranged { sorted, script } = arrange_all(alloc, files, later)?;
-    let items = few_items_of(alloc, sorted)?;
+    let items = items_of(alloc, sorted)?;
     Ok(Image { items, script })
 }
 
@@ -115,20 +137,6 @@ fn push_links(
     script.extend(later)
 }
 
-// The items of files, in their order, unless they have too many bytes in all.
-fn few_items_of(alloc: Global, files: Vec<ImageFile>) -> Result<Items, ImageBuildFault>
-    requires distinct { AreDistinct files.items }
-    requires few { length files.items ≤ 1024 }
-    ensures items { IfOk result (λ items. items ≡ items_from 0x20 files.items) }
-    ensures small { OnOk result (total_bytes files.items ≤ image_limit) }
-    ensures large { IfErr result (λ fault. fault ≡ ImageTooLarge → image_limit < total_bytes files.items) }
-{
-    if !are_few_bytes(files.as_slice()) {
-        return Err(ImageBuildFault::ImageTooLarge);
-    }
-    Ok(items_of(alloc, files)?)
-}
-
 // The file of a script, which is not placed.
 fn loader_file(alloc: Global, script: &[Entry]) -> Result<ImageFile, OutOfMemory>
     requires { AllByRecursion CanBeWritten script.now }
@@ -142,11 +150,4 @@ fn loader_file(alloc: Global, script: &[Entry]) -> Result<ImageFile, OutOfMemory
         sums: List::new(alloc),
     };
     Ok(ImageFile::new(loader_name(), parts, None, false))
-}
-
-/// Returns the name of a script's file, `etc/table-loader` (QEMU, hw/acpi/bios-linker-loader.c).
-pub fn loader_name() -> Name
-    ensures { result ≡ loader_name }
-{
-    Name::of("etc/table-loader").unwrap()
 }

@@ -1,6 +1,6 @@
 //! The items of fw_cfg that files are.
 
-ghost use Rattle.std.specs.Prelude.{◌≡◌, ◌+◌, ◌≤◌, ◌<◌, ◌∷◌, ◌++◌, [], length, nat_le, IfOk, OnOk};
+ghost use Rattle.std.specs.Prelude.{◌≡◌, ◌+◌, ◌≤◌, ◌<◌, ◌∷◌, ◌++◌, [], length, IfOk, OnOk};
 ghost use Rattle.cfg_directory.specs.Items.{HasNoName, AreNumberedFrom, total_size};
 ghost use Rattle.image_files.specs.Items.{items_from, total_bytes, image_limit};
 ghost use Rattle.image_files.specs.Linkable.{AreDistinct};
@@ -10,24 +10,6 @@ use blob_holes::Parts;
 use cfg_directory::Items;
 use std::alloc::Global;
 use vt_outside::OutOfMemory;
-
-// The most bytes that the files of an image may have in all.
-const IMAGE_LIMIT: usize = 409_600;
-
-// Whether the files have no more bytes in all than an image may have.
-pub(crate) fn are_few_bytes(files: &[ImageFile]) -> bool
-    ensures { result ≡ nat_le (total_bytes files.now) image_limit }
-{
-    let mut left = IMAGE_LIMIT;
-    for file in files {
-        let size = file.parts.bytes.len();
-        if size > left {
-            return false;
-        }
-        left -= size;
-    }
-    true
-}
 
 // The items of files, in their order.
 pub(crate) fn items_of(alloc: Global, files: Vec<ImageFile>) -> Result<Items, OutOfMemory>

@@ -1,13 +1,17 @@
 //! Laws of linked files. Each is the contract of a function that does nothing.
 
 ghost use Rattle.std.specs.Prelude.{◌≡◌, ℕ, ◌≤◌, List, [], ◌++◌, length};
-ghost use Rattle.std.specs.List.{flat_map};
+ghost use Rattle.std.specs.List.{flat_map, AllByRecursion};
 ghost use Rattle.loader_script.specs.declared.entry.Entry.{Entry};
-ghost use Rattle.loader_script.specs.Run.{File, Placed, place_of, run, run_from};
+ghost use Rattle.loader_script.specs.Spelling.{Fits};
+ghost use Rattle.vt_outside.specs.File.{File};
+ghost use Rattle.loader_script.specs.Run.{Placed, place_of, run, run_from};
 ghost use Rattle.image_files.specs.Files.{ImageFile};
-ghost use Rattle.image_files.specs.Script.{allocation, linking};
-ghost use Rattle.image_files.specs.Items.{items_of, files_of, loader_name};
-ghost use Rattle.image_files.specs.Linkable.{HasNoName, AreDistinct, AreLinkable};
+ghost use Rattle.image_files.specs.Script.{allocation, linking, script_of};
+ghost use Rattle.cfg_directory.specs.Files.{files_of};
+ghost use Rattle.loader_script.specs.LoaderName.{loader_name};
+ghost use Rattle.image_files.specs.Items.{items_of};
+ghost use Rattle.image_files.specs.Linkable.{HasNoName, AreDistinct, HasFittingPlace, AreLinkable};
 ghost use Rattle.image_files.specs.Orders.{AreLinking};
 ghost use Rattle.image_files.specs.Places.{ArePlaces};
 ghost use Rattle.image_files.specs.Linked.{BeginsWith, AreLinked};
@@ -26,6 +30,13 @@ pub fn files_are_linked()
 /// Says that the commands of a script link its files.
 pub fn script_links_its_files()
     ensures { (files : List ImageFile) → AreLinkable files → AreLinking files (linking files) }
+{}
+
+/// Says that the commands of a script fit their entries, where the files can be linked, their names are names, and their aligns have 32
+/// bits.
+pub fn scripts_fit_their_entries()
+    ensures { (files : List ImageFile) (later : List Entry) → AreLinkable files → AllByRecursion HasFittingPlace files
+        → AllByRecursion Fits later → AllByRecursion Fits (script_of files later) }
 {}
 
 /// Says that a run over the items of files, whose names differ and none of which is the script's, begins with these files.

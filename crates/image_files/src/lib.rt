@@ -11,7 +11,8 @@ mod image;
 mod items;
 pub mod laws;
 mod script;
+mod sizes;
 
 pub use file::{ImageFile, Placing};
-pub use image::{Image, ImageBuildFault, link, loader_name};
+pub use image::{Image, ImageBuildFault, link};
 pub use zone_alloc::Zone;

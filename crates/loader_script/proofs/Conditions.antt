@@ -15,7 +15,8 @@ use Rattle.loader_script.specs.declared.entry.Entry.TheVariants.{Allocate, AddPo
 use Rattle.loader_script.specs.declared.refusing.Cause.{Cause}
 use Rattle.loader_script.specs.declared.refusing.FileInfo.{FileInfo}
 use Rattle.loader_script.specs.Refusal.{info_of, placed_at, causes_of, is_there, is_placed, file_size, is_writable, first_cause}
-use Rattle.loader_script.specs.Run.{File, Placed, Progress, file_of, placed_of, infos_of, places_of, late_causes, cause_of}
+use Rattle.vt_outside.specs.File.{File}
+use Rattle.loader_script.specs.Run.{Placed, Progress, file_of, placed_of, infos_of, places_of, late_causes, cause_of}
 use Rattle.loader_script.specs.Conditions.{CanAllocate, CanAddPointer, CanAddChecksum, CanWritePointer, CanCarryOut}
 use Rattle.loader_script.proofs.Named.{same_name, find-map}
 

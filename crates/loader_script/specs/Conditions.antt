@@ -4,7 +4,8 @@ use Rattle.std.specs.Int.{is_power_of_two}
 use Rattle.vt_layout.specs.Rows.{IsPointerSize}
 use Rattle.loader_script.specs.declared.entry.Entry.{Entry}
 use Rattle.loader_script.specs.declared.entry.Entry.TheVariants.{Allocate, AddPointer, AddChecksum, WritePointer, Misnamed, Skipped}
-use Rattle.loader_script.specs.Run.{File, Placed, Progress, file_of, placed_of, pointer_sum}
+use Rattle.vt_outside.specs.File.{File}
+use Rattle.loader_script.specs.Run.{Placed, Progress, file_of, placed_of, pointer_sum}
 
 -- An Allocate: its file is there, isn't placed, and isn't empty; its align is a power of two, and its zone is 1 or 2.
 pub record CanAllocate (p : Progress) (name : List ℕ) (align zone : ℕ) : Type 0 where

@@ -1,3 +1,4 @@
+pub mod LoaderName
 pub mod Spelling
 pub mod Refusal
 pub mod Run

@@ -4,6 +4,7 @@ use Rattle.std.specs.Prelude.{ℕ, suc, ◌+◌, ◌-◌, ◌%◌, ◌^◌, Bool
 use Rattle.std.specs.Prelude.{slice_index, slice_set, if◌then◌else◌}
 use Rattle.std.specs.Option.{option_map, option_map_or}
 use Rattle.std.specs.Str.{bytes_eq}
+use Rattle.vt_outside.specs.File.{File}
 use Rattle.vt_bytes.specs.Numbers.{le, le_bytes, byte_sum}
 use Rattle.vt_bytes.specs.Parts.{part, put_at}
 use Rattle.loader_script.specs.declared.entry.Entry.{Entry}
@@ -12,12 +13,6 @@ use Rattle.loader_script.specs.declared.refusing.Cause.{Cause}
 use Rattle.loader_script.specs.declared.refusing.Cause.TheVariants.{TooFar}
 use Rattle.loader_script.specs.declared.refusing.FileInfo.{FileInfo}
 use Rattle.loader_script.specs.Refusal.{causes_of, first_cause}
-
--- a file of fw_cfg: its name, its bytes as they are now, and whether a guest may write it
-pub record File : Type 0 where
-  pub name : List ℕ
-  pub bytes : List ℕ
-  pub writable : Bool
 
 -- a file in memory: its name, where it stands, and its bytes there
 pub record Placed : Type 0 where

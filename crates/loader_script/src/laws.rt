@@ -2,7 +2,8 @@
 
 ghost use Rattle.std.specs.Prelude.{◌≡◌, ℕ, suc, ◌*◌, ◌↔◌, List, length, slice_get, Some, None};
 ghost use Rattle.std.specs.List.{flat_map, AllByRecursion};
-ghost use Rattle.loader_script.specs.Run.{File, Progress, Done, Command, NoRoom, cause_of, carried_out, run, after_first};
+ghost use Rattle.vt_outside.specs.File.{File};
+ghost use Rattle.loader_script.specs.Run.{Progress, Done, Command, NoRoom, cause_of, carried_out, run, after_first};
 ghost use Rattle.loader_script.specs.Conditions.{CanCarryOut};
 ghost use Rattle.loader_script.specs.declared.refusing.Cause.{Cause};
 ghost use Rattle.loader_script.specs.Spelling.{entry_of, entries_of, entry_bytes, Fits, IsReadAgain};

@@ -11,9 +11,11 @@ pub mod laws;
 mod reading;
 mod refusing;
 mod rows;
+mod script_file;
 mod writing;
 
 pub use entry::Entry;
 pub use reading::{ENTRY_BYTES, LONGEST_SCRIPT, ScriptFault, decode_entry, decode_script};
 pub use refusing::{Cause, FileInfo, refusal};
-pub use writing::encode_script;
+pub use script_file::loader_name;
+pub use writing::{encode_script, entry_size};

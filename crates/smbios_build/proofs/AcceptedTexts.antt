@@ -23,7 +23,7 @@ pub record HasLawfulTexts (m : Machine) : Type 0 where
   pub slots : list_all (λ slot. list_all is_text (slot_texts slot)) m.slots ≡ true
 
 -- a rule that isn't broken holds
-rule_holds : (index : ℕ) (holds : Bool) → only_at index holds ≡ None → holds ≡ true
+pub rule_holds : (index : ℕ) (holds : Bool) → only_at index holds ≡ None → holds ≡ true
 rule_holds index true none = refl
 rule_holds index false none = absurd (cc)
 

@@ -9,3 +9,4 @@ pub mod AcceptedTexts
 pub mod AcceptedBodies
 pub mod Accepted
 pub mod Handles
+pub mod AcceptedNumbers

@@ -4,6 +4,7 @@ ghost use Rattle.std.specs.Prelude.{◌≡◌, ℕ, ◌≤◌, List, ◌++◌, l
 ghost use Rattle.std.specs.List.{AllByRecursion};
 ghost use Rattle.machine_desc.specs.declared.machine.Machine.{Machine};
 ghost use Rattle.machine_desc.specs.Rules.{IsAccepted};
+ghost use Rattle.machine_desc.specs.Fields.{HasFittingFields};
 ghost use Rattle.table_model.specs.declared.smbios.Structure.{Structure};
 ghost use Rattle.table_model.specs.MachineStructures.{structures_of};
 ghost use Rattle.table_model.specs.Smbios.{AreStructures};
@@ -38,4 +39,11 @@ pub fn accepted_structures_are_small()
 pub fn handles_of_a_machine_differ()
     ensures { (m : Machine) (i j : ℕ) (s t : Structure) → IsAccepted m → slice_get (structures_of m) i ≡ Some s
         → slice_get (structures_of m) j ≡ Some t → s.handle ≡ t.handle → i ≡ j }
+{}
+
+/// States that the numbers of an accepted machine's structures fit their fields, where those of the machine do, and that a reader finds
+/// the structures in their bytes.
+pub fn accepted_structures_are_read()
+    ensures fit { (m : Machine) → IsAccepted m → HasFittingFields m → AllByRecursion HasFittingNumbers (structures_of m) }
+    ensures read { (m : Machine) → IsAccepted m → HasFittingFields m → AreStructures (structures_bytes (structures_of m)) (structures_of m) }
 {}

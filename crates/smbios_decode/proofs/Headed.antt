@@ -9,7 +9,7 @@ use Rattle.table_model.specs.Strings.{AreStrings, string_set}
 use Rattle.table_model.specs.Structures.{kind_for, IsBody}
 use Rattle.table_model.specs.Smbios.{formatted}
 use Rattle.smbios_decode.specs.declared.fault.SmbiosFault.TheVariants.{Truncated}
-use Rattle.smbios_decode.specs.Faults.{IsWhole, IsShort, IsFirstMissing, NamesNoString, IsFault}
+use Rattle.smbios_decode.specs.Faults.{IsWhole, BeginsWhole, IsShort, IsFirstMissing, NamesNoString, IsFault}
 use Rattle.smbios_decode.specs.Found.{IsFound}
 use Rattle.smbios_decode.specs.Kinds.{named_in}
 
@@ -142,3 +142,14 @@ names_no_string bytes number told handle strings rest missing is are split (kind
   known = known;
   missing = first;
 }
+
+-- with strings behind the area, a whole structure stands at the front
+pub whole_of : (bytes : List ℕ) (number told handle : ℕ) (strings : List (List ℕ)) (rest : List ℕ) → IsHeaded bytes number told handle
+    → AreStrings strings → behind bytes told ≡ string_set strings ++ rest → BeginsWhole bytes
+whole_of bytes number told handle strings rest is are split = (
+  number,
+  handle,
+  area_in bytes told,
+  strings,
+  record { are_strings = are; rest = rest; spelled = spelled_of bytes number told handle strings rest is split },
+)

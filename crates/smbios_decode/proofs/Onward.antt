@@ -1,5 +1,5 @@
 -- Structures that are read one after the other.
-use Rattle.std.proofs.Common.{◌≡◌, ◌≢◌, ℕ, ◌+◌, ◌-◌, ◌<◌, ◌≤◌, ◌⊎◌, inl, inr, ⊎_elim, true, false, List, [], ◌∷◌, ◌++◌, length, drop, ◌==◌, arith, refl, ap, sym, ◌∙◌, subst}
+use Rattle.std.proofs.Common.{◌≡◌, ◌≢◌, ℕ, zero, suc, ◌+◌, ◌-◌, ◌<◌, ◌≤◌, ◌⊎◌, inl, inr, ⊎_elim, true, false, List, [], ◌∷◌, ◌++◌, length, drop, ◌==◌, arith, refl, ap, sym, ◌∙◌, subst}
 use Rattle.std.proofs.Common.{append_assoc, length-append, length-drop}
 use Rattle.std.proofs.lemmas.Bool.{eqb-true, eqb-false}
 use Rattle.std.proofs.lemmas.List.{drop-drop, drop_at, nil_from_length}
@@ -9,9 +9,10 @@ use Rattle.table_model.specs.Smbios.{formatted, IsStructure}
 use Rattle.smbios_decode.specs.declared.fault.SmbiosFault.{SmbiosFault}
 use Rattle.smbios_decode.specs.declared.fault.SmbiosFault.TheVariants.{NoEnd, OutOfMemory}
 use Rattle.smbios_decode.specs.declared.structure.Found.{Found}
-use Rattle.smbios_decode.specs.Faults.{IsFault, AreRefused, IsRead, IsRefused}
+use Rattle.smbios_decode.specs.Faults.{BeginsWhole, IsFault, AreRefused, IsRead, IsRefused}
 use Rattle.smbios_decode.specs.Found.{IsFound}
 use Rattle.smbios_decode.proofs.Headed.{behind, behind_is}
+use Rattle.smbios_decode.proofs.Wholes.{structure_whole}
 
 -- The structures in front of a place were read: whatever the bytes from there on mean, all the bytes mean, with these in front.
 pub record IsReached (bytes : List ℕ) (place : ℕ) (structures : List Structure) : Type 0 where
@@ -19,9 +20,10 @@ pub record IsReached (bytes : List ℕ) (place : ℕ) (structures : List Structu
   pub read : (more : List Structure) → IsRead (drop place bytes) more → IsRead bytes (structures ++ more)
   pub refused : (before : List Structure) (fault : SmbiosFault) → AreRefused place (drop place bytes) before fault
       → AreRefused 0 bytes (structures ++ before) fault
+  pub whole : 0 < place → BeginsWhole bytes
 
 pub begun : (bytes : List ℕ) → IsReached bytes 0 []
-begun bytes = record { within = omega arith; read = λ more is. is; refused = λ before fault are. are }
+begun bytes = record { within = omega arith; read = λ more is. is; refused = λ before fault are. are; whole = λ some. absurd (omega (arith, some)) }
 
 -- a structure has some bytes
 some_bytes : (bytes : List ℕ) (kind : ℕ) (s : Structure) → IsStructure bytes kind s → 0 < length bytes
@@ -60,6 +62,21 @@ found_within bytes place found within is =
     sym (length-append is.first is.rest) ∙ ap length (sym is.split ∙ behind_is bytes place) ∙ length-drop place bytes in
     (omega (arith, some, is.sized), omega (arith, long, is.sized, within, some))
 
+-- a whole structure at a place, or before it
+pub whole_at : (bytes : List ℕ) (place : ℕ) → (0 < place → BeginsWhole bytes) → BeginsWhole (drop place bytes) → BeginsWhole bytes
+whole_at bytes zero before here = here
+whole_at bytes (suc place) before here = before (omega arith)
+
+next_whole : (bytes : List ℕ) (place : ℕ) (found : Found) → (0 < place → BeginsWhole bytes) → IsNext bytes place found → BeginsWhole bytes
+next_whole bytes place found before next =
+    whole_at bytes place before (
+      next.number,
+      found.structure.handle,
+      next.stands.area,
+      next.stands.strings,
+      structure_whole (drop place bytes) next.first (drop (place + found.size) bytes) next.number found.structure next.split next.stands,
+    )
+
 -- a structure in front of those that are read
 read_more : (bytes first rest : List ℕ) (kind : ℕ) (s : Structure) (more : List Structure) → bytes ≡ first ++ rest → kind ≢ 127
     → IsStructure first kind s → IsRead rest more → IsRead bytes (s ∷ more)
@@ -87,6 +104,7 @@ not_last bytes place structures found is within goes_on next =
           subst (λ size. AreRefused (place + size) rest before fault) (sym next.sized) are in
           let whole = is.refused (found.structure ∷ before) fault (next.first, rest, next.number, next.split, other, next.stands, there) in
           subst (λ all. AreRefused 0 bytes all fault) (sym (append_assoc structures (found.structure ∷ []) before)) whole;
+      whole = λ some. next_whole bytes place found is.whole next;
     }
 
 -- behind a structure that isn't the last
@@ -94,6 +112,11 @@ pub reached_more : (bytes : List ℕ) (place : ℕ) (structures : List Structure
     → IsFound (behind bytes place) found → found.is_last ≡ false → IsReached bytes (place + found.size) (structures ++ found.structure ∷ [])
 reached_more bytes place structures found is there goes_on =
     not_last bytes place structures found is (found_within bytes place found is.within there).1 goes_on (next_of bytes place found there)
+
+-- so a whole structure stands at the front
+pub reached_whole : (bytes : List ℕ) (place : ℕ) (structures : List Structure) (found : Found) → IsReached bytes place structures
+    → IsFound (behind bytes place) found → BeginsWhole bytes
+reached_whole bytes place structures found is there = next_whole bytes place found is.whole (next_of bytes place found there)
 
 -- at the last
 pub read_last : (bytes : List ℕ) (place : ℕ) (structures : List Structure) (found : Found) → IsReached bytes place structures

@@ -16,6 +16,14 @@ pub record IsWhole (bytes : List ℕ) (number handle : ℕ) (area : List ℕ) (s
   pub rest : List ℕ
   pub spelled : bytes ≡ (formatted number handle area ++ string_set strings) ++ rest
 
+-- Strings stand at the front of bytes.
+abbrev pub BeginsStrings : List ℕ → Type 0
+BeginsStrings bytes = (strings : List (List ℕ)) × (rest : List ℕ) × AreStrings strings × (bytes ≡ string_set strings ++ rest)
+
+-- The bytes begin with some whole structure: what is known before memory is needed.
+abbrev pub BeginsWhole : List ℕ → Type 0
+BeginsWhole bytes = (number : ℕ) × (handle : ℕ) × (area : List ℕ) × (strings : List (List ℕ)) × IsWhole bytes number handle area strings
+
 -- The bytes begin with a structure that tells a length below that of its header.
 pub record IsShort (bytes : List ℕ) : Type 0 where
   pub number : ℕ

@@ -1,7 +1,8 @@
-ghost use Rattle.std.specs.Prelude.{◌≡◌, ◌+◌, ◌<◌, ℕ, List, ◌++◌, length, None, Ok, IfOk, IfSome, MatchBool, [], ◌∷◌, ◌==◌};
+ghost use Rattle.std.specs.Prelude.{◌≡◌, ◌+◌, ◌<◌, ℕ, List, ◌++◌, length, None, Ok, IfOk, OnErr, IfSome, MatchBool, [], ◌∷◌, ◌==◌};
 ghost use Rattle.std.specs.List.{slice_split};
 ghost use Rattle.table_model.specs.Strings.{AreStrings, string_set};
 ghost use Rattle.smbios_decode.specs.Ends.{HasEnd, IsFirstEnd};
+ghost use Rattle.smbios_decode.specs.Faults.{BeginsStrings};
 
 use std::alloc::Global;
 use vt_outside::{List, OutOfMemory, Text};
@@ -23,6 +24,7 @@ pub(crate) fn read_strings(alloc: Global, bytes: &[u8]) -> Result<Option<Strings
         × (rest : List ℕ) × (bytes.now ≡ string_set strings.texts ++ rest))) }
     ensures none { result ≡ Ok None → (strings : List (List ℕ)) (rest : List ℕ) → AreStrings strings
         → bytes.now ≡ string_set strings ++ rest → ⊥ }
+    ensures no_memory { OnErr result (BeginsStrings bytes.now) }
 {
     let Some(end) = end_of_strings(bytes) else {
         return Ok(None);

@@ -1,7 +1,7 @@
-ghost use Rattle.std.specs.Prelude.{◌≡◌, ◌^◌, ◌<◌, ◌≤◌, ◌⊎◌, ◌∷◌, length, take, IfOk, IfErr};
+ghost use Rattle.std.specs.Prelude.{◌≡◌, ◌^◌, ◌<◌, ◌≤◌, ◌⊎◌, ◌∷◌, length, take, Err, IfOk, IfErr};
 ghost use Rattle.vt_bytes.specs.Numbers.{le_bytes};
 ghost use Rattle.smbios_decode.specs.declared.fault.SmbiosFault.TheVariants.{OutOfMemory as NoMemory};
-ghost use Rattle.smbios_decode.specs.Faults.{IsFault};
+ghost use Rattle.smbios_decode.specs.Faults.{IsFault, BeginsWhole};
 ghost use Rattle.smbios_decode.specs.Found.{IsFound};
 
 use crate::body::read_body;
@@ -39,6 +39,7 @@ pub(crate) fn read_structure(alloc: Global, bytes: &[u8], place: u32) -> Result<
     requires { 0 < length bytes.now }
     ensures found { IfOk result (λ found. IsFound bytes.now found) }
     ensures fault { IfErr result (λ fault. (fault ≡ NoMemory) ⊎ IsFault place bytes.now fault) }
+    ensures no_memory { result ≡ Err NoMemory → BeginsWhole bytes.now }
 {
     let header = read_header(bytes, place)?;
     let length = usize::from(header.length);

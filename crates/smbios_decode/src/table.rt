@@ -2,7 +2,7 @@ ghost use Rattle.std.specs.Prelude.{◌≡◌, ◌<◌, ◌^◌, ◌⊎◌, List
 ghost use Rattle.table_model.specs.declared.smbios.Structure.{Structure};
 ghost use Rattle.smbios_decode.specs.declared.fault.SmbiosFault.{SmbiosFault};
 ghost use Rattle.smbios_decode.specs.declared.fault.SmbiosFault.TheVariants.{OutOfMemory as NoMemory};
-ghost use Rattle.smbios_decode.specs.Faults.{IsRead, IsRefused, OrNoMemory};
+ghost use Rattle.smbios_decode.specs.Faults.{IsRead, IsRefused, OrNoMemory, BeginsWhole};
 
 use crate::fault::SmbiosFault;
 use crate::structure::read_structure;
@@ -26,6 +26,9 @@ pub fn decode_table(alloc: Global, bytes: &[u8]) -> Result<List<Structure>, Smbi
     // A fault is the first, and where there is one it is told.
     ensures refused { IfErr result (λ fault. (fault ≡ NoMemory) ⊎ IsRefused bytes.now fault) }
     ensures refuses { (fault : SmbiosFault) → IsRefused bytes.now fault → OrNoMemory result (Err fault) }
+    // Memory is needed only once a whole structure is there. Before that the fault is told, whatever memory there is.
+    ensures no_memory { result ≡ Err NoMemory → BeginsWhole bytes.now }
+    ensures at_once { (fault : SmbiosFault) → IsRefused bytes.now fault → ¬ BeginsWhole bytes.now → result ≡ Err fault }
 {
     decode(alloc, bytes)
 }
@@ -35,6 +38,7 @@ fn decode(alloc: Global, bytes: &[u8]) -> Result<List<Structure>, SmbiosFault>
     requires { length bytes.now < 2 ^ 32 }
     ensures read { IfOk result (λ structures. IsRead bytes.now structures) }
     ensures refused { IfErr result (λ fault. (fault ≡ NoMemory) ⊎ IsRefused bytes.now fault) }
+    ensures no_memory { result ≡ Err NoMemory → BeginsWhole bytes.now }
 {
     let mut structures = List::new(alloc);
     let mut place = 0;

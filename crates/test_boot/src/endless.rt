@@ -1,7 +1,6 @@
 //! A source that never ends.
 
-ghost use Rattle.std.specs.Prelude.{◌≡◌, ◌<◌, ◌≤◌, ◌-◌, ◌^◌, length, None, IfOk, IfSome, OnErr};
-ghost use Rattle.vt_outside.specs.Stream.{Rose, in_front};
+ghost use Rattle.std.specs.Prelude.{None, false};
 
 use fixtures::{TOO_LONG, boot, ends_from};
 use std::test::Fail;
@@ -15,9 +14,7 @@ struct Endless {
 }
 
 impl Source for Endless {
-    ghost left = { λ _. None };
-
-    ghost faults = { λ _. 0 };
+    ghost seen = { λ _. record { left = None; ended = false; faults = 0 } };
 
     fn read(&mut self, into: &mut [u8]) -> Result<usize, Failed> {
         into.fill(self.byte);

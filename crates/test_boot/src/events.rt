@@ -1,11 +1,10 @@
 //! The policies and the seeds of a boot, and the events of a plan: what the guest's other processors write is left where nothing guards it,
 //! and changes nothing else.
 
-use firmware_load::ListSchedule;
+use firmware_load::{Event, ListSchedule};
 use fixtures::{
     BOOTED, Ending, MINIMAL, MINIMAL_DUMP, Run, SEEDED_ROOM, boot, booted, ends, ends_over, plan_of,
 };
-use load_machine::Event;
 use std::alloc::Global;
 use std::test::Fail;
 use vmtables::World;

@@ -4,7 +4,15 @@ use crate::reading::{is_read, is_read_around};
 use std::alloc::{AllocError, Global};
 use std::process::Abort;
 use std::test::Fail;
-use vt_words::{Command, PolicyName};
+use vt_words::{Command, Setting};
+use zone_alloc::Policy;
+
+// What the options say where none is given.
+const DEFAULTS: Setting = Setting {
+    fill: 0,
+    policy: Policy::Low,
+    seed: 0,
+};
 
 // Words, each behind a bar, and the command that they are.
 struct Row(&'static str, Command);
@@ -12,137 +20,134 @@ struct Row(&'static str, Command);
 const COMMANDS: &[Row] = &[
     // each command with its defaults
     Row("|build", Command::Build),
-    Row(
-        "|boot",
-        Command::Boot {
-            fill: 0,
-            policy: PolicyName::Low,
-            seed: 0,
-        },
-    ),
+    Row("|boot", Command::Boot(DEFAULTS)),
     Row(
         "|load",
         Command::Load {
-            fill: 0,
             top_mib: 64,
-            policy: PolicyName::Low,
-            seed: 0,
+            setting: DEFAULTS,
         },
     ),
     // one option
     Row(
         "|boot|--policy|top",
-        Command::Boot {
+        Command::Boot(Setting {
             fill: 0,
-            policy: PolicyName::Top,
+            policy: Policy::Top,
             seed: 0,
-        },
+        }),
     ),
     Row(
         "|boot|--seed|7",
-        Command::Boot {
+        Command::Boot(Setting {
             fill: 0,
-            policy: PolicyName::Low,
+            policy: Policy::Low,
             seed: 7,
-        },
+        }),
     ),
     // two options, in each order
     Row(
         "|load|--fill|a5|--top|128",
         Command::Load {
-            fill: 0xA5,
             top_mib: 128,
-            policy: PolicyName::Low,
-            seed: 0,
+            setting: Setting {
+                fill: 0xA5,
+                policy: Policy::Low,
+                seed: 0,
+            },
         },
     ),
     Row(
         "|load|--top|128|--fill|a5",
         Command::Load {
-            fill: 0xA5,
             top_mib: 128,
-            policy: PolicyName::Low,
-            seed: 0,
+            setting: Setting {
+                fill: 0xA5,
+                policy: Policy::Low,
+                seed: 0,
+            },
         },
     ),
     Row(
         "|load|--seed|18446744073709551615|--top|65",
         Command::Load {
-            fill: 0,
             top_mib: 65,
-            policy: PolicyName::Low,
-            seed: u64::MAX,
+            setting: Setting {
+                fill: 0,
+                policy: Policy::Low,
+                seed: u64::MAX,
+            },
         },
     ),
     Row(
         "|boot|--policy|scatter|--seed|12",
-        Command::Boot {
+        Command::Boot(Setting {
             fill: 0,
-            policy: PolicyName::Scatter,
+            policy: Policy::Scatter(12),
             seed: 12,
-        },
+        }),
     ),
     Row(
         "|boot|--seed|12|--policy|scatter",
-        Command::Boot {
+        Command::Boot(Setting {
             fill: 0,
-            policy: PolicyName::Scatter,
+            policy: Policy::Scatter(12),
             seed: 12,
-        },
+        }),
     ),
     // all options, in some orders
     Row(
         "|boot|--seed|12|--fill|a5|--policy|top",
-        Command::Boot {
+        Command::Boot(Setting {
             fill: 0xA5,
-            policy: PolicyName::Top,
+            policy: Policy::Top,
             seed: 12,
-        },
+        }),
     ),
     Row(
         "|load|--policy|scatter|--top|128|--seed|12|--fill|a5",
         Command::Load {
-            fill: 0xA5,
             top_mib: 128,
-            policy: PolicyName::Scatter,
-            seed: 12,
+            setting: Setting {
+                fill: 0xA5,
+                policy: Policy::Scatter(12),
+                seed: 12,
+            },
         },
     ),
     Row(
         "|load|--fill|a5|--seed|12|--top|128|--policy|top",
         Command::Load {
-            fill: 0xA5,
             top_mib: 128,
-            policy: PolicyName::Top,
-            seed: 12,
+            setting: Setting {
+                fill: 0xA5,
+                policy: Policy::Top,
+                seed: 12,
+            },
         },
     ),
     // all options, each with its default
     Row(
         "|boot|--fill|00|--policy|low|--seed|0",
-        Command::Boot {
-            fill: 0,
-            policy: PolicyName::Low,
-            seed: 0,
-        },
+        Command::Boot(DEFAULTS),
     ),
     Row(
         "|load|--fill|00|--top|64|--policy|low|--seed|0",
         Command::Load {
-            fill: 0,
             top_mib: 64,
-            policy: PolicyName::Low,
-            seed: 0,
+            setting: DEFAULTS,
         },
     ),
     // digits that are each of the values, read as what their name says
     Row(
         "|load|--top|99|--seed|99|--fill|99",
         Command::Load {
-            fill: 0x99,
             top_mib: 99,
-            policy: PolicyName::Low,
-            seed: 99,
+            setting: Setting {
+                fill: 0x99,
+                policy: Policy::Low,
+                seed: 99,
+            },
         },
     ),
 ];
@@ -171,10 +176,11 @@ const TOPS: &[(&str, u32)] = &[
     ("3072", 3072),
 ];
 
-const POLICIES: &[(&str, PolicyName)] = &[
-    ("low", PolicyName::Low),
-    ("top", PolicyName::Top),
-    ("scatter", PolicyName::Scatter),
+// Policies, where the seed is that of the defaults.
+const POLICIES: &[(&str, Policy)] = &[
+    ("low", Policy::Low),
+    ("top", Policy::Top),
+    ("scatter", Policy::Scatter(0)),
 ];
 
 const SEEDS: &[(&str, u64)] = &[
@@ -200,15 +206,11 @@ fn commands(rt: HostRuntime) -> Result<(), Fail> {
 #[test]
 fn fill_bytes(rt: HostRuntime) -> Result<(), Fail> {
     for (value, fill) in FILLS {
-        are_read(
-            &rt,
-            rt.alloc(),
-            BEFORE_FILL,
-            value,
-            *fill,
-            PolicyName::Low,
-            0,
-        )?;
+        let setting = Setting {
+            fill: *fill,
+            ..DEFAULTS
+        };
+        are_read(&rt, rt.alloc(), BEFORE_FILL, value, setting)?;
     }
     Ok(())
 }
@@ -216,7 +218,11 @@ fn fill_bytes(rt: HostRuntime) -> Result<(), Fail> {
 #[test]
 fn policies(rt: HostRuntime) -> Result<(), Fail> {
     for (value, policy) in POLICIES {
-        are_read(&rt, rt.alloc(), BEFORE_POLICY, value, 0, *policy, 0)?;
+        let setting = Setting {
+            policy: *policy,
+            ..DEFAULTS
+        };
+        are_read(&rt, rt.alloc(), BEFORE_POLICY, value, setting)?;
     }
     Ok(())
 }
@@ -224,15 +230,11 @@ fn policies(rt: HostRuntime) -> Result<(), Fail> {
 #[test]
 fn seeds(rt: HostRuntime) -> Result<(), Fail> {
     for (value, seed) in SEEDS {
-        are_read(
-            &rt,
-            rt.alloc(),
-            BEFORE_SEED,
-            value,
-            0,
-            PolicyName::Low,
-            *seed,
-        )?;
+        let setting = Setting {
+            seed: *seed,
+            ..DEFAULTS
+        };
+        are_read(&rt, rt.alloc(), BEFORE_SEED, value, setting)?;
     }
     Ok(())
 }
@@ -252,16 +254,12 @@ fn are_read(
     alloc: Global,
     before: Before,
     value: &str,
-    fill: u8,
-    policy: PolicyName,
-    seed: u64,
+    setting: Setting,
 ) -> Result<(), AllocError> {
-    let boot = Command::Boot { fill, policy, seed };
+    let boot = Command::Boot(setting);
     let load = Command::Load {
-        fill,
         top_mib: 64,
-        policy,
-        seed,
+        setting,
     };
     is_read_around(rt, alloc, before.0, value, "", Some(boot))?;
     is_read_around(rt, alloc, before.1, value, "", Some(load))
@@ -277,10 +275,8 @@ fn tops(rt: HostRuntime) -> Result<(), Fail> {
 
 fn is_top(rt: &impl Abort, alloc: Global, value: &str, top_mib: u32) -> Result<(), AllocError> {
     let load = Command::Load {
-        fill: 0,
         top_mib,
-        policy: PolicyName::Low,
-        seed: 0,
+        setting: DEFAULTS,
     };
     is_read_around(rt, alloc, "|load|--top", value, "", Some(load))
 }

@@ -1,11 +1,12 @@
 //! The lines that tell faults.
 
 use crate::told::{BETWEEN_ROWS, is_text, text_and_words};
-use desc_toml::{DescFault, Line, read_machine};
+use desc_toml::{DescFault, read_machine};
 use machine_desc::Machine;
 use std::alloc::Global;
 use std::process::Abort;
 use std::test::Fail;
+use vt_outside::Line;
 
 // Descriptions, and the lines of their faults without their line feeds.
 const LINES: &str = r#"---

@@ -123,7 +123,7 @@ fn told_at(alloc: Global, what: &str, table: u8, index: u32, key: u8) -> Result<
     Ok(format!(in alloc; "{what} {table} {index} {key}")?)
 }
 
-fn told_rule(alloc: Global, rule: u8, index: u32) -> Result<String, Fail> {
+fn told_rule(alloc: Global, rule: u16, index: u32) -> Result<String, Fail> {
     Ok(format!(in alloc; "rule {rule} index {index}")?)
 }
 

@@ -3,9 +3,8 @@
 ghost use Rattle.std.specs.Prelude.{◌≡◌, [], ◌∷◌, IfSome, IfNone};
 ghost use Rattle.firmware_load.specs.Schedules.{seeded_events};
 
-use firmware_load::{Schedule, SeededSchedule};
-use load_machine::Event;
-use load_machine::Event::Device;
+use firmware_load::Event::Device;
+use firmware_load::{Event, Schedule, SeededSchedule};
 use std::process::Abort;
 use std::test::Fail;
 
@@ -29,9 +28,9 @@ fn first_drawn(schedule: &mut SeededSchedule, seed: u64) -> Option<Event>
 
 // The first event of a seed, by any schedule.
 fn first_of<S: Schedule>(schedule: &mut S, seed: u64) -> Option<Event>
-    ensures some { IfSome result (λ event. S.events schedule.old seed ≡ event ∷ S.left schedule.new) }
-    ensures none { IfNone result (S.events schedule.old seed ≡ []) }
-    ensures same { S.events schedule.new ≡ S.events schedule.old }
+    ensures some { IfSome result (λ event. (S.plan schedule.old).events seed ≡ event ∷ (S.plan schedule.new).left) }
+    ensures none { IfNone result ((S.plan schedule.old).events seed ≡ []) }
+    ensures same { (S.plan schedule.new).events ≡ (S.plan schedule.old).events }
 {
     schedule.begin(seed);
     schedule.next()

@@ -5,9 +5,8 @@
 //! 18195738587432868099 that the tests of that crate have for seed 0.
 
 use crate::giving::{are_given, none_is_left};
-use firmware_load::{Schedule, SeededSchedule};
-use load_machine::Event;
-use load_machine::Event::{Device, Firmware, Other};
+use firmware_load::Event::{Device, Firmware, Other};
+use firmware_load::{Event, Schedule, SeededSchedule};
 use std::process::Abort;
 use std::test::Fail;
 

@@ -1,11 +1,13 @@
 //! Loads that end before their script does, or that have nothing to do.
 
-use crate::files::{LOADER, Line, PLACE_ANCHOR, PLACE_TABLES, items_of, items_with};
-use crate::plans::{PADDING, TABLES, first_reads, no_events};
-use crate::rig::{End, FILL, Held, ends};
+use crate::files::{File, LOADER, SMALL_FILES, items_of, items_with};
+use crate::plans::{PADDING, PLACE_ANCHOR, PLACE_TABLES, TABLES, first_reads};
+use crate::rig::{End, FILL, Held, bytes_changed, ends_without_events};
+use crate::scripts::HIGH;
+use crate::scripts::Line::{self, AddPointer, Allocate};
 use cfg_directory::Items;
+use firmware_load::LoadFault::{self, Command, NoRoom, NoScript, ScriptLength};
 use loader_script::Cause;
-use script_load::LoadFault::{self, Command, NoRoom, NoScript, ScriptLength};
 use std::alloc::Global;
 use std::process::Abort;
 use std::test::Fail;
@@ -32,7 +34,11 @@ fn ends_unread(
     count: usize,
     answer: Result<(), LoadFault>,
 ) -> Result<(), Fail> {
-    let items = items_with(alloc, 0, name, &[0; 100][..count.min(100)])?;
+    let last = File {
+        name,
+        bytes: &[0; 100][..count.min(100)],
+    };
+    let items = items_with(alloc, &SMALL_FILES, 0, &[last])?;
     ends_so(rt, alloc, items, &[], answer, 2, &[NO_TABLES])
 }
 
@@ -42,12 +48,12 @@ fn no_files(rt: HostRuntime) -> Result<(), Fail> {
     ends_so(&rt, rt.alloc(), items, &[], Err(NoScript), 1, &[])
 }
 
-const BAD_ALIGN: Line = Line(1, 1, &["etc/spare"], b"\x03\0\0\0\x01");
+const BAD_ALIGN: Line = Allocate("etc/spare", 3, HIGH);
 
 // Adds 0x3000000 to a number of one byte.
-const TOO_FAR: Line = Line(1, 2, &["etc/tables", "etc/tables"], b"\x04\0\0\0\x01");
+const TOO_FAR: Line = AddPointer("etc/tables", "etc/tables", 4, 1);
 
-const PLACE_SPARE: Line = Line(1, 1, &["etc/spare"], b"\x01\0\0\0\x01");
+const PLACE_SPARE: Line = Allocate("etc/spare", 1, HIGH);
 
 // The first file as it is in the device, and the second one's place where it isn't placed.
 const PLAIN: Held = Held(0xF_0000, b"\x41\x42\x05\0\0\0\x77\x88\0");
@@ -124,7 +130,7 @@ fn is_refused(rt: &impl Abort, alloc: Global, refusal: &Refusal) -> Result<(), F
 
 fn items_refused(alloc: Global, line: Line) -> Result<Items, Fail> {
     let lines = [PLACE_ANCHOR, PLACE_TABLES, line, PADDING, PADDING];
-    items_of(alloc, 0, LOADER, &lines)
+    items_of(alloc, &SMALL_FILES, 0, &lines)
 }
 
 // The load makes the first so many transfers of the small load.
@@ -141,20 +147,7 @@ fn ends_so(
         answer,
         reads: first_reads(count),
         left,
+        changed: Some(bytes_changed(left)),
     };
     ends_without_events(rt, alloc, items, fails, &end)
-}
-
-/// The load over no events of a plan ends so.
-pub(crate) fn ends_without_events(
-    rt: &impl Abort,
-    alloc: Global,
-    items: Items,
-    fails: &[u32],
-    end: &End<'_>,
-) -> Result<(), Fail> {
-    let mut plan = no_events(alloc);
-    let done = ends(rt, alloc, items, fails, &mut plan, end);
-    drop(plan);
-    done
 }

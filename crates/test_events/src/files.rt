@@ -1,171 +1,173 @@
-//! The files of a device, and the commands of its script, written byte by byte.
+//! The files of a device, as a container that is written by hand and read.
 
+use crate::scripts::{Line, script_of};
 use cfg_directory::{Items, read_image};
 use std::alloc::Global;
 use std::test::Fail;
-use vt_outside::{Bytes, OutOfMemory};
+use vt_outside::{Bytes, Name, OutOfMemory};
 
-/// The name of the script's file.
+/// The name of a script's file.
 pub(crate) const LOADER: &str = "etc/table-loader";
 
-// The files before the script: one for the F segment, with a number in the bytes 2 to 5 and a sum in the last, one for high memory,
-// and one that stays where it is. They have the selectors from 0x20 on.
-static FILES: [(&str, &[u8]); 3] = [
-    ("etc/anchor", b"\x41\x42\x05\0\0\0\x77\x88\0"),
-    ("etc/tables", b"\xc1\xc2\xc3\xc4\xc5"),
-    ("etc/spare", b"\x99"),
+/// A file of a container: its name and its bytes.
+#[derive(Clone, Copy)]
+pub(crate) struct File<'a> {
+    pub(crate) name: &'a str,
+    pub(crate) bytes: &'a [u8],
+}
+
+/// The files of the small load: one for the F segment, with a number in the bytes 2 to 5 and a sum in the last, one for high memory, and
+/// one that stays where it is.
+pub(crate) static SMALL_FILES: [File<'static>; 3] = [
+    File {
+        name: "etc/anchor",
+        bytes: b"\x41\x42\x05\0\0\0\x77\x88\0",
+    },
+    File {
+        name: "etc/tables",
+        bytes: b"\xc1\xc2\xc3\xc4\xc5",
+    },
+    File {
+        name: "etc/spare",
+        bytes: b"\x99",
+    },
 ];
 
-/// A command: how often it stands there, its number, the names behind it, and the bytes behind these.
-#[derive(Clone, Copy)]
-pub(crate) struct Line(
-    pub(crate) u8,
-    pub(crate) u8,
-    pub(crate) &'static [&'static str],
-    pub(crate) &'static [u8],
-);
+/// The files that the scripts of cases place: one that holds numbers, one that they point to, one of numbers that are nearly too large,
+/// one of the greatest number of eight bytes, and one of no bytes.
+pub(crate) static FILES: [File<'static>; 5] = [
+    File {
+        name: "etc/holder",
+        bytes: b"\x11\x22\x08\0\0\0\x33\x44\x55",
+    },
+    File {
+        name: "etc/target",
+        bytes: b"\xa1\xa2\xa3",
+    },
+    File {
+        name: "etc/edge",
+        bytes: b"\xff\xff\xff\xfc\0\0\0\xfd",
+    },
+    File {
+        name: "etc/ones",
+        bytes: b"\xff\xff\xff\xff\xff\xff\xff\xff",
+    },
+    File {
+        name: "etc/empty",
+        bytes: b"",
+    },
+];
 
-/// Places the first file in the F segment at a multiple of 16, and the second in high memory at one of 64.
-pub(crate) const PLACE_ANCHOR: Line = Line(1, 1, &["etc/anchor"], b"\x10\0\0\0\x02");
-
-pub(crate) const PLACE_TABLES: Line = Line(1, 1, &["etc/tables"], b"\x40\0\0\0\x01");
-
-/// Adds the place of the second file to the number in the first one, and gives the first one its sum.
-pub(crate) const POINT: Line = Line(1, 2, &["etc/anchor", "etc/tables"], b"\x02\0\0\0\x04");
-
-pub(crate) const SUM: Line = Line(1, 3, &["etc/anchor"], b"\x08\0\0\0\0\0\0\0\x09\0\0\0");
-
-/// Makes the files of a device: those above, so many that are empty, and a last one with this name and these commands.
+/// Makes the files of a device: these, so many that are empty, and a script.
 pub(crate) fn items_of(
     alloc: Global,
+    files: &[File<'_>],
     empties: u8,
-    name: &str,
     lines: &[Line],
 ) -> Result<Items, Fail> {
-    let mut script = Bytes::new(alloc);
-    put_lines(&mut script, lines)?;
-    items_with(alloc, empties, name, script.as_slice())
+    let script = script_of(alloc, lines)?;
+    let loader = File {
+        name: LOADER,
+        bytes: script.as_slice(),
+    };
+    items_with(alloc, files, empties, &[loader])
 }
 
-fn put_lines(script: &mut Bytes, lines: &[Line]) -> Result<(), OutOfMemory> {
-    for line in lines {
-        put_line(script, line)?;
-    }
-    Ok(())
-}
-
-/// Makes the same files, where the last one has these bytes.
+/// Makes the files of a device: these, so many that are empty, and the last ones. They have the selectors from 0x20 on.
 pub(crate) fn items_with(
     alloc: Global,
+    files: &[File<'_>],
     empties: u8,
-    name: &str,
-    last: &[u8],
+    last: &[File<'_>],
 ) -> Result<Items, Fail> {
-    let mut container = Bytes::new(alloc);
-    put_container(&mut container, empties, name, last)?;
-    let items = read_image(alloc, container.as_slice());
-    drop(container);
-    Ok(items?)
+    let container = container_with(alloc, files, empties, last)?;
+    Ok(read_image(alloc, container.as_slice())?)
 }
 
-fn put_container(
-    container: &mut Bytes,
+fn container_with(
+    alloc: Global,
+    files: &[File<'_>],
     empties: u8,
-    name: &str,
-    last: &[u8],
-) -> Result<(), OutOfMemory> {
-    put_directory(container, empties, name, last)?;
-    put_padded(container, &[], 4 + usize::from(empties))?;
-    put_contents(container, last)
+    last: &[File<'_>],
+) -> Result<Bytes, Fail> {
+    let mut container = Bytes::new(alloc);
+    put_directory(&mut container, files, empties, last)?;
+    put_flags(&mut container, files.len())?;
+    put_flags(&mut container, usize::from(empties))?;
+    put_flags(&mut container, last.len())?;
+    put_contents(&mut container, files)?;
+    put_contents(&mut container, last)?;
+    Ok(container)
 }
 
 fn put_directory(
     container: &mut Bytes,
+    files: &[File<'_>],
     empties: u8,
-    name: &str,
-    last: &[u8],
-) -> Result<(), OutOfMemory> {
-    container.extend(&[0, 0, 0, empties.saturating_add(4)])?;
-    put_entries(container, &FILES, 0x20)?;
-    put_empties(container, empties)?;
-    put_entries(container, &[(name, last)], 0x23 + u16::from(empties))
+    last: &[File<'_>],
+) -> Result<(), Fail> {
+    let before = u16::try_from(files.len())?.wrapping_add(u16::from(empties));
+    let count = u32::from(before).wrapping_add(u32::try_from(last.len())?);
+    container.extend(&count.to_be_bytes())?;
+    put_entries(container, files, 0x20)?;
+    put_empties(container, empties, 0x20u16.wrapping_add(before))?;
+    put_entries(container, last, 0x20u16.wrapping_add(before))
 }
 
-fn put_contents(container: &mut Bytes, last: &[u8]) -> Result<(), OutOfMemory> {
-    for (_name, bytes) in &FILES {
-        container.extend(bytes)?;
-    }
-    container.extend(last)
-}
-
-// The entries of files, with selectors from one on.
-fn put_entries(
-    container: &mut Bytes,
-    files: &[(&str, &[u8])],
-    first: u16,
-) -> Result<(), OutOfMemory> {
+// The entries of files, with selectors from one on: the size, the selector, two bytes without a meaning, and the name.
+fn put_entries(container: &mut Bytes, files: &[File<'_>], first: u16) -> Result<(), Fail> {
     let mut select = first;
-    for (name, bytes) in files {
-        let size = bytes.len().min(0x10_0000) as u32;
-        put_entry(container, size, select, name.as_bytes())?;
+    for file in files {
+        put_entry(container, file, select)?;
         select = select.wrapping_add(1);
     }
     Ok(())
 }
 
-// The entries of empty files.
-fn put_empties(container: &mut Bytes, count: u8) -> Result<(), OutOfMemory> {
-    for number in 0..count {
-        let name = [b'e', b'a' + number % 16, b'a' + number / 16];
-        put_entry(container, 0, 0x23 + u16::from(number), &name)?;
-    }
+fn put_entry(container: &mut Bytes, file: &File<'_>, select: u16) -> Result<(), Fail> {
+    let size = u32::try_from(file.bytes.len())?;
+    put_numbers(container, size, select)?;
+    container.extend(&Name::of(file.name)?.bytes())?;
     Ok(())
 }
 
-// The size, the selector, two bytes without a meaning, and the name.
-fn put_entry(
-    container: &mut Bytes,
-    size: u32,
-    select: u16,
-    name: &[u8],
-) -> Result<(), OutOfMemory> {
+fn put_numbers(container: &mut Bytes, size: u32, select: u16) -> Result<(), OutOfMemory> {
     container.extend(&size.to_be_bytes())?;
     container.extend(&select.to_be_bytes())?;
-    container.extend(&[0; 2])?;
-    put_padded(container, name, 56)
+    container.extend(&[0; 2])
 }
 
-// A command has 128 bytes, 56 for each name, and is padded with zeros.
-fn put_line(script: &mut Bytes, line: &Line) -> Result<(), OutOfMemory> {
-    let Line(times, number, names, rest) = line;
-    for _ in 0..*times {
-        put_command(script, *number, names, rest)?;
+// The entries of empty files, with selectors up to one that is no more theirs.
+fn put_empties(container: &mut Bytes, count: u8, end: u16) -> Result<(), OutOfMemory> {
+    for number in 0..count {
+        let select = end
+            .wrapping_sub(u16::from(count))
+            .wrapping_add(u16::from(number));
+        put_numbers(container, 0, select)?;
+        container.extend(&empty_name(number))?;
     }
     Ok(())
 }
 
-fn put_command(
-    script: &mut Bytes,
-    number: u8,
-    names: &[&str],
-    rest: &[u8],
-) -> Result<(), OutOfMemory> {
-    script.extend(&[number, 0, 0, 0])?;
-    for name in names {
-        put_padded(script, name.as_bytes(), 56)?;
-    }
-    put_padded(
-        script,
-        rest,
-        124usize.saturating_sub(names.len().saturating_mul(56)),
-    )
+fn empty_name(number: u8) -> [u8; 56] {
+    let mut name = [0; 56];
+    name[0] = b'e';
+    name[1] = b'a' + number % 16;
+    name[2] = b'a' + number / 16;
+    name
 }
 
-// Bytes, and zeros behind them up to a length.
-fn put_padded(bytes: &mut Bytes, front: &[u8], len: usize) -> Result<(), OutOfMemory> {
-    bytes.extend(front)?;
-    for _ in front.len()..len {
-        bytes.push(0)?;
+// A flag for each of so many files, by which it is only read.
+fn put_flags(container: &mut Bytes, count: usize) -> Result<(), OutOfMemory> {
+    for _ in 0..count {
+        container.push(0)?;
+    }
+    Ok(())
+}
+
+fn put_contents(container: &mut Bytes, files: &[File<'_>]) -> Result<(), OutOfMemory> {
+    for file in files {
+        container.extend(file.bytes)?;
     }
     Ok(())
 }

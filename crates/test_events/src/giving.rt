@@ -1,7 +1,6 @@
 //! Schedules, and the events that they are to give.
 
-use firmware_load::Schedule;
-use load_machine::Event;
+use firmware_load::{Event, Schedule};
 use std::process::Abort;
 
 /// The schedule gives these events next, in order.

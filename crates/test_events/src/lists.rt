@@ -1,9 +1,8 @@
 //! A schedule that has a list of events for every seed.
 
 use crate::giving::{are_given, none_is_left};
-use firmware_load::{ListSchedule, Schedule};
-use load_machine::Event;
-use load_machine::Event::{Device, Firmware, Other};
+use firmware_load::Event::{Device, Firmware, Other};
+use firmware_load::{Event, ListSchedule, Schedule};
 use std::alloc::Global;
 use std::process::Abort;
 use std::test::Fail;

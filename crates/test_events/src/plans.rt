@@ -1,21 +1,32 @@
 //! A small load over plans that are lists of events. However the events are mixed, it makes the same transfers and leaves the same files.
 
 ghost use Rattle.std.specs.Prelude.{◌≡◌, IfSome, IsSomeAnd, OnOk};
-ghost use Rattle.load_machine.specs.Loads.{IsBegun};
-ghost use Rattle.load_machine.specs.Machine.{memory_of};
+ghost use Rattle.load_states.specs.Loads.{IsBegun};
+ghost use Rattle.load_states.specs.LoadState.{memory_of};
 
-use crate::files::{LOADER, Line, PLACE_ANCHOR, PLACE_TABLES, POINT, SUM, items_of};
+use crate::files::{SMALL_FILES, items_of};
 use crate::rig::{End, FILL, Held, Read, begin, ends};
+use crate::scripts::Line::{self, AddChecksum, AddPointer, Allocate, Zeros};
+use crate::scripts::{FSEG, HIGH};
 use cfg_directory::Items;
-use firmware_load::{ListSchedule, Schedule, World};
-use load_machine::Event;
+use firmware_load::{Event, ListSchedule, Schedule, World};
 use std::alloc::Global;
 use std::process::Abort;
 use std::test::Fail;
 use vt_outside::{List, OutOfMemory};
 
+/// Places the first file in the F segment at a multiple of 16, and the second in high memory at one of 64.
+pub(crate) const PLACE_ANCHOR: Line = Allocate("etc/anchor", 16, FSEG);
+
+pub(crate) const PLACE_TABLES: Line = Allocate("etc/tables", 64, HIGH);
+
+/// Adds the place of the second file to the number in the first one, and gives the first one its sum.
+pub(crate) const POINT: Line = AddPointer("etc/anchor", "etc/tables", 2, 4);
+
+pub(crate) const SUM: Line = AddChecksum("etc/anchor", 8, 0, 9);
+
 /// A command that changes nothing, as QEMU pads its scripts with.
-pub(crate) const PADDING: Line = Line(1, 0, &[], b"");
+pub(crate) const PADDING: Line = Zeros(128);
 
 /// What the small load leaves: 5 + 0x3000000 is 0x3000005, and 0x41 + 0x42 + 5 + 3 + 0x77 + 0x88 + 0x76 is 0x200.
 pub(crate) const ANCHOR: Held = Held(0xF_0000, b"\x41\x42\x05\0\0\x03\x77\x88\x76");
@@ -25,7 +36,7 @@ pub(crate) const TABLES: Held = Held(0x300_0000, b"\xc1\xc2\xc3\xc4\xc5");
 /// Makes the files of the small load's device.
 pub(crate) fn small_items(alloc: Global) -> Result<Items, Fail> {
     let lines = [PLACE_ANCHOR, PLACE_TABLES, POINT, SUM, PADDING];
-    items_of(alloc, 0, LOADER, &lines)
+    items_of(alloc, &SMALL_FILES, 0, &lines)
 }
 
 /// Begins the small load in a world.
@@ -175,16 +186,10 @@ fn small_load_ends(
         answer: Ok(()),
         reads: first_reads(5),
         left,
+        changed: None,
     };
     let items = small_items(alloc)?;
     ends(rt, alloc, items, &[], schedule, &end)
-}
-
-/// Makes a plan of no events.
-pub(crate) fn no_events(alloc: Global) -> ListSchedule {
-    let mut plan = ListSchedule::new(List::new(alloc));
-    plan.begin(0);
-    plan
 }
 
 // Makes a plan of so many rounds, all of which are left: a step of the firmware and a piece of so many bytes, and behind each of them

@@ -1,20 +1,20 @@
 //! A directory and a script that are larger than the buffer.
 
-use crate::ends::ends_without_events;
-use crate::files::{LOADER, Line, PLACE_ANCHOR, PLACE_TABLES, POINT, SUM, items_of};
-use crate::plans::{ANCHOR, TABLES};
-use crate::rig::{End, Read};
+use crate::files::{SMALL_FILES, items_of};
+use crate::plans::{ANCHOR, PLACE_ANCHOR, PLACE_TABLES, POINT, SUM, TABLES};
+use crate::rig::{End, Read, ends_without_events};
+use crate::scripts::Line::{self, Zeros};
 use std::test::Fail;
 
 // 94 commands, which have 12,032 bytes.
 static LINES: [Line; 7] = [
-    Line(31, 0, &[], b""),
+    Zeros(31 * 128),
     PLACE_ANCHOR,
     PLACE_TABLES,
-    Line(31, 0, &[], b""),
+    Zeros(31 * 128),
     POINT,
     SUM,
-    Line(28, 0, &[], b""),
+    Zeros(28 * 128),
 ];
 
 // The entries of 131 files have 8,384 bytes.
@@ -32,11 +32,12 @@ static READS: [Read; 9] = [
 
 #[test]
 fn several_reads(rt: HostRuntime) -> Result<(), Fail> {
-    let items = items_of(rt.alloc(), 127, LOADER, &LINES)?;
+    let items = items_of(rt.alloc(), &SMALL_FILES, 127, &LINES)?;
     let end = End {
         answer: Ok(()),
         reads: &READS,
         left: &[ANCHOR, TABLES],
+        changed: Some(14),
     };
     ends_without_events(&rt, rt.alloc(), items, &[], &end)
 }

@@ -1,15 +1,14 @@
 //! Loads over a plan, and how they end.
 
 ghost use Rattle.std.specs.Prelude.{◌≡◌, true, [], IfSome, IsSome, IsSomeAnd, OnOk};
-ghost use Rattle.script_load.specs.Allocators.{AreZonesOf};
-ghost use Rattle.load_machine.specs.Loads.{IsBegun};
-ghost use Rattle.load_machine.specs.Machine.{memory_of};
+ghost use Rattle.command_acts.specs.Allocators.{AreZonesOf};
+ghost use Rattle.load_states.specs.Loads.{IsBegun};
+ghost use Rattle.load_states.specs.LoadState.{memory_of};
 
 use cfg_directory::Items;
 use cfg_dma::{Device, Finished, Kind};
-use firmware_load::{Schedule, World};
+use firmware_load::{ListSchedule, LoadFault, Schedule, State, World};
 use guest_memory::GuestMemory;
-use script_load::{LoadFault, State};
 use std::alloc::Global;
 use std::process::Abort;
 use std::test::Fail;
@@ -35,17 +34,19 @@ pub(crate) struct Read(
 #[derive(Clone, Copy)]
 pub(crate) struct Held(pub(crate) u64, pub(crate) &'static [u8]);
 
-/// The work range, a descriptor and a buffer, as it is before a load and when one is done.
+/// The work range, a descriptor and a buffer, as it is before a load.
 pub(crate) const NO_DESCRIPTOR: Held = Held(0x7000, &[FILL; 16]);
 
 pub(crate) const NO_BUFFER: Held = Held(0x8000, &[FILL; 4096]);
 
-/// How a load ends: its answer, the reads that are over, and bytes that are left in memory.
+/// How a load ends: its answer, the reads that are over, bytes that are left in memory, and how many bytes of RAM outside of the work
+/// range aren't the fill byte. Where no read is listed, or no number, they aren't looked at.
 #[derive(Clone, Copy)]
 pub(crate) struct End<'a> {
     pub(crate) answer: Result<(), LoadFault>,
     pub(crate) reads: &'a [Read],
     pub(crate) left: &'a [Held],
+    pub(crate) changed: Option<u64>,
 }
 
 /// Begins a load of `items` in a world, below [`TOP`].
@@ -62,11 +63,32 @@ pub(crate) fn begin_zones<A: ZoneAlloc>(
     place: &mut A,
     by: Policy,
 ) -> Result<(), OutOfMemory>
-    ensures begun { OnOk result (A.begun place.new ≡ true) }
-    ensures handed { OnOk result (A.handed place.new ≡ []) }
-    ensures zones { OnOk result (AreZonesOf 0x4000000 (A.zones place.new)) }
+    ensures begun { OnOk result ((A.state place.new).begun.ready ≡ true) }
+    ensures handed { OnOk result ((A.state place.new).handed ≡ []) }
+    ensures zones { OnOk result (AreZonesOf 0x4000000 (A.state place.new).begun.zones) }
 {
     place.begin(alloc, zones_of(TOP), by)
+}
+
+/// Makes a plan of no events.
+pub(crate) fn no_events(alloc: Global) -> ListSchedule {
+    let mut plan = ListSchedule::new(List::new(alloc));
+    plan.begin(0);
+    plan
+}
+
+/// The load of `items` over no events of a plan ends so, where these calls for a place are refused.
+pub(crate) fn ends_without_events(
+    rt: &impl Abort,
+    alloc: Global,
+    items: Items,
+    fails: &[u32],
+    end: &End<'_>,
+) -> Result<(), Fail> {
+    let mut plan = no_events(alloc);
+    let done = ends(rt, alloc, items, fails, &mut plan, end);
+    drop(plan);
+    done
 }
 
 /// The load of `items` over the events of a plan ends so, where these calls for a place are refused.
@@ -140,8 +162,8 @@ fn failing_places(alloc: Global, fails: &[u32]) -> Result<FailingAlloc, OutOfMem
     Ok(FailingAlloc::new(list))
 }
 
-// The load that was begun ends so, over the events of a plan.
-fn ends_as<A: ZoneAlloc, C: Schedule>(
+/// The load that was begun ends so, over the events of a plan.
+pub(crate) fn ends_as<A: ZoneAlloc, C: Schedule>(
     rt: &impl Abort,
     world: &mut World,
     place: &mut A,
@@ -149,9 +171,9 @@ fn ends_as<A: ZoneAlloc, C: Schedule>(
     end: &End<'_>,
 )
     requires fresh { IsSomeAnd world.old (λ w. IsBegun w.attached.device.items (memory_of w).top (memory_of w).fill w) }
-    requires begun { A.begun place.old ≡ true }
-    requires handed { A.handed place.old ≡ [] }
-    requires zones { IfSome world.old (λ w. AreZonesOf (memory_of w).top (A.zones place.old)) }
+    requires begun { (A.state place.old).begun.ready ≡ true }
+    requires handed { (A.state place.old).handed ≡ [] }
+    requires zones { IfSome world.old (λ w. AreZonesOf (memory_of w).top (A.state place.old).begun.zones) }
     ensures { IsSome world.new }
 {
     let answer = world.load(place, plan);
@@ -164,11 +186,76 @@ fn is_so(rt: &impl Abort, world: &World, end: &End<'_>)
     requires { IsSome world.now }
 {
     is_in(rt, world, state_after(end.answer));
-    has_read(rt, world.device(), end.reads);
-    are_held(rt, world.memory(), end.left);
-    if end.answer.is_ok() {
-        are_held(rt, world.memory(), &[NO_DESCRIPTOR, NO_BUFFER]);
+    if !end.reads.is_empty() {
+        has_read(rt, world.device(), end.reads);
     }
+    is_left(rt, world.memory(), end);
+}
+
+// A load that is done leaves the fill byte in the work range.
+fn is_left(rt: &impl Abort, memory: &GuestMemory, end: &End<'_>) {
+    are_held(rt, memory, end.left);
+    if end.answer.is_ok() {
+        assert_eq!(rt; count_working(memory), 0);
+    }
+    if let Some(changed) = end.changed {
+        assert_eq!(rt; count_changed(memory), changed);
+    }
+}
+
+/// How many of these bytes aren't the fill byte.
+pub(crate) fn bytes_changed(left: &[Held]) -> u64 {
+    let mut count = 0u64;
+    for held in left {
+        count = count.saturating_add(count_in(held.1));
+    }
+    count
+}
+
+fn count_in(bytes: &[u8]) -> u64 {
+    let mut count = 0u64;
+    for byte in bytes {
+        count = count.saturating_add(u64::from(*byte != FILL));
+    }
+    count
+}
+
+/// How many bytes of RAM outside of the work range aren't the fill byte.
+pub(crate) fn count_changed(memory: &GuestMemory) -> u64 {
+    let filled = [memory.fill(); 4096];
+    let mut count = 0u64;
+    for frame in 0..memory.top() / 4096 {
+        let others = count_unlike(memory, u64::from(frame) * 4096, &filled);
+        count = count.saturating_add(others);
+    }
+    count.saturating_sub(count_working(memory))
+}
+
+// How many bytes of the work range aren't.
+fn count_working(memory: &GuestMemory) -> u64 {
+    let filled = [memory.fill(); 4096];
+    count_unlike(memory, 0x7000, &filled[..16]).saturating_add(count_unlike(
+        memory, 0x8000, &filled,
+    ))
+}
+
+// How many bytes from an address on, in one frame, differ from others, where it is RAM.
+fn count_unlike(memory: &GuestMemory, address: u64, others: &[u8]) -> u64 {
+    if others.len() > 4096
+        || address % 4096 + others.len() as u64 > 4096
+        || !memory.is_ram(address)
+    {
+        return 0;
+    }
+    let bytes = memory.window(address, others.len() as u32);
+    if bytes == others {
+        return 0;
+    }
+    let mut count = 0u64;
+    for (byte, other) in bytes.iter().zip(others) {
+        count = count.saturating_add(u64::from(byte != other));
+    }
+    count
 }
 
 fn state_after(answer: Result<(), LoadFault>) -> State {

@@ -2,8 +2,8 @@
 //! some 200 seeds.
 
 ghost use Rattle.std.specs.Prelude.{◌≡◌, IfSome, IsSomeAnd};
-ghost use Rattle.load_machine.specs.Loads.{IsBegun};
-ghost use Rattle.load_machine.specs.Machine.{memory_of};
+ghost use Rattle.load_states.specs.Loads.{IsBegun};
+ghost use Rattle.load_states.specs.LoadState.{memory_of};
 
 use crate::plans::{ANCHOR, TABLES, begin_small, reads_to};
 use crate::rig::{End, Held, ends_placed};
@@ -64,6 +64,7 @@ fn all_end(
         answer: Ok(()),
         reads: &reads_to(left[0].0, left[1].0),
         left,
+        changed: None,
     };
     for seed in seeds {
         ends_over(rt, alloc, by, seed, &end)?;

@@ -1,16 +1,15 @@
 //! Single steps of a world.
 
 ghost use Rattle.std.specs.Prelude.{◌≡◌, true, IfSome, IsSome, IsSomeAnd};
-ghost use Rattle.script_load.specs.Allocators.{AreZonesOf};
-ghost use Rattle.script_load.specs.FilesInMemory.{placed_ranges};
-ghost use Rattle.load_machine.specs.Loads.{IsBegun};
-ghost use Rattle.load_machine.specs.Machine.{memory_of};
+ghost use Rattle.command_acts.specs.Allocators.{AreZonesOf};
+ghost use Rattle.command_acts.specs.FilesInMemory.{placed_ranges};
+ghost use Rattle.load_states.specs.Loads.{IsBegun};
+ghost use Rattle.load_states.specs.LoadState.{memory_of};
 
 use crate::plans::{ANCHOR, TABLES, begin_small, first_reads};
 use crate::rig::{Held, NO_BUFFER, NO_DESCRIPTOR, TOP, are_held, begin_zones, has_read, is_in};
-use firmware_load::World;
-use load_machine::Event::{self, Device, Firmware, Other};
-use script_load::State;
+use firmware_load::Event::{Device, Firmware, Other};
+use firmware_load::{Event, State, World};
 use std::alloc::Global;
 use std::process::Abort;
 use std::test::Fail;
@@ -119,9 +118,9 @@ fn goes_on_with<A: ZoneAlloc>(
 // The world goes on as it should.
 fn goes<A: ZoneAlloc>(rt: &impl Abort, world: &mut World, place: &mut A)
     requires some { IsSome world.old }
-    requires begun { A.begun place.old ≡ true }
-    requires zones { AreZonesOf 0x4000000 (A.zones place.old) }
-    requires handed { IfSome world.old (λ w. A.handed place.old ≡ placed_ranges w.placed) }
+    requires begun { (A.state place.old).begun.ready ≡ true }
+    requires zones { AreZonesOf 0x4000000 (A.state place.old).begun.zones }
+    requires handed { IfSome world.old (λ w. (A.state place.old).handed ≡ placed_ranges w.placed) }
 {
     for Turns(count, events, seen) in &TURNS {
         take_turns(rt, world, place, *count, events);
@@ -138,13 +137,13 @@ fn take_turns<A: ZoneAlloc>(
     events: &[Event],
 )
     requires some { IsSome world.old }
-    requires begun { A.begun place.old ≡ true }
-    requires zones { AreZonesOf 0x4000000 (A.zones place.old) }
-    requires handed { IfSome world.old (λ w. A.handed place.old ≡ placed_ranges w.placed) }
+    requires begun { (A.state place.old).begun.ready ≡ true }
+    requires zones { AreZonesOf 0x4000000 (A.state place.old).begun.zones }
+    requires handed { IfSome world.old (λ w. (A.state place.old).handed ≡ placed_ranges w.placed) }
     ensures some { IsSome world.new }
-    ensures begun { A.begun place.new ≡ true }
-    ensures zones { AreZonesOf 0x4000000 (A.zones place.new) }
-    ensures handed { IfSome world.new (λ w. A.handed place.new ≡ placed_ranges w.placed) }
+    ensures begun { (A.state place.new).begun.ready ≡ true }
+    ensures zones { AreZonesOf 0x4000000 (A.state place.new).begun.zones }
+    ensures handed { IfSome world.new (λ w. (A.state place.new).handed ≡ placed_ranges w.placed) }
 {
     for _ in 0..count {
         take_all(rt, world, place, events);
@@ -153,13 +152,13 @@ fn take_turns<A: ZoneAlloc>(
 
 fn take_all<A: ZoneAlloc>(rt: &impl Abort, world: &mut World, place: &mut A, events: &[Event])
     requires some { IsSome world.old }
-    requires begun { A.begun place.old ≡ true }
-    requires zones { AreZonesOf 0x4000000 (A.zones place.old) }
-    requires handed { IfSome world.old (λ w. A.handed place.old ≡ placed_ranges w.placed) }
+    requires begun { (A.state place.old).begun.ready ≡ true }
+    requires zones { AreZonesOf 0x4000000 (A.state place.old).begun.zones }
+    requires handed { IfSome world.old (λ w. (A.state place.old).handed ≡ placed_ranges w.placed) }
     ensures some { IsSome world.new }
-    ensures begun { A.begun place.new ≡ true }
-    ensures zones { AreZonesOf 0x4000000 (A.zones place.new) }
-    ensures handed { IfSome world.new (λ w. A.handed place.new ≡ placed_ranges w.placed) }
+    ensures begun { (A.state place.new).begun.ready ≡ true }
+    ensures zones { AreZonesOf 0x4000000 (A.state place.new).begun.zones }
+    ensures handed { IfSome world.new (λ w. (A.state place.new).handed ≡ placed_ranges w.placed) }
 {
     for event in events {
         take(rt, world, place, *event);
@@ -169,13 +168,13 @@ fn take_all<A: ZoneAlloc>(rt: &impl Abort, world: &mut World, place: &mut A, eve
 // The world takes the step of an event.
 fn take<A: ZoneAlloc>(rt: &impl Abort, world: &mut World, place: &mut A, event: Event)
     requires some { IsSome world.old }
-    requires begun { A.begun place.old ≡ true }
-    requires zones { AreZonesOf 0x4000000 (A.zones place.old) }
-    requires handed { IfSome world.old (λ w. A.handed place.old ≡ placed_ranges w.placed) }
+    requires begun { (A.state place.old).begun.ready ≡ true }
+    requires zones { AreZonesOf 0x4000000 (A.state place.old).begun.zones }
+    requires handed { IfSome world.old (λ w. (A.state place.old).handed ≡ placed_ranges w.placed) }
     ensures some { IsSome world.new }
-    ensures begun { A.begun place.new ≡ true }
-    ensures zones { AreZonesOf 0x4000000 (A.zones place.new) }
-    ensures handed { IfSome world.new (λ w. A.handed place.new ≡ placed_ranges w.placed) }
+    ensures begun { (A.state place.new).begun.ready ≡ true }
+    ensures zones { AreZonesOf 0x4000000 (A.state place.new).begun.zones }
+    ensures handed { IfSome world.new (λ w. (A.state place.new).handed ≡ placed_ranges w.placed) }
 {
     assert_eq!(rt; world.memory().top(), TOP);
     world.step(place, event);

@@ -3,7 +3,7 @@
 ghost use Rattle.std.specs.Prelude.{◌≡◌, ◌<◌, [], ◌∷◌, ◌++◌, length, codes, IfOk, OnOk};
 ghost use Rattle.std.specs.List.{AllByRecursion};
 ghost use Rattle.loader_script.specs.Spelling.{CanBeWritten};
-ghost use Rattle.image_files.specs.Items.{loader_name};
+ghost use Rattle.loader_script.specs.LoaderName.{loader_name};
 ghost use Rattle.image_files.specs.Linkable.{HasNoName, AreDistinct};
 
 use crate::told::is_image;

@@ -12,6 +12,8 @@ mod memory_streams;
 #[cfg(test)]
 mod names;
 #[cfg(test)]
+mod std_ends;
+#[cfg(test)]
 mod std_faults;
 #[cfg(test)]
 mod std_streams;

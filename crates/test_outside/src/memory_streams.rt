@@ -60,6 +60,29 @@ fn calls_that_are_listed(rt: HostRuntime) {
     assert!(rt; !is_listed(&[1, 3], 2));
 }
 
+// A source whose call behind the end is listed: it gives nothing there, and doesn't fail.
+static BEHIND: [Reading; 4] = [
+    (Ok(4), b"abcd"),
+    (Ok(2), b"efcd"),
+    (Ok(0), b"efcd"),
+    (Ok(0), b"efcd"),
+];
+
+#[test]
+fn calls_behind_the_end(rt: HostRuntime) -> Result<(), Fail> {
+    let mut source = listed_behind_its_end(rt.alloc())?;
+    reads_all(&rt, &mut source, &[0; 4], &BEHIND);
+    drop(source);
+    Ok(())
+}
+
+// A source of six bytes whose fourth call is listed.
+fn listed_behind_its_end(alloc: Global) -> Result<ListSource, OutOfMemory> {
+    let mut fails = List::new(alloc);
+    fails.push(3)?;
+    Ok(ListSource::new(six_bytes(alloc)?, 4, fails))
+}
+
 // A sink with room for five bytes, whose second call fails.
 fn failing_sink(alloc: Global) -> Result<ListSink, OutOfMemory> {
     ListSink::new(alloc, 5, second_call(alloc)?)

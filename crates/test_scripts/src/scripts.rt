@@ -3,7 +3,8 @@
 ghost use Rattle.std.specs.Prelude.{◌≡◌, codes};
 
 use loader_script::{
-    Cause, Entry, FileInfo, ScriptFault, decode_entry, decode_script, encode_script, refusal,
+    Cause, Entry, FileInfo, ScriptFault, decode_entry, decode_script, encode_script, entry_size,
+    refusal,
 };
 use std::alloc::Global;
 use std::process::Abort;
@@ -30,6 +31,12 @@ fn one_command(rt: HostRuntime) -> Result<(), Fail> {
     let written = encode_script(rt.alloc(), &[Entry::Allocate { file, align, zone }])?;
     assert_eq!(rt; written.as_slice(), allocate().as_slice());
     Ok(())
+}
+
+#[test]
+fn entries_have_128_bytes(rt: HostRuntime) {
+    assert_eq!(rt; entry_size(&decode_entry(&allocate())), 128);
+    assert_eq!(rt; entry_size(&Entry::Skipped(0)), 128);
 }
 
 #[test]

@@ -30,18 +30,18 @@ fn first_place_on(
 
 // A shelf isn't refused a place where one is free.
 fn place_on(shelf: &mut ShelfAlloc) -> Result<u64, NoRoom>
-    requires begun { shelf.old.begun ≡ true }
+    requires begun { shelf.old.begun.ready ≡ true }
     requires room { length shelf.old.handed < 1024 }
-    ensures { (place : ℕ) → IsFree (range_in shelf.old.zones High) shelf.old.handed 16 16 place → IsOk result }
+    ensures { (place : ℕ) → IsFree (range_in shelf.old.begun.zones High) shelf.old.handed 16 16 place → IsOk result }
 {
     place_by(shelf)
 }
 
 // A place for 16 bytes, by any allocator.
 fn place_by<A: ZoneAlloc>(alloc: &mut A) -> Result<u64, NoRoom>
-    requires begun { A.begun alloc.old ≡ true }
-    requires room { length (A.handed alloc.old) < 1024 }
-    ensures { A.gives alloc.old High 16 16 (result_ok result) }
+    requires begun { (A.state alloc.old).begun.ready ≡ true }
+    requires room { length (A.state alloc.old).handed < 1024 }
+    ensures { A.gives alloc.old (record { zone = High; size = 16; align = 16 }) (result_ok result) }
 {
     alloc.place(Zone::High, 16, 16)
 }

@@ -2,8 +2,8 @@
 
 ghost use Rattle.std.specs.Prelude.{◌≡◌, true, ◌<◌, [], Some, None, length};
 ghost use Rattle.std.specs.Int.{is_power_of_two};
-ghost use Rattle.vt_outside.specs.Stream.{next_count};
 ghost use Rattle.zone_alloc.specs.declared.zone.Zone.TheVariants.{Fseg};
+ghost use Rattle.zone_alloc.specs.Allocators.{with_refusal};
 
 use std::alloc::Global;
 use std::process::Abort;
@@ -38,12 +38,12 @@ fn refuses_and_begins_again(
 
 // Two requests for more than the F segment are refused and counted, and the last one is kept.
 fn two_refusals(rt: &impl Abort, shelf: &mut ShelfAlloc)
-    requires begun { shelf.old.begun ≡ true }
+    requires begun { shelf.old.begun.ready ≡ true }
     requires none { (shelf.old.handed ≡ []) × (shelf.old.refusals ≡ 0) }
     ensures count { shelf.new.refusals ≡ 2 }
     ensures asked { shelf.new.refused ≡ Some (record { zone = Fseg; size = 0x10002; align = 16 }) }
     ensures none { shelf.new.handed ≡ [] }
-    ensures begun { shelf.new.begun ≡ true }
+    ensures begun { shelf.new.begun.ready ≡ true }
 {
     let first = Request {
         zone: Fseg,
@@ -61,11 +61,11 @@ fn two_refusals(rt: &impl Abort, shelf: &mut ShelfAlloc)
 
 // A request is refused: it is counted and kept, and all else is what it was.
 fn is_refused(rt: &impl Abort, shelf: &mut ShelfAlloc, asked: Request)
-    requires begun { shelf.old.begun ≡ true }
+    requires begun { shelf.old.begun.ready ≡ true }
     requires room { length shelf.old.handed < 1024 }
     requires size { 0 < asked.size }
     requires align { is_power_of_two asked.align ≡ true }
-    ensures { shelf.new ≡ record shelf.old { refusals = next_count shelf.old.refusals; refused = Some asked } }
+    ensures { shelf.new ≡ with_refusal asked shelf.old }
 {
     let given = shelf.place(asked.zone, asked.size, asked.align);
     assert_eq!(rt; given, Err(NoRoom));
@@ -73,7 +73,7 @@ fn is_refused(rt: &impl Abort, shelf: &mut ShelfAlloc, asked: Request)
 
 // A place is given, which leaves the count as it was, and no request that was refused.
 fn a_place(rt: &impl Abort, shelf: &mut ShelfAlloc)
-    requires begun { shelf.old.begun ≡ true }
+    requires begun { shelf.old.begun.ready ≡ true }
     requires none { shelf.old.handed ≡ [] }
     ensures count { shelf.new.refusals ≡ shelf.old.refusals }
     ensures clear { shelf.new.refused ≡ None }

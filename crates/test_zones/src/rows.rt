@@ -75,9 +75,9 @@ pub(crate) fn are_placed_from_begin<A: ZoneAlloc>(
 
 // Each row is answered as it says, in turn.
 fn are_placed<A: ZoneAlloc>(rt: &impl Abort, alloc: &mut A, rows: &[Row])
-    requires begun { A.begun alloc.old ≡ true }
-    requires room { length (A.handed alloc.old) + length rows.now ≤ 1024 }
-    ensures { A.begun alloc.new ≡ true }
+    requires begun { (A.state alloc.old).begun.ready ≡ true }
+    requires room { length (A.state alloc.old).handed + length rows.now ≤ 1024 }
+    ensures { (A.state alloc.new).begun.ready ≡ true }
 {
     for row in rows {
         is_placed(rt, alloc, row);
@@ -86,10 +86,10 @@ fn are_placed<A: ZoneAlloc>(rt: &impl Abort, alloc: &mut A, rows: &[Row])
 
 // A row is answered as it says.
 fn is_placed<A: ZoneAlloc>(rt: &impl Abort, alloc: &mut A, row: &Row)
-    requires begun { A.begun alloc.old ≡ true }
-    requires room { length (A.handed alloc.old) < 1024 }
-    ensures begun { A.begun alloc.new ≡ true }
-    ensures grown { length (A.handed alloc.new) ≤ length (A.handed alloc.old) + 1 }
+    requires begun { (A.state alloc.old).begun.ready ≡ true }
+    requires room { length (A.state alloc.old).handed < 1024 }
+    ensures begun { (A.state alloc.new).begun.ready ≡ true }
+    ensures grown { length (A.state alloc.new).handed ≤ length (A.state alloc.old).handed + 1 }
 {
     let Row(zone, size, align, place) = row;
     assert!(rt; *size > 0 && align.is_power_of_two());

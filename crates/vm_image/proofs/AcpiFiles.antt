@@ -40,7 +40,7 @@ places_in-more file [] table = refl
 places_in-more file (first ∷ tables) table = ap (λ places. next_place 16 file ∷ places) (places_in-more (with_table file first) tables table)
 
 -- the most bytes with those of one table more
-most_bytes-more : (tables : List Table) (table : Table) → most_bytes (tables ++ table ∷ []) ≡ most_bytes tables + (24 + size (rows_of table))
+pub most_bytes-more : (tables : List Table) (table : Table) → most_bytes (tables ++ table ∷ []) ≡ most_bytes tables + (24 + size (rows_of table))
 most_bytes-more [] table = omega arith
 most_bytes-more (first ∷ tables) table = let rest = most_bytes-more tables table in omega arith
 
@@ -53,7 +53,7 @@ stand_more view (first ∷ addresses) [] address table stand is = absurd stand
 stand_more view (first ∷ addresses) (one ∷ tables) address table stand is = (stand.0, stand_more view addresses tables address table stand.1 is)
 
 -- the image of a list with one more element
-map_more : {A B : Type 0} (f : A → B) (xs : List A) (x : A) → map f (xs ++ x ∷ []) ≡ map f xs ++ f x ∷ []
+pub map_more : {A B : Type 0} (f : A → B) (xs : List A) (x : A) → map f (xs ++ x ∷ []) ≡ map f xs ++ f x ∷ []
 map_more f [] x = refl
 map_more f (y ∷ xs) x = ap (λ ys. f y ∷ ys) (map_more f xs x)
 

@@ -14,8 +14,7 @@ use Rattle.table_model.proofs.AcceptedAcpi.{accepted_fits}
 use Rattle.table_model.proofs.Walked.{walked, machine_added}
 use Rattle.acpi_fixed.specs.Tables.{tables_name, table_pointer}
 use Rattle.vm_image.specs.Image.{acpi_files, acpi_part, rsdp_name, xsdt_place}
-use Rattle.vm_image.specs.AcpiHeld.{HoldsTables}
-use Rattle.vm_image.specs.Promised.{AreAcpiKnown}
+use Rattle.vm_image.specs.AcpiHeld.{HoldsTables, AreAcpiKnown}
 use Rattle.vm_image.proofs.RsdpShown.{length-padded, rsdp_shown}
 use Rattle.vm_image.proofs.Standing.{Stands}
 use Rattle.vm_image.proofs.Marks.{IsClearFile}

@@ -6,7 +6,7 @@ use Rattle.machine_desc.specs.declared.machine.Machine.{Machine}
 use Rattle.machine_desc.specs.declared.machine.Acpi.{Acpi}
 use Rattle.acpi_fixed.specs.Tables.{tables_name}
 use Rattle.image_files.specs.Files.{ImageFile}
-use Rattle.image_files.specs.Items.{loader_name}
+use Rattle.loader_script.specs.LoaderName.{loader_name}
 use Rattle.image_files.specs.Linkable.{HasNoName, AreDistinct}
 use Rattle.vm_image.specs.Image.{anchor_name, structures_name, rsdp_name, acpi_part, smbios_placed, structures_file, image_files}
 

@@ -6,19 +6,12 @@ use Rattle.vt_bytes.specs.Memory.{Memory, IsInOne, IsRam, ram_ranges, byte_in, a
 use Rattle.vt_bytes.proofs.Bytes.{bytes_at-same}
 use Rattle.vt_bytes.proofs.Ranges.{IsBeside, byte_later}
 use Rattle.loader_script.specs.Run.{Placed}
-use Rattle.loader_script.specs.Left.{Holds, IsLeft}
+use Rattle.loader_script.specs.Left.{Holds}
 use Rattle.vm_image.specs.Promised.{IsInside, HoldsFiles, AgreeOnFiles}
 
 -- the BIOS area is RAM
 bios_ram : (top address : ℕ) → 0xE0000 ≤ address → address < 0x100000 → IsRam top address
 bios_ram top address from below = inr (inl (from, below))
-
--- a memory that a load has left, outside of whose files each RAM byte is the fill byte, holds the files
-pub held_from_left : (memory : Memory) (placed : List Placed) → IsLeft memory placed (λ _. memory.fill) → HoldsFiles memory placed
-held_from_left memory placed left = record {
-  files = left.files;
-  bios = λ address from below outside. left.others address (bios_ram memory.top address from below) outside;
-}
 
 -- each byte at the address is 0, whatever parts the ranges have
 abbrev IsZeroAt : List AddressRange → ℕ → Type 0
@@ -65,12 +58,12 @@ files_alike memory other (p ∷ placed) same held = (
   files_alike memory other placed (λ address inside. same address (inr inside)) held.1,
 )
 
--- so a memory that agrees on the files with one that holds them holds them too
+-- so a memory that agrees on the files with one that holds them holds them too, as one of the same fill byte
 pub held_alike : (memory other : Memory) (placed : List Placed) → HoldsFiles memory placed → AgreeOnFiles memory other placed
-    → HoldsFiles other placed
+    → HoldsFiles (record other { fill = memory.fill }) placed
 held_alike memory other placed held agree = record {
-  files = files_alike memory other placed
+  files = files_alike memory (record other { fill = memory.fill }) placed
       (λ address inside. agree_anyhow memory other address agree.top (λ ram. agree.bytes address ram (inr inside))) held.files;
   bios = λ address from below outside.
-      agree.bytes address (bios_ram memory.top address from below) (inl (from, below)) ∙ held.bios address from below outside ∙ sym agree.fill;
+      agree.bytes address (bios_ram memory.top address from below) (inl (from, below)) ∙ held.bios address from below outside;
 }

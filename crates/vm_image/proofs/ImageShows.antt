@@ -3,6 +3,7 @@
 -- the F segment, and these have none but at their own beginnings.
 use Rattle.std.proofs.Common.{◌≡◌, ◌+◌, ◌≤◌, [], length, refl, sym, subst, arith, ◌∙◌}
 use Rattle.std.specs.List.{AllByRecursion}
+use Rattle.vt_bytes.specs.Memory.{seen}
 use Rattle.vt_bytes.proofs.Each.{each_append, each_front, each_back}
 use Rattle.machine_desc.specs.declared.machine.Machine.{Machine}
 use Rattle.machine_desc.specs.Rules.{IsAccepted}
@@ -11,7 +12,8 @@ use Rattle.table_model.specs.Smbios.{AreStructures}
 use Rattle.loader_script.specs.Run.{place_of as place_in}
 use Rattle.image_files.specs.Places.{ArePlaces}
 use Rattle.vm_image.specs.Image.{acpi_part, smbios_placed, structures_file, image_files, anchor_name}
-use Rattle.vm_image.specs.Promised.{IsShownAnywhere, IsShownAlike, AreAcpiKnown}
+use Rattle.vm_image.specs.AcpiHeld.{AreAcpiKnown}
+use Rattle.vm_image.specs.Promised.{IsShownAnywhere, AreShownAlike}
 use Rattle.vm_image.proofs.Accepted.{Lawful, lawful}
 use Rattle.vm_image.proofs.StructuresSize.{structures_size}
 use Rattle.vm_image.proofs.DistinctNames.{image_distinct}
@@ -54,8 +56,10 @@ image_shows m accepted read known places placed memory lawful_places linked top 
           (rsdp_marked memory limit other below has));
     }
 
--- so does one that agrees with it on the files
-pub files_show_alike : (m : Machine) → IsAccepted m → AreStructures (structures_file m) (structures_of m) → AreAcpiKnown m m.acpi
-    → IsShownAlike m
-files_show_alike m accepted read known places placed memory other lawful_places linked top held agree =
-    image_shows m accepted read known places placed other lawful_places linked (agree.top ∙ top) (held_alike memory other placed held agree)
+-- so does one that agrees with it on the files: what is seen of a memory has nothing of its fill byte
+pub shown_alike : (m : Machine) → IsShownAnywhere m → AreShownAlike m
+unfolding seen
+shown_alike m shown places placed memory other lawful_places linked top held agree = (
+  shown places placed memory lawful_places linked top held,
+  shown places placed (record other { fill = memory.fill }) lawful_places linked (agree.top ∙ top) (held_alike memory other placed held agree),
+)

@@ -6,6 +6,7 @@ pub mod AcpiFiles
 pub mod Anchor
 pub mod AnchorShown
 pub mod RsdpShown
+pub mod AcpiKnown
 pub mod Named
 pub mod Standing
 pub mod HeldFiles
@@ -18,5 +19,7 @@ pub mod ImageShows
 pub mod Targets
 pub mod Linkable
 pub mod Small
+pub mod FilesFit
 pub mod Pushed
 pub mod Built
+pub mod OneImage

@@ -12,7 +12,7 @@ use Rattle.blob_holes.specs.declared.hole.PointerHole.{PointerHole}
 use Rattle.image_files.specs.Files.{ImageFile}
 use Rattle.image_files.specs.Linkable.{IsPlacedName, IsLinkableFile, LeadsAmong, AreLinkable}
 use Rattle.vm_image.specs.Image.{acpi_files, acpi_placed, acpi_part, smbios_placed, structures_file, image_files}
-use Rattle.vm_image.specs.Promised.{AreAcpiKnown}
+use Rattle.vm_image.specs.AcpiHeld.{AreAcpiKnown}
 use Rattle.vm_image.proofs.StructuresSize.{structures_size}
 use Rattle.vm_image.proofs.Whole.{whole_kept, whole_linkable}
 use Rattle.vm_image.proofs.Anchor.{anchor_kept, anchor_linkable}

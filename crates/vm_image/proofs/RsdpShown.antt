@@ -15,7 +15,7 @@ pub length-padded : (count : ℕ) (text : List ℕ) → length text ≤ count �
 length-padded count text short = omega (arith, length-append text (replicate (count - length text) 0x20), length-replicate {A = ℕ} (count - length text) 0x20)
 
 -- the rows of an RSDP fit
-rsdp_fits : (oem_id : List ℕ) (xsdt : ℕ) → length oem_id ≡ 6 → xsdt < 2 ^ 32 → AllByRecursion IsRow (rsdp_rows oem_id (table_pointer xsdt))
+pub rsdp_fits : (oem_id : List ℕ) (xsdt : ℕ) → length oem_id ≡ 6 → xsdt < 2 ^ 32 → AllByRecursion IsRow (rsdp_rows oem_id (table_pointer xsdt))
 rsdp_fits oem_id xsdt six few = (
   refl,
   (tt, (six, ((omega arith, omega arith), ((omega arith, omega arith), ((omega arith, omega arith), ((inr (inr (inr refl)), omega arith), (tt, (tt, tt)))))))),

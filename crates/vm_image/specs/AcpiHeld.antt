@@ -1,22 +1,23 @@
 -- What is known of the files of a machine's ACPI tables, and of a view that holds them filled.
-use Rattle.std.specs.Prelude.{◌≡◌, ℕ, ◌+◌, ◌*◌, ◌<◌, ◌≤◌, List, [], ◌∷◌, length, map}
+use Rattle.std.specs.Prelude.{◌≡◌, ℕ, ◌+◌, ◌*◌, ◌<◌, ◌≤◌, List, [], ◌∷◌, length, map, Option, IfSome}
 use Rattle.vt_bytes.specs.View.{View}
 use Rattle.vt_layout.specs.Rows.{size}
 use Rattle.vt_layout.specs.Shown.{LayoutHeld}
+use Rattle.machine_desc.specs.declared.machine.Machine.{Machine}
 use Rattle.machine_desc.specs.declared.machine.Acpi.{Acpi}
 use Rattle.table_model.specs.declared.header.Head.{Head}
 use Rattle.table_model.specs.declared.acpi.Table.{Table}
 use Rattle.table_model.specs.Header.{padded, head_of}
 use Rattle.table_model.specs.Xsdt.{IsXsdt}
 use Rattle.table_model.specs.Rsdp.{rsdp_rows}
-use Rattle.table_model.specs.Acpi.{rows_of, linked_table}
+use Rattle.table_model.specs.Acpi.{rows_of, linked_table, tables_of}
 use Rattle.table_model.specs.Walked.{AreAt}
 use Rattle.blob_holes.specs.Blob.{BlobState, IsBlob}
 use Rattle.blob_holes.specs.Grown.{IsLinkable}
 use Rattle.blob_holes.specs.Held.{HoldsFilled, WhereHeld}
 use Rattle.image_files.specs.Files.{whole}
 use Rattle.acpi_fixed.specs.Tables.{tables_name, table_pointer}
-use Rattle.vm_image.specs.Image.{AcpiImage, with_tables, places_in, xsdt_place}
+use Rattle.vm_image.specs.Image.{AcpiImage, with_tables, places_in, xsdt_place, acpi_files}
 
 -- the most bytes that tables take, with zeros in front of each and its entry in the XSDT
 abbrev pub most_bytes : List Table → ℕ
@@ -56,3 +57,7 @@ pub record IsAcpiImage (acpi : Acpi) (tables : List Table) (files : AcpiImage) :
   pub rsdp_size : length files.rsdp.bytes ≡ 36
   pub rsdp_held : (view : View) (address : ℕ) (place_of : List ℕ → ℕ) → HoldsFilled view address files.rsdp place_of
       → LayoutHeld view place_of address (rsdp_rows (padded 6 acpi.oem_id) (table_pointer (xsdt_place tables)))
+
+-- all is known of the files of the ACPI tables, where there are some
+abbrev pub AreAcpiKnown : Machine → Option Acpi → Type 0
+AreAcpiKnown m maker = IfSome maker (λ acpi. IsAcpiImage acpi (tables_of m acpi) (acpi_files acpi (tables_of m acpi)))

@@ -1,17 +1,14 @@
 -- What the image of a machine promises of the memory that it is loaded into.
-use Rattle.std.specs.Prelude.{◌≡◌, ℕ, ◌+◌, ◌*◌, ◌<◌, ◌≤◌, ◌⊎◌, List, [], ◌∷◌, length, Option, IfSome}
+use Rattle.std.specs.Prelude.{◌≡◌, ℕ, ◌+◌, ◌*◌, ◌<◌, ◌≤◌, ◌⊎◌, List, [], ◌∷◌, length}
 use Rattle.vt_bytes.specs.Memory.{Memory, IsRam, at, seen}
 use Rattle.loader_script.specs.Run.{Placed, Done, place_of, run}
 use Rattle.loader_script.specs.Left.{IsOutside, Holds}
 use Rattle.machine_desc.specs.declared.machine.Machine.{Machine}
-use Rattle.machine_desc.specs.declared.machine.Acpi.{Acpi}
-use Rattle.table_model.specs.Acpi.{tables_of}
 use Rattle.table_model.specs.Inventory.{Shows, inventory_of}
-use Rattle.image_files.specs.Items.{files_of}
+use Rattle.cfg_directory.specs.Files.{files_of}
 use Rattle.image_files.specs.Places.{ArePlaces}
 use Rattle.image_files.specs.Linked.{AreLinked}
-use Rattle.vm_image.specs.Image.{acpi_files, image_files, image_script, image_items}
-use Rattle.vm_image.specs.AcpiHeld.{IsAcpiImage}
+use Rattle.vm_image.specs.Image.{image_files, image_script, image_items}
 
 -- the address past the last one of a machine's memory below 4 GiB
 abbrev pub top_of : Machine → ℕ
@@ -47,19 +44,15 @@ IsShownAnywhere m =
     → AreLinked (place_of placed) (image_files m) places placed → memory.top ≡ top_of m → HoldsFiles memory placed
     → Shows memory.top (seen memory) (inventory_of m)
 
--- Two memories have one top and one fill byte, and agree at each address of RAM that is in the BIOS area or in one of the files.
+-- Two memories have one top, and agree at each address of RAM that is in the BIOS area or in one of the files.
 pub record AgreeOnFiles (memory other : Memory) (placed : List Placed) : Type 0 where
   pub top : other.top ≡ memory.top
-  pub fill : other.fill ≡ memory.fill
   pub bytes : (address : ℕ) → IsRam memory.top address → IsBios address ⊎ IsInside placed address → at other address ≡ at memory address
 
--- A memory that agrees on the files with one that holds them shows exactly the machine's inventory too.
-abbrev pub IsShownAlike : Machine → Type 0
-IsShownAlike m =
+-- Wherever its files come to stand, a memory that holds them, and any other that agrees with it on them, show exactly the machine's
+-- inventory, whatever the fill byte of either is.
+abbrev pub AreShownAlike : Machine → Type 0
+AreShownAlike m =
     (places : List ℕ) (placed : List Placed) (memory other : Memory) → ArePlaces (top_of m) [] (image_files m) places
     → AreLinked (place_of placed) (image_files m) places placed → memory.top ≡ top_of m → HoldsFiles memory placed
-    → AgreeOnFiles memory other placed → Shows other.top (seen other) (inventory_of m)
-
--- all is known of the files of the ACPI tables, where there are some
-abbrev pub AreAcpiKnown : Machine → Option Acpi → Type 0
-AreAcpiKnown m maker = IfSome maker (λ acpi. IsAcpiImage acpi (tables_of m acpi) (acpi_files acpi (tables_of m acpi)))
+    → AgreeOnFiles memory other placed → Shows memory.top (seen memory) (inventory_of m) × Shows other.top (seen other) (inventory_of m)

@@ -8,8 +8,7 @@ ghost use Rattle.table_model.specs.Acpi.{IsWritable, tables_of};
 ghost use Rattle.acpi_fixed.specs.Tables.{with_xsdt};
 ghost use Rattle.image_files.specs.Files.{whole};
 ghost use Rattle.vm_image.specs.Image.{acpi_part, acpi_placed, acpi_files, with_tables, places_in, xsdt_place};
-ghost use Rattle.vm_image.specs.Promised.{AreAcpiKnown};
-ghost use Rattle.vm_image.specs.AcpiHeld.{IsAcpiImage, IsTablesFile, AreAppended, most_bytes};
+ghost use Rattle.vm_image.specs.AcpiHeld.{AreAcpiKnown, IsAcpiImage, IsTablesFile, AreAppended, most_bytes};
 
 use crate::names::{acpi_tables_name, rsdp_name};
 use crate::placed::placed_file;

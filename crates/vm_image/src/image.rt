@@ -1,4 +1,4 @@
-ghost use Rattle.std.specs.Prelude.{◌≡◌, ◌<◌, IfOk, IfErr};
+ghost use Rattle.std.specs.Prelude.{◌≡◌, ◌<◌, ◌≤◌, IfOk, IfErr, OnOk};
 ghost use Rattle.machine_desc.specs.Rules.{IsAccepted};
 ghost use Rattle.cfg_directory.specs.Items.{total_size};
 ghost use Rattle.image_files.specs.Items.{image_limit};
@@ -21,6 +21,9 @@ pub fn image_of(alloc: Global, machine: &Machine, order: u64) -> Result<Image, I
 
     // It is the machine's image, whose script runs, and whose memory shows the machine, wherever its files come to stand.
     ensures built { IfOk result (λ image. IsBuilt machine.now image.items image.script) }
+
+    // It is given only where its files are few bytes, and refused as too large only where they aren't.
+    ensures small { OnOk result (total_size (image_items machine.now) ≤ image_limit) }
     ensures large { IfErr result (λ fault. fault ≡ ImageTooLarge → image_limit < total_size (image_items machine.now)) }
 {
     let _ = order;

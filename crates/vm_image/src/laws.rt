@@ -5,31 +5,20 @@ ghost use Rattle.loader_script.specs.declared.entry.Entry.{Entry};
 ghost use Rattle.cfg_directory.specs.declared.item.Item.{Item};
 ghost use Rattle.machine_desc.specs.declared.machine.Machine.{Machine};
 ghost use Rattle.machine_desc.specs.Rules.{IsAccepted};
-ghost use Rattle.table_model.specs.MachineStructures.{structures_of};
-ghost use Rattle.table_model.specs.Smbios.{AreStructures};
-ghost use Rattle.image_files.specs.Linkable.{AreLinkable};
-ghost use Rattle.vm_image.specs.Image.{structures_file, image_files};
+ghost use Rattle.machine_desc.specs.Fields.{HasFittingFields};
+ghost use Rattle.vm_image.specs.Image.{image_items, image_script};
 ghost use Rattle.vm_image.specs.Built.{IsBuilt};
-ghost use Rattle.vm_image.specs.Promised.{AreAcpiKnown, IsShownAnywhere, IsShownAlike};
+ghost use Rattle.vm_image.specs.Promised.{AreShownAlike};
 
-/// Says that the files of an accepted machine can be placed and linked.
-pub fn machine_is_linkable()
-    ensures { (m : Machine) → IsAccepted m → AreAcpiKnown m m.acpi → AreLinkable (image_files m) }
+/// Says that exactly one image is that of an accepted machine whose numbers fit their fields.
+pub fn a_machine_has_one_image()
+    ensures built { (m : Machine) → IsAccepted m → HasFittingFields m → IsBuilt m (image_items m) (image_script m) }
+    ensures only { (m : Machine) (items : List Item) (script : List Entry) → IsBuilt m items script
+        → (items ≡ image_items m) × (script ≡ image_script m) }
 {}
 
-/// Says that at most one image is that of a machine.
-pub fn one_image_is_built()
-    ensures { (m : Machine) (items others : List Item) (script other : List Entry) → IsBuilt m items script → IsBuilt m others other
-        → (items ≡ others) × (script ≡ other) }
-{}
-
-/// Says that a memory that holds the machine's files shows the machine, wherever they come to stand, and whatever lies outside of them
-/// and of the BIOS area.
-pub fn machine_is_shown_anywhere()
-    ensures { (m : Machine) → IsAccepted m → AreStructures (structures_file m) (structures_of m) → AreAcpiKnown m m.acpi → IsShownAnywhere m }
-{}
-
-/// Says that a memory shows the machine too where it agrees on the files and the BIOS area with one that holds the files.
-pub fn equal_files_show_the_same()
-    ensures { (m : Machine) → IsAccepted m → AreStructures (structures_file m) (structures_of m) → AreAcpiKnown m m.acpi → IsShownAlike m }
+/// Says that two memories that agree on the BIOS area and on the files of a machine's image, wherever these come to stand, both show
+/// exactly the machine, where one of them holds the files: whatever the fill byte of the other is, and whatever lies elsewhere.
+pub fn memories_that_agree_show_the_same()
+    ensures { (m : Machine) (items : List Item) (script : List Entry) → IsBuilt m items script → AreShownAlike m }
 {}

@@ -1,7 +1,7 @@
 //! The image of a machine: its files of fw_cfg, with SMBIOS structures (DMTF DSP0134) and ACPI tables, and the script by which a
 //! firmware places and links them.
 //!
-//! The contract says which items and which commands they are, and that memory shows exactly the machine once the script has run,
+//! The contract says which items and which commands they are, of which there are exactly one for each machine, and that memory shows exactly the machine once the script has run,
 //! whatever lawful places the files were given, whatever byte filled memory, and whatever bytes lie outside of the files and of the
 //! BIOS area.
 #![tactic(auto)]

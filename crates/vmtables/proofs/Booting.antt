@@ -9,7 +9,7 @@ use Rattle.desc_toml.specs.Reading.{Reads}
 use Rattle.loader_script.specs.declared.entry.Entry.{Entry}
 use Rattle.loader_script.specs.Run.{Placed, Progress, End, Done, Command, NoRoom, place_of, run}
 use Rattle.cfg_directory.specs.declared.item.Item.{Item}
-use Rattle.image_files.specs.Items.{files_of}
+use Rattle.cfg_directory.specs.Files.{files_of}
 use Rattle.image_files.specs.Script.{allocation, linking}
 use Rattle.image_files.specs.Places.{ArePlaces}
 use Rattle.image_files.specs.Linked.{AreLinked}
@@ -17,24 +17,25 @@ use Rattle.vm_image.specs.Image.{image_files, image_script, image_items}
 use Rattle.vm_image.specs.Promised.{top_of, HoldsFiles}
 use Rattle.vm_image.specs.Built.{IsBuilt}
 use Rattle.zone_alloc.specs.declared.alloc.Request.{Request}
-use Rattle.zone_alloc.specs.declared.policy.Policy.{Policy}
-use Rattle.zone_alloc.specs.declared.zones.Zones.{Zones}
+use Rattle.zone_alloc.specs.Allocators.{Begun}
+use Rattle.vt_words.specs.declared.setting.Setting.{Setting}
 use Rattle.zone_alloc.specs.Places.{range_in}
 use Rattle.cfg_directory.specs.Items.{total_size}
 use Rattle.image_files.specs.Items.{image_limit}
-use Rattle.script_load.specs.Allocators.{AreZonesOf}
-use Rattle.script_load.specs.declared.fault.LoadFault.{LoadFault}
-use Rattle.script_load.specs.declared.fault.LoadFault.TheVariants as load
-use Rattle.script_load.specs.Runs.{Answers, EndsWith, IsRun, at_files, result_of}
-use Rattle.script_load.specs.Script.{script_in}
-use Rattle.script_load.proofs.PlainRuns.{starts}
-use Rattle.load_machine.specs.declared.event.Event.{Event}
-use Rattle.load_machine.specs.Loads.{HasRun, IsLoadedOver}
-use Rattle.load_machine.specs.Machine.{memory_of, files_now}
-use Rattle.load_machine.specs.Machine.{Machine as Loading}
-use Rattle.vmtables.specs.Boot.{IsBooted, BootMakes}
+use Rattle.command_acts.specs.Allocators.{AreZonesOf}
+use Rattle.command_acts.specs.declared.fault.LoadFault.{LoadFault}
+use Rattle.command_acts.specs.declared.fault.LoadFault.TheVariants as load
+use Rattle.command_acts.specs.Runs.{Answers, EndsWith, IsRun, at_files, result_of}
+use Rattle.command_acts.specs.Script.{script_in}
+use Rattle.command_acts.proofs.PlainRuns.{starts}
+use Rattle.cfg_dma.specs.Device.{DeviceState}
+use Rattle.load_states.specs.declared.event.Event.{Event}
+use Rattle.load_states.specs.Loads.{HasRun, IsLoadedOver}
+use Rattle.load_states.specs.LoadState.{memory_of, files_now}
+use Rattle.load_states.specs.LoadState.{LoadState as Loading}
+use Rattle.vmtables.specs.Boot.{IsBooted, BootMakes, without_room, without_memory}
 use Rattle.vmtables.specs.Calls.{Answering, Seen}
-use Rattle.vmtables.specs.Loading.{IsImageLoaded, IsRefusedFree, FailsToLoad}
+use Rattle.vmtables.specs.Loading.{IsImageLoaded, IsRefusedFree, FailsToLoad, ended_early, not_begun}
 use Rattle.vmtables.specs.declared.fault.Fault.{Fault}
 use Rattle.vmtables.specs.declared.fault.Fault.TheVariants as fault
 use Rattle.vmtables.proofs.ImageRuns.{Extends, GivesFree, all_link, extends}
@@ -93,22 +94,23 @@ lawful_so m items script built May handed end placed free ran room =
 
 -- places that are given are free
 abbrev pub AllFree : Answering → Type 0
-AllFree Gives = (zones : Zones) (policy : Policy) (handed : List Range) (request : Request) (place : ℕ) → Gives zones policy handed request (Some place)
-    → IsFree (range_in zones request.zone) handed request.size request.align place
+AllFree Gives = (begun : Begun) (handed : List Range) (request : Request) (place : ℕ) → Gives begun handed request (Some place)
+    → IsFree (range_in begun.zones request.zone) handed request.size request.align place
 
-gives_free : (Gives : Answering) (zones : Zones) (policy : Policy) (top : ℕ) → AllFree Gives → AreZonesOf top zones → GivesFree (Gives zones policy) top
-gives_free Gives zones policy top free are handed request place may =
-    subst (λ (zone : Range). IsFree zone handed request.size request.align place) (are request.zone) (free zones policy handed request place may)
+gives_free : (Gives : Answering) (begun : Begun) (top : ℕ) → AllFree Gives → AreZonesOf top begun.zones → GivesFree (Gives begun) top
+gives_free Gives begun top free are handed request place may =
+    subst (λ (zone : Range). IsFree zone handed request.size request.align place) (are request.zone) (free begun handed request place may)
 
 -- what a load of items leaves
-leaves_of : (Gives : Answering) (items : List Item) (top fill : ℕ) (policy : Policy) (seed : ℕ) (answer : Result (Unit {0}) LoadFault)
-    (before after : Seen) (loaded : IsImageLoaded Gives items top fill policy seed answer before after)
-    → IsLoadedOver (Gives after.place.zones after.place.policy) items top fill loaded.load.taken after.place.handed answer loaded.world
-leaves_of Gives items top fill policy seed answer before after loaded =
-    let May : Answers = Gives after.place.zones after.place.policy in
+leaves_of : (Gives : Answering) (items : List Item) (top : ℕ) (setting : Setting) (answer : Result (Unit {0}) LoadFault)
+    (before after : Seen) (loaded : IsImageLoaded Gives items top setting answer before after)
+    → IsLoadedOver (Gives after.place.begun) items top setting.fill loaded.load.taken after.place.handed answer loaded.world
+leaves_of Gives items top setting answer before after loaded =
+    let May : Answers = Gives after.place.begun in
     let m : Memory = memory_of loaded.begun in
-    subst (λ those. IsLoadedOver May those top fill loaded.load.taken after.place.handed answer loaded.world) loaded.was_begun.items
-    (subst (λ t. IsLoadedOver May loaded.begun.attached.device.items t fill loaded.load.taken after.place.handed answer loaded.world) loaded.was_begun.top
+    subst (λ those. IsLoadedOver May those top setting.fill loaded.load.taken after.place.handed answer loaded.world)
+    (ap (λ (d : DeviceState). d.items) loaded.was_begun.device)
+    (subst (λ t. IsLoadedOver May loaded.begun.attached.device.items t setting.fill loaded.load.taken after.place.handed answer loaded.world) loaded.was_begun.top
     (subst (λ f. IsLoadedOver May loaded.begun.attached.device.items m.top f loaded.load.taken after.place.handed answer loaded.world)
     loaded.was_begun.fill loaded.load.leaves))
 
@@ -140,26 +142,27 @@ has_room : (end : End) → end ≡ Done → (at : ℕ) → end ≡ NoRoom at →
 has_room end is at without = absurd (cc)
 
 -- the image's load is done: its machine is booted
-pub booted : (Gives : Answering) (fill : ℕ) (policy : Policy) (seed : ℕ) (bytes : List ℕ) (m : Machine) (items : List Item) (script : List Entry)
-    (before after : Seen) → AllFree Gives → Reads bytes m → IsBuilt m items script → script_in (image_items m) ≡ Ok (image_script m)
-    → IsImageLoaded Gives (image_items m) (top_of m) fill policy seed (Ok tt) before after → IsBooted Gives fill policy seed bytes before after
-booted Gives fill policy seed bytes m items script before after free read built script_read loaded =
-    let May : Answers = Gives after.place.zones after.place.policy in
+pub booted : (Gives : Answering) (setting : Setting) (bytes : List ℕ) (m : Machine) (items : List Item) (script : List Entry)
+    (before after : Seen) → AllFree Gives → Reads bytes m → IsBuilt m items script → total_size (image_items m) ≤ image_limit
+    → script_in (image_items m) ≡ Ok (image_script m)
+    → IsImageLoaded Gives (image_items m) (top_of m) setting (Ok tt) before after → IsBooted Gives setting bytes before after
+booted Gives setting bytes m items script before after free read built small script_read loaded =
+    let May : Answers = Gives after.place.begun in
     let world : Loading = loaded.world in
-    let leaves : IsLoadedOver May (image_items m) (top_of m) fill loaded.load.taken after.place.handed (Ok tt) world =
-    leaves_of Gives (image_items m) (top_of m) fill policy seed (Ok tt) before after loaded in
+    let leaves : IsLoadedOver May (image_items m) (top_of m) setting.fill loaded.load.taken after.place.handed (Ok tt) world =
+    leaves_of Gives (image_items m) (top_of m) setting (Ok tt) before after loaded in
     let run : HasRun May (image_items m) (image_script m) after.place.handed (Ok tt) world =
     run_of m May after.place.handed (Ok tt) world script_read leaves.ran in
     let done : run.0 ≡ Done = ended_done run.0 run.2 in
     let is : IsLawfulRun m (map (λ (r : Range). r.start) after.place.handed) run.0 (files_now world) =
     lawful_so m items script built May after.place.handed run.0 (files_now world)
-    (gives_free Gives after.place.zones after.place.policy (top_of m) free loaded.zones) run.1 (has_room run.0 done) in
+    (gives_free Gives after.place.begun (top_of m) free loaded.zones) run.1 (has_room run.0 done) in
     let holds : HoldsFiles (memory_of world) (files_now world) =
-    holds_files May (image_items m) (top_of m) fill loaded.load.taken after.place.handed (Ok tt) world leaves in
+    holds_files May (image_items m) (top_of m) setting.fill loaded.load.taken after.place.handed (Ok tt) world leaves in
     record {
       machine = m;
       read = read;
-      small = subst (λ those. total_size those ≤ image_limit) built.items_are built.small;
+      small = small;
       loaded = loaded;
       script = script_read;
       placed = files_now world;
@@ -191,57 +194,50 @@ room_of May top (Command index cause) why is lawful refused =
     absurd (cc)
 room_of May top (NoRoom index) why is lawful refused = room index (same_fault why (load.NoRoom index) is) (refused index refl)
 
-pub fails_for_room : (Gives : Answering) (fill : ℕ) (policy : Policy) (seed : ℕ) (m : Machine) (items : List Item) (script : List Entry) (why : LoadFault) (before after : Seen)
+pub fails_for_room : (Gives : Answering) (setting : Setting) (m : Machine) (items : List Item) (script : List Entry) (why : LoadFault) (before after : Seen)
     → AllFree Gives → IsBuilt m items script → script_in (image_items m) ≡ Ok (image_script m)
-    → IsImageLoaded Gives (image_items m) (top_of m) fill policy seed (Err why) before after
-    → EndsSo (Gives after.place.zones after.place.policy) (top_of m) why
-fails_for_room Gives fill policy seed m items script why before after free built script_read loaded =
-    let May : Answers = Gives after.place.zones after.place.policy in
+    → IsImageLoaded Gives (image_items m) (top_of m) setting (Err why) before after
+    → EndsSo (Gives after.place.begun) (top_of m) why
+fails_for_room Gives setting m items script why before after free built script_read loaded =
+    let May : Answers = Gives after.place.begun in
     let world : Loading = loaded.world in
-    let leaves : IsLoadedOver May (image_items m) (top_of m) fill loaded.load.taken after.place.handed (Err why) world =
-    leaves_of Gives (image_items m) (top_of m) fill policy seed (Err why) before after loaded in
+    let leaves : IsLoadedOver May (image_items m) (top_of m) setting.fill loaded.load.taken after.place.handed (Err why) world =
+    leaves_of Gives (image_items m) (top_of m) setting (Err why) before after loaded in
     let run : HasRun May (image_items m) (image_script m) after.place.handed (Err why) world =
     run_of m May after.place.handed (Err why) world script_read leaves.ran in
-    let frees : GivesFree May (top_of m) = gives_free Gives after.place.zones after.place.policy (top_of m) free loaded.zones in
+    let frees : GivesFree May (top_of m) = gives_free Gives after.place.begun (top_of m) free loaded.zones in
     room_of May (top_of m) run.0 why run.2
     (λ room. (lawful_so m items script built May after.place.handed run.0 (files_now world) frees run.1 room).done)
     (extended_of m items script built May run.0 (files_now world) frees run.1.answered).no_room
 
 -- what `boot` makes of a machine whose image failed to load
-pub boot_failed : (Gives : Answering) (fill : ℕ) (policy : Policy) (seed : ℕ) (bytes : List ℕ) (m : Machine) (items : List Item) (script : List Entry) (f : Fault) (before after : Seen)
+pub boot_failed : (Gives : Answering) (setting : Setting) (bytes : List ℕ) (m : Machine) (items : List Item) (script : List Entry) (f : Fault) (before after : Seen)
     → AllFree Gives → Reads bytes m → IsBuilt m items script → script_in (image_items m) ≡ Ok (image_script m)
-    → FailsToLoad Gives (image_items m) (top_of m) fill policy seed before after f → BootMakes Gives fill policy seed bytes before after (Err f)
-boot_failed Gives fill policy seed bytes m items script (fault.Load why) before after free read built decoded failed =
-    elim (fails_for_room Gives fill policy seed m items script why before after free built decoded failed) as
-    (λ _. BootMakes Gives fill policy seed bytes before after (Err (fault.Load why))) [
+    → FailsToLoad Gives (image_items m) (top_of m) setting before after f → BootMakes Gives setting bytes before after (Err f)
+boot_failed Gives setting bytes m items script f before after free read built decoded (ended_early {why = why} loaded) =
+    elim (fails_for_room Gives setting m items script why before after free built decoded loaded) as
+    (λ _. BootMakes Gives setting bytes before after (Err (fault.Load why))) [
       | room index is refusal ↦
-          subst (λ w. BootMakes Gives fill policy seed bytes before after (Err (fault.Load w))) (sym is)
-          (m, read, subst (λ w. IsImageLoaded Gives (image_items m) (top_of m) fill policy seed (Err w) before after) is failed, refusal)
+          subst (λ w. BootMakes Gives setting bytes before after (Err (fault.Load w))) (sym is)
+          (without_room m read (subst (λ w. IsImageLoaded Gives (image_items m) (top_of m) setting (Err w) before after) is loaded) refusal)
     ]
-boot_failed Gives fill policy seed bytes m items script fault.OutOfMemory before after free read built decoded failed = inr (m, read, failed)
-boot_failed Gives fill policy seed bytes m items script (fault.Description refused) before after free read built decoded failed = absurd failed
-boot_failed Gives fill policy seed bytes m items script (fault.Container refused) before after free read built decoded failed = absurd failed
-boot_failed Gives fill policy seed bytes m items script fault.ImageTooLarge before after free read built decoded failed = absurd failed
-boot_failed Gives fill policy seed bytes m items script fault.ReadFault before after free read built decoded failed = absurd failed
-boot_failed Gives fill policy seed bytes m items script fault.Usage before after free read built decoded failed = absurd failed
-boot_failed Gives fill policy seed bytes m items script fault.WriteFault before after free read built decoded failed = absurd failed
-boot_failed Gives fill policy seed bytes m items script fault.InputTooLong before after free read built decoded failed = absurd failed
+boot_failed Gives setting bytes m items script f before after free read built decoded (not_begun unloaded) = without_memory m read unloaded
 
 -- both of the answer of a load
-pub booted_so : (Gives : Answering) (fill : ℕ) (policy : Policy) (seed : ℕ) (m : Machine) (items : List Item) (script : List Entry) (before after : Seen)
-    (r : Result (Unit {0}) Fault) → AllFree Gives → IsBuilt m items script
-    → OnOk r (IsImageLoaded Gives items (top_of m) fill policy seed (Ok tt) before after)
-    → OnOk r ((bytes : List ℕ) → Reads bytes m → IsBooted Gives fill policy seed bytes before after)
-booted_so Gives fill policy seed m items script before after (Ok done) free built loaded = λ bytes read.
-    booted Gives fill policy seed bytes m items script before after free read built (script_read m items script built)
-    (subst (λ those. IsImageLoaded Gives those (top_of m) fill policy seed (Ok tt) before after) built.items_are loaded)
-booted_so Gives fill policy seed m items script before after (Err f) free built loaded = tt
+pub booted_so : (Gives : Answering) (setting : Setting) (m : Machine) (items : List Item) (script : List Entry) (before after : Seen)
+    (r : Result (Unit {0}) Fault) → AllFree Gives → IsBuilt m items script → total_size (image_items m) ≤ image_limit
+    → OnOk r (IsImageLoaded Gives items (top_of m) setting (Ok tt) before after)
+    → OnOk r ((bytes : List ℕ) → Reads bytes m → IsBooted Gives setting bytes before after)
+booted_so Gives setting m items script before after (Ok done) free built small loaded = λ bytes read.
+    booted Gives setting bytes m items script before after free read built small (script_read m items script built small)
+    (subst (λ those. IsImageLoaded Gives those (top_of m) setting (Ok tt) before after) built.items_are loaded)
+booted_so Gives setting m items script before after (Err f) free built small loaded = tt
 
-pub failed_to_boot : (Gives : Answering) (fill : ℕ) (policy : Policy) (seed : ℕ) (m : Machine) (items : List Item) (script : List Entry) (before after : Seen)
-    (r : Result (Unit {0}) Fault) → AllFree Gives → IsBuilt m items script
-    → IfErr r (FailsToLoad Gives items (top_of m) fill policy seed before after)
-    → IfErr r (λ f. (bytes : List ℕ) → Reads bytes m → BootMakes Gives fill policy seed bytes before after (Err f))
-failed_to_boot Gives fill policy seed m items script before after (Ok done) free built failed = tt
-failed_to_boot Gives fill policy seed m items script before after (Err f) free built failed = λ bytes read.
-    boot_failed Gives fill policy seed bytes m items script f before after free read built (script_read m items script built)
-    (subst (λ those. FailsToLoad Gives those (top_of m) fill policy seed before after f) built.items_are failed)
+pub failed_to_boot : (Gives : Answering) (setting : Setting) (m : Machine) (items : List Item) (script : List Entry) (before after : Seen)
+    (r : Result (Unit {0}) Fault) → AllFree Gives → IsBuilt m items script → total_size (image_items m) ≤ image_limit
+    → IfErr r (FailsToLoad Gives items (top_of m) setting before after)
+    → IfErr r (λ f. (bytes : List ℕ) → Reads bytes m → BootMakes Gives setting bytes before after (Err f))
+failed_to_boot Gives setting m items script before after (Ok done) free built small failed = tt
+failed_to_boot Gives setting m items script before after (Err f) free built small failed = λ bytes read.
+    boot_failed Gives setting bytes m items script f before after free read built (script_read m items script built small)
+    (subst (λ those. FailsToLoad Gives those (top_of m) setting before after f) built.items_are failed)

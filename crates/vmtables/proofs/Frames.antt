@@ -1,5 +1,5 @@
 -- The lines of frames, each of 256 rows, frame by frame.
-use Rattle.std.proofs.Common.{◌≡◌, ◌==◌, ℕ, zero, suc, ◌+◌, ◌*◌, ◌-◌, ◌/◌, ◌<◌, Bool, true, false, not, List, [], ◌++◌, Option, get_or, refl, ap, sym, subst, ◌∙◌, arith, add-zero}
+use Rattle.std.proofs.Common.{◌≡◌, ◌==◌, ℕ, zero, suc, ◌+◌, ◌*◌, ◌-◌, ◌/◌, ◌<◌, Bool, true, false, not, List, [], ◌++◌, get_or, refl, ap, sym, subst, ◌∙◌, arith, add-zero}
 use Rattle.std.proofs.lemmas.Bool.{and_parts, and_from, eq-eqb, not-false}
 use Rattle.std.proofs.lemmas.List.Folds.{list_all-append}
 use Rattle.std.specs.List.{flat_map, list_all, range_with_len}
@@ -8,9 +8,9 @@ use Rattle.vt_bytes.specs.Memory.{Memory, IsTop, IsRam, IsRamRange, at, bytes_at
 use Rattle.vt_bytes.proofs.Bytes.{bytes_at-parts}
 use Rattle.guest_memory.specs.Frames.{HoldsFill, frame_start}
 use Rattle.vmtables.specs.Dump.{range_text, rows_text}
-use Rattle.vmtables.specs.Output.{Took, TookFront}
+use Rattle.vt_outside.specs.Stream.{SinkSeen, Took, TookFront}
 use Rattle.vmtables.proofs.Rows.{line_at, line_at-filled, rows_text-split, rows_text-front}
-use Rattle.vmtables.proofs.Taken.{behind-nothing, took_then, front_then, front_more}
+use Rattle.vt_outside.proofs.Taken.{took_nothing, took_then, front_then, front_more}
 
 -- rows counted from a later one on
 lines_from : (m : Memory) (start n j d : ℕ)
@@ -75,17 +75,17 @@ frames_more m start k =
     ∙ ap (λ (a : ℕ). rows_text m start (256 * k) ++ rows_text m a 256) address
 
 -- the sink took the lines of one more frame
-pub frame_took : (before now after : Option (List ℕ)) (m : Memory) (start k : ℕ) → Took before now (rows_text m start (256 * k))
-    → Took now after (rows_text m (start + 4096 * k) 256) → Took before after (rows_text m start (256 * (k + 1)))
+pub frame_took : (before now after : SinkSeen) (m : Memory) (start k : ℕ) → Took (rows_text m start (256 * k)) before now
+    → Took (rows_text m (start + 4096 * k) 256) now after → Took (rows_text m start (256 * (k + 1))) before after
 frame_took before now after m start k so_far took =
-    subst (Took before after) (sym (frames_more m start k))
+    subst (λ t. Took t before after) (sym (frames_more m start k))
     (took_then before now after (rows_text m start (256 * k)) (rows_text m (start + 4096 * k) 256) so_far took)
 
 -- the frame had no lines
-pub frame_passed : (before now : Option (List ℕ)) (m : Memory) (start k : ℕ) → Took before now (rows_text m start (256 * k))
-    → rows_text m (start + 4096 * k) 256 ≡ [] → Took before now (rows_text m start (256 * (k + 1)))
+pub frame_passed : (before now : SinkSeen) (m : Memory) (start k : ℕ) → Took (rows_text m start (256 * k)) before now
+    → rows_text m (start + 4096 * k) 256 ≡ [] → Took (rows_text m start (256 * (k + 1))) before now
 frame_passed before now m start k so_far none =
-    frame_took before now now m start k so_far (subst (Took now now) (sym none) (behind-nothing now))
+    frame_took before now now m start k so_far (subst (λ t. Took t now now) (sym none) (took_nothing now))
 
 -- a frame whose bytes were compared with the fill byte, and are all it, has no lines
 pub frame_filled : (m : Memory) (address fill : ℕ) (frame : List ℕ) (filled : Bool) → frame ≡ bytes_at m address 4096 → fill ≡ m.fill
@@ -116,11 +116,11 @@ frame_untouched m top address frame same place ram holds =
     rows_text-filled m address 256 (all_fill m address 4096 fill)
 
 -- the sink took a front of the lines of one more frame, and so of all of them
-pub frame_failed : (before now after : Option (List ℕ)) (m : Memory) (start k count : ℕ) → k < count → Took before now (rows_text m start (256 * k))
-    → TookFront now after (rows_text m (start + 4096 * k) 256) → TookFront before after (rows_text m start (256 * count))
+pub frame_failed : (before now after : SinkSeen) (m : Memory) (start k count : ℕ) → k < count → Took (rows_text m start (256 * k)) before now
+    → TookFront (rows_text m (start + 4096 * k) 256) now after → TookFront (rows_text m start (256 * count)) before after
 frame_failed before now after m start k count below so_far took =
     let rest = rows_text-front m start (256 * (k + 1)) (256 * count) (omega arith) in
     let whole = rest.1 ∙ ap (λ (lines : List ℕ). lines ++ rest.0) (frames_more m start k) in
-    subst (TookFront before after) (sym whole)
+    subst (λ t. TookFront t before after) (sym whole)
     (front_more before after (rows_text m start (256 * k) ++ rows_text m (start + 4096 * k) 256) rest.0
     (front_then before now after (rows_text m start (256 * k)) (rows_text m (start + 4096 * k) 256) so_far took))

@@ -9,7 +9,8 @@ use Rattle.vt_outside.specs.Placement.{Range, IsFree}
 use Rattle.vt_bytes.proofs.Each.{each_append, each_map}
 use Rattle.loader_script.specs.declared.entry.Entry.{Entry}
 use Rattle.loader_script.specs.declared.entry.Entry.TheVariants.{Allocate, AddPointer, AddChecksum}
-use Rattle.loader_script.specs.Run.{File, Placed, Progress, End, Done, Command, NoRoom, bytes_of, cause_of, carried_out}
+use Rattle.vt_outside.specs.File.{File}
+use Rattle.loader_script.specs.Run.{Placed, Progress, End, Done, Command, NoRoom, bytes_of, cause_of, carried_out}
 use Rattle.loader_script.specs.Left.{range_of}
 use Rattle.image_files.specs.declared.file.Placing.{Placing}
 use Rattle.zone_alloc.specs.declared.alloc.Request.{Request}
@@ -21,8 +22,8 @@ use Rattle.image_files.specs.Script.{allocation, add_pointer, add_pointers, add_
 use Rattle.image_files.specs.Places.{range_at, MayStand, ArePlaces}
 use Rattle.image_files.specs.Linked.{BeginsWith}
 use Rattle.image_files.proofs.InTurn.{each_flat_map}
-use Rattle.script_load.specs.Runs.{Answers, EndsWith, done, refused, without_room, allocated, carried, placed_at, request_of}
-use Rattle.script_load.proofs.PlainRuns.{places_of_placed, carried_any}
+use Rattle.command_acts.specs.Runs.{Answers, EndsWith, done, refused, without_room, allocated, carried, placed_at, request_of}
+use Rattle.command_acts.proofs.PlainRuns.{places_of_placed, carried_any}
 use Rattle.vmtables.specs.Loading.{IsRefusedFree}
 use Rattle.vmtables.proofs.PlacesMore.{AfterPlacing, RoomFrom, RoomBy, known, some_places}
 

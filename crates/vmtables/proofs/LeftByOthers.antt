@@ -6,12 +6,12 @@ use Rattle.std.proofs.lemmas.Bool.Decides.{nat_tests}
 use Rattle.vt_bytes.specs.Memory.{Memory, bytes_at}
 use Rattle.vt_bytes.proofs.Bytes.{length-bytes_at}
 use Rattle.loader_script.specs.Left.{IsOutside, Holds}
-use Rattle.script_load.specs.declared.placed.PlacedFile.{PlacedFile}
-use Rattle.script_load.specs.FilesInMemory.{IsBeside, files_in}
-use Rattle.load_machine.specs.declared.event.Event.{Event}
-use Rattle.load_machine.specs.declared.event.Event.TheVariants.{Device, Firmware, Other}
-use Rattle.load_machine.specs.Guarded.{is_guarded, is_work}
-use Rattle.load_machine.specs.Runs.{left_by_others}
+use Rattle.command_acts.specs.declared.placed.PlacedFile.{PlacedFile}
+use Rattle.command_acts.specs.FilesInMemory.{IsBeside, files_in}
+use Rattle.load_states.specs.declared.event.Event.{Event}
+use Rattle.load_states.specs.declared.event.Event.TheVariants.{Device, Firmware, Other}
+use Rattle.load_states.specs.Guarded.{is_guarded, is_work}
+use Rattle.load_states.specs.Runs.{left_by_others}
 
 -- a write that isn't taken where the place is guarded
 untaken : (same guarded : Bool) (byte held : ℕ) → guarded ≡ true → (if same && not guarded then byte else held) ≡ held

@@ -1,4 +1,3 @@
-pub mod Taken
 pub mod Rows
 pub mod Frames
 pub mod DumpLines
@@ -11,5 +10,6 @@ pub mod ImageRuns
 pub mod ScriptRead
 pub mod LeftByOthers
 pub mod Booting
-pub mod ShelfRoom
-pub mod NoneRefused
+pub mod QuietFaults
+pub mod BootEnds
+pub mod Completed

@@ -1,61 +1,67 @@
--- Inputs of which nothing is made.
-use Rattle.std.proofs.Common.{◌≡◌, ℕ, List, Result, Ok, Err, IfErr, inl, refl}
+-- Why no image is made of bytes, and why they aren't read as a container: the faults that these may be.
+use Rattle.std.proofs.Common.{◌≡◌, List, ℕ, Result, Ok, Err, IfErr, refl}
 use Rattle.std.specs.Result.{IsErrAnd}
 use Rattle.desc_toml.specs.declared.fault.DescFault.{DescFault}
-use Rattle.desc_toml.specs.declared.fault.DescFault.TheVariants as description
-use Rattle.desc_toml.specs.Reading.{read_of, Fails}
-use Rattle.zone_alloc.specs.declared.policy.Policy.{Policy}
-use Rattle.vmtables.specs.Boot.{BootMakes}
-use Rattle.vmtables.specs.Build.{BuildMakes, CannotBeBuilt}
+use Rattle.machine_desc.specs.declared.machine.Machine.{Machine}
+use Rattle.desc_toml.specs.Reading.{Reads, read_of}
+use Rattle.cfg_directory.specs.declared.container.ImageFault.{ImageFault}
+use Rattle.cfg_directory.specs.Container.{read_so}
+use Rattle.vt_words.specs.declared.setting.Setting.{Setting}
+use Rattle.vmtables.specs.Boot.{BootMakes, without_image}
+use Rattle.vmtables.specs.Build.{CannotBeBuilt}
 use Rattle.vmtables.specs.Calls.{Answering, Seen}
-use Rattle.vmtables.specs.Causes.{IsOfDescription}
-use Rattle.vmtables.specs.Load.{LoadMakes, CannotBeRead}
+use Rattle.vmtables.specs.Described.{IsTooLarge}
+use Rattle.vmtables.specs.Load.{CannotBeRead, LoadMakes, not_read}
 use Rattle.vmtables.specs.declared.fault.Fault.{Fault}
 use Rattle.vmtables.specs.declared.fault.Fault.TheVariants as fault
 
--- what `build` refuses leaves all as it was
-pub build_refused : (bytes : List ℕ) (f : Fault) (seen : Seen) → CannotBeBuilt bytes f → BuildMakes bytes seen seen (Err f)
-build_refused bytes (fault.Description refused) seen is = (is, refl)
-build_refused bytes fault.ImageTooLarge seen is = (is, refl)
-build_refused bytes fault.OutOfMemory seen is = refl
-build_refused bytes fault.ReadFault seen is = absurd is
-build_refused bytes fault.Usage seen is = absurd is
-build_refused bytes (fault.Container refused) seen is = absurd is
-build_refused bytes (fault.Load why) seen is = absurd is
-build_refused bytes fault.WriteFault seen is = absurd is
-build_refused bytes fault.InputTooLong seen is = absurd is
+-- a fault for which no image is made
+pub data IsUnbuilt (bytes : List ℕ) : Fault → Type 0 where
+  undescribed : {why : DescFault} → read_of bytes ≡ Err why → IsUnbuilt bytes (fault.Description why)
+  too_large : IsTooLarge bytes → IsUnbuilt bytes fault.ImageTooLarge
+  no_memory : IsUnbuilt bytes fault.OutOfMemory
 
--- and so does a container that isn't read
-pub load_refused : (Gives : Answering) (load_fill top_mib : ℕ) (policy : Policy) (seed : ℕ) (bytes : List ℕ) (f : Fault) (seen : Seen) → CannotBeRead bytes f
-    → LoadMakes Gives load_fill top_mib policy seed bytes seen seen (Err f)
-load_refused Gives load_fill top_mib policy seed bytes (fault.Container refused) seen is = (is, refl)
-load_refused Gives load_fill top_mib policy seed bytes fault.OutOfMemory seen is = inl refl
-load_refused Gives load_fill top_mib policy seed bytes (fault.Description refused) seen is = absurd is
-load_refused Gives load_fill top_mib policy seed bytes fault.ImageTooLarge seen is = absurd is
-load_refused Gives load_fill top_mib policy seed bytes fault.ReadFault seen is = absurd is
-load_refused Gives load_fill top_mib policy seed bytes fault.Usage seen is = absurd is
-load_refused Gives load_fill top_mib policy seed bytes (fault.Load why) seen is = absurd is
-load_refused Gives load_fill top_mib policy seed bytes fault.WriteFault seen is = absurd is
-load_refused Gives load_fill top_mib policy seed bytes fault.InputTooLong seen is = absurd is
+pub why_unbuilt : (bytes : List ℕ) (f : Fault) → CannotBeBuilt bytes f → IsUnbuilt bytes f
+why_unbuilt bytes (fault.Description why) is = undescribed is
+why_unbuilt bytes fault.ImageTooLarge is = too_large is
+why_unbuilt bytes fault.OutOfMemory is = no_memory
+why_unbuilt bytes fault.ReadFault is = absurd is
+why_unbuilt bytes fault.Usage is = absurd is
+why_unbuilt bytes (fault.Container why) is = absurd is
+why_unbuilt bytes (fault.Load why) is = absurd is
+why_unbuilt bytes fault.WriteFault is = absurd is
+why_unbuilt bytes fault.InputTooLong is = absurd is
 
-pub load_refused_so : (Gives : Answering) (load_fill top_mib : ℕ) (policy : Policy) (seed : ℕ) (bytes : List ℕ) (f : Fault) (seen : Seen) (r : Result (Unit {0}) Fault)
-    → CannotBeRead bytes f → IsErrAnd r (λ ended. ended ≡ f) → IfErr r (λ ended. LoadMakes Gives load_fill top_mib policy seed bytes seen seen (Err ended))
-load_refused_so Gives load_fill top_mib policy seed bytes f seen (Ok done) failed is = absurd is
-load_refused_so Gives load_fill top_mib policy seed bytes f seen (Err ended) failed is =
-    rw is (load_refused Gives load_fill top_mib policy seed bytes f seen failed)
+-- a fault for which a container isn't read
+pub data IsUnread (bytes : List ℕ) : Fault → Type 0 where
+  not_container : {why : ImageFault} → read_so bytes ≡ Err why → IsUnread bytes (fault.Container why)
+  no_room : IsUnread bytes fault.OutOfMemory
 
--- a description for which the reader gave a fault
-makes_none : (Gives : Answering) (boot_fill : ℕ) (policy : Policy) (seed : ℕ) (bytes : List ℕ) (seen : Seen) (why : DescFault) (ended : Fault) → Fails why (read_of bytes)
-    → IsOfDescription why ended → BootMakes Gives boot_fill policy seed bytes seen seen (Err ended)
-makes_none Gives boot_fill policy seed bytes seen description.OutOfMemory ended failed is = rw is (inl refl)
-makes_none Gives boot_fill policy seed bytes seen description.NotToml ended failed is = rw is (failed, refl)
-makes_none Gives boot_fill policy seed bytes seen (description.UnknownKey table index key) ended failed is = rw is (failed, refl)
-makes_none Gives boot_fill policy seed bytes seen (description.MissingKey table index key) ended failed is = rw is (failed, refl)
-makes_none Gives boot_fill policy seed bytes seen (description.WrongKind table index key) ended failed is = rw is (failed, refl)
-makes_none Gives boot_fill policy seed bytes seen (description.OutOfRange table index key) ended failed is = rw is (failed, refl)
-makes_none Gives boot_fill policy seed bytes seen (description.Broken rule index) ended failed is = rw is (failed, refl)
+pub why_unread : (bytes : List ℕ) (f : Fault) → CannotBeRead bytes f → IsUnread bytes f
+why_unread bytes (fault.Container why) is = not_container is
+why_unread bytes fault.OutOfMemory is = no_room
+why_unread bytes (fault.Description why) is = absurd is
+why_unread bytes fault.ImageTooLarge is = absurd is
+why_unread bytes fault.ReadFault is = absurd is
+why_unread bytes fault.Usage is = absurd is
+why_unread bytes (fault.Load why) is = absurd is
+why_unread bytes fault.WriteFault is = absurd is
+why_unread bytes fault.InputTooLong is = absurd is
 
-pub description_failed : (Gives : Answering) (boot_fill : ℕ) (policy : Policy) (seed : ℕ) (bytes : List ℕ) (seen : Seen) (why : DescFault) (r : Result (Unit {0}) Fault)
-    → Fails why (read_of bytes) → IsErrAnd r (IsOfDescription why) → IfErr r (λ ended. BootMakes Gives boot_fill policy seed bytes seen seen (Err ended))
-description_failed Gives boot_fill policy seed bytes seen why (Ok done) failed is = absurd is
-description_failed Gives boot_fill policy seed bytes seen why (Err ended) failed is = makes_none Gives boot_fill policy seed bytes seen why ended failed is
+-- a boot of which no image was made leaves all as it was
+pub unbuilt_so : (Gives : Answering) (setting : Setting) (bytes : List ℕ) (seen : Seen) (f : Fault) (r : Result (Unit {0}) Fault)
+    → CannotBeBuilt bytes f → IsErrAnd r (λ ended. ended ≡ f) → IfErr r (λ ended. BootMakes Gives setting bytes seen seen (Err ended))
+unbuilt_so Gives setting bytes seen f (Ok done) cannot is = absurd is
+unbuilt_so Gives setting bytes seen f (Err ended) cannot is = rw is (without_image cannot refl)
+
+pub unbuilt_each : (Gives : Answering) (setting : Setting) (m : Machine) (seen : Seen) (f : Fault) (r : Result (Unit {0}) Fault)
+    → ((bytes : List ℕ) → Reads bytes m → CannotBeBuilt bytes f) → IsErrAnd r (λ ended. ended ≡ f)
+    → IfErr r (λ ended. (bytes : List ℕ) → Reads bytes m → BootMakes Gives setting bytes seen seen (Err ended))
+unbuilt_each Gives setting m seen f (Ok done) cannot is = absurd is
+unbuilt_each Gives setting m seen f (Err ended) cannot is = λ bytes read. rw is (without_image (cannot bytes read) refl)
+
+-- and so does a load of a container that isn't read
+pub unread_so : (Gives : Answering) (top_mib : ℕ) (setting : Setting) (bytes : List ℕ) (seen : Seen) (f : Fault) (r : Result (Unit {0}) Fault)
+    → CannotBeRead bytes f → IsErrAnd r (λ ended. ended ≡ f) → IfErr r (λ ended. LoadMakes Gives top_mib setting bytes seen seen (Err ended))
+unread_so Gives top_mib setting bytes seen f (Ok done) cannot is = absurd is
+unread_so Gives top_mib setting bytes seen f (Err ended) cannot is = rw is (not_read cannot refl)

@@ -1,5 +1,5 @@
 -- The lines of rows, row by row.
-use Rattle.std.proofs.Common.{◌≡◌, ◌==◌, ℕ, zero, suc, ◌+◌, ◌*◌, ◌-◌, ◌<◌, ◌≤◌, Bool, true, false, List, [], ◌∷◌, ◌++◌, Option, length, take, drop, refl, ap, sym, ◌∙◌, arith}
+use Rattle.std.proofs.Common.{◌≡◌, ◌==◌, ℕ, zero, suc, ◌+◌, ◌*◌, ◌-◌, ◌<◌, ◌≤◌, Bool, true, false, List, [], ◌∷◌, ◌++◌, length, take, drop, refl, ap, sym, ◌∙◌, arith}
 use Rattle.std.proofs.lemmas.Grind.{flat_map-append}
 use Rattle.std.proofs.lemmas.List.{append-nil}
 use Rattle.std.proofs.lemmas.Slice.{take-put_mid}
@@ -8,8 +8,8 @@ use Rattle.std.specs.List.{flat_map, list_all, range_with_len}
 use Rattle.vt_bytes.specs.Memory.{Memory, bytes_at}
 use Rattle.vt_bytes.proofs.Bytes.{part-bytes_at}
 use Rattle.vmtables.specs.Dump.{row_line, row_text, rows_text}
-use Rattle.vmtables.specs.Output.{Took}
-use Rattle.vmtables.proofs.Taken.{behind-nothing}
+use Rattle.vt_outside.specs.Stream.{SinkSeen, Took}
+use Rattle.vt_outside.proofs.Taken.{took_nothing}
 
 -- a range of numbers in two parts
 range_with_len-split : (a n d : ℕ) → range_with_len a (n + d) ≡ range_with_len a n ++ range_with_len (a + n) d
@@ -88,6 +88,6 @@ text_more m start k len text line long room before is_line =
     ∙ ap (λ (bytes : List ℕ). rows_text m start k ++ bytes) (sym is_line) ∙ sym (rows_text-more m start k)
 
 -- the sink took the lines of no rows
-pub rows_none : (before : Option (List ℕ)) (m : Memory) (start : ℕ) → Took before before (rows_text m start 0)
+pub rows_none : (before : SinkSeen) (m : Memory) (start : ℕ) → Took (rows_text m start 0) before before
 unfolding rows_text
-rows_none before m start = behind-nothing before
+rows_none before m start = took_nothing before

@@ -11,20 +11,21 @@ use Rattle.vt_bytes.proofs.Each.{each_append, each_map}
 use Rattle.cfg_directory.specs.declared.item.Item.{Item}
 use Rattle.cfg_directory.specs.Items.{total_size, named}
 use Rattle.image_files.specs.Files.{ImageFile, by_name}
-use Rattle.image_files.specs.Items.{loader_name, image_limit}
+use Rattle.loader_script.specs.LoaderName.{loader_name}
+use Rattle.image_files.specs.Items.{image_limit}
 use Rattle.image_files.specs.Script.{allocation, add_pointer, add_pointers, add_checksum, add_checksums, linking, script_of}
 use Rattle.image_files.specs.declared.file.Placing.{Placing}
 use Rattle.image_files.proofs.InTurn.{each_flat_map}
 use Rattle.loader_script.specs.declared.entry.Entry.{Entry}
-use Rattle.loader_script.specs.Run.{File}
+use Rattle.vt_outside.specs.File.{File}
 use Rattle.loader_script.specs.Spelling.{Fits, IsReadAgain, entries_of, entry_bytes, is_script_length}
 use Rattle.loader_script.proofs.Named.{find-map}
 use Rattle.loader_script.proofs.Scripts.{length-script, script-again}
 use Rattle.machine_desc.specs.declared.machine.Machine.{Machine}
 use Rattle.vm_image.specs.Image.{image_files, image_script, image_items}
 use Rattle.vm_image.specs.Built.{IsBuilt}
-use Rattle.script_load.specs.Script.{script_in, script_from}
-use Rattle.script_load.specs.Script.{script_of as script_read_of}
+use Rattle.command_acts.specs.Script.{script_in, script_from}
+use Rattle.command_acts.specs.Script.{script_of as script_read_of}
 use Rattle.firmware_load.proofs.RoomOfLoads.{named_small}
 
 -- the commands that place and link files are read again
@@ -71,12 +72,11 @@ spelled_read script bytes is fits again few =
     ∙ ap Ok (ap₂ entries_of count is ∙ script-again script fits again)
 
 pub script_read : (m : Machine) (items : List Item) (script : List Entry) → IsBuilt m items script
-    → script_in (image_items m) ≡ Ok (image_script m)
-script_read m items script built =
+    → total_size (image_items m) ≤ image_limit → script_in (image_items m) ≡ Ok (image_script m)
+script_read m items script built few =
     let spelled = rw built.items_are at built.spelled in
     let found = item_found (named (image_items m) loader_name) _ (sym (find-map (λ (item : Item). record { name = item.name; bytes = item.bytes; writable = item.writable })
     (λ (file : File). bytes_eq file.name loader_name) (image_items m)) ∙ spelled) in
-    let few : total_size (image_items m) ≤ image_limit = subst (λ those. total_size those ≤ image_limit) built.items_are built.small in
     let again : AllByRecursion IsReadAgain script = subst (AllByRecursion IsReadAgain) (sym built.script_is) (script_again (image_files m)) in
     ap script_from found.1
     ∙ spelled_read script found.0.bytes found.2 built.fits again (omega (arith, named_small (image_items m) loader_name found.0 found.1, few))

@@ -19,18 +19,14 @@ pub record IsImage (bytes text : List ℕ) : Type 0 where
   pub text_is : text ≡ container_of (image_items machine)
   pub contained : IsContainer text (image_items machine)
 
--- no container is built of the bytes, for this fault
+-- why no image is made of the bytes: they describe no machine, or one whose files have too many bytes, or memory ran out
 abbrev pub CannotBeBuilt : List ℕ → Fault → Type 0
 CannotBeBuilt bytes (fault.Description refused) = read_of bytes ≡ Err refused
 CannotBeBuilt bytes fault.ImageTooLarge = IsTooLarge bytes
 CannotBeBuilt bytes fault.OutOfMemory = Unit {0}
 CannotBeBuilt bytes _ = ⊥
 
--- What `build` makes of the bytes of its input. It refuses bytes that describe no machine, and a machine whose files have too many bytes.
--- The world, the allocator and the plan stay as they were.
-abbrev pub BuildMakes : List ℕ → Seen → Seen → Made → Type 0
-BuildMakes bytes before after (Ok text) = IsImage bytes text × (after ≡ before)
-BuildMakes bytes before after (Err (fault.Description refused)) = (read_of bytes ≡ Err refused) × (after ≡ before)
-BuildMakes bytes before after (Err fault.ImageTooLarge) = IsTooLarge bytes × (after ≡ before)
-BuildMakes bytes before after (Err fault.OutOfMemory) = after ≡ before
-BuildMakes bytes before after (Err _) = ⊥
+-- What `build` makes of the bytes of its input. The world, the allocator and the plan stay as they were.
+pub data BuildMakes (bytes : List ℕ) (before after : Seen) : Made → Type 0 where
+  built : {text : List ℕ} → IsImage bytes text → after ≡ before → BuildMakes bytes before after (Ok text)
+  not_built : {why : Fault} → CannotBeBuilt bytes why → after ≡ before → BuildMakes bytes before after (Err why)

@@ -1,83 +1,56 @@
 -- How a call ends, whatever its command is.
-use Rattle.std.specs.Prelude.{◌≡◌, ◌≢◌, ◌<◌, ◌↔◌, ◌⊎◌, ℕ, Bool, List, [], Option, IfSome, Result, Ok, Err, IfErr}
-use Rattle.vt_outside.specs.Stream.{Rose, in_front}
+use Rattle.std.specs.Prelude.{◌≡◌, ◌≢◌, ◌<◌, ◌↔◌, ◌⊎◌, ℕ, true, List, [], Option, IfSome, Result, Ok, Err, IfErr}
+use Rattle.vt_outside.specs.Stream.{SourceSeen, SinkSeen, Rose, in_front, behind, Took, TookFront, IsFlushed}
 use Rattle.vmtables.specs.Outcome.{status_of, line_of, input_limit, given_count}
-use Rattle.vmtables.specs.Output.{Took, TookFront, AllFlushed}
-use Rattle.vt_outside.specs.Placement.{Range}
-use Rattle.zone_alloc.specs.declared.alloc.Request.{Request}
-use Rattle.zone_alloc.specs.declared.policy.Policy.{Policy}
-use Rattle.zone_alloc.specs.declared.zones.Zones.{Zones}
-use Rattle.script_load.specs.Runs.{Answers}
-use Rattle.load_machine.specs.declared.event.Event.{Event}
-use Rattle.load_machine.specs.Machine.{Machine}
+use Rattle.zone_alloc.specs.Allocators.{AllocState, Begun}
+use Rattle.command_acts.specs.Runs.{Answers}
+use Rattle.firmware_load.specs.Schedules.{Plan}
+use Rattle.load_states.specs.LoadState.{LoadState}
+use Rattle.vmtables.specs.Causes.{input_fault}
+use Rattle.vmtables.specs.declared.input.InputFault.{InputFault}
+use Rattle.vmtables.specs.declared.input.InputFault.TheVariants as input
 use Rattle.vmtables.specs.declared.fault.Fault.{Fault}
 use Rattle.vmtables.specs.declared.fault.Fault.TheVariants as fault
 use Rattle.vmtables.specs.declared.status.Status.{Status}
 use Rattle.vmtables.specs.declared.status.Status.TheVariants as status
 
--- what is seen of a source: the bytes left, where it tells them, and the count of faults
-pub record SourceSeen : Type 0 where
-  pub left : Option (List ℕ)
-  pub faults : ℕ
-
--- what is seen of a sink: the bytes taken, where it tells them, how many are flushed, and the count of faults
-pub record SinkSeen : Type 0 where
-  pub taken : Option (List ℕ)
-  pub flushed : ℕ
-  pub faults : ℕ
-
--- what is seen of an allocator: the ranges that it has handed out, its zones and its policy, how many requests it refused, the last
--- request if it was refused, and whether its last begin had memory
-pub record PlaceSeen : Type 0 where
-  pub handed : List Range
-  pub zones : Zones
-  pub policy : Policy
-  pub refusals : ℕ
-  pub refused : Option Request
-  pub begun : Bool
-
--- what is seen of a plan: the events that it has for each seed, and those that are left
-pub record PlanSeen : Type 0 where
-  pub events : ℕ → List Event
-  pub left : List Event
-
--- the world of a call, its allocator, and its plan
+-- what is seen of a call's world, its allocator and its plan
 pub record Seen : Type 0 where
-  pub world : Option Machine
-  pub place : PlaceSeen
-  pub plan : PlanSeen
+  pub world : Option LoadState
+  pub place : AllocState
+  pub plan : Plan
 
--- the same by what an allocator and a plan show
-abbrev pub seen_by : {A C : Type 0} → (A → List Range) → (A → Zones) → (A → Policy) → (A → ℕ) → (A → Option Request) → (A → Bool)
-    → (C → ℕ → List Event) → (C → List Event) → Option Machine → A → C → Seen
-seen_by handed zones policy refusals refused begun events left world a c = record {
-  world = world;
-  place = record {
-    handed = handed a;
-    zones = zones a;
-    policy = policy a;
-    refusals = refusals a;
-    refused = refused a;
-    begun = begun a;
-  };
-  plan = record { events = events c; left = left c };
-}
+-- the same by the states that an allocator and a plan tell
+abbrev pub seen_by : {A C : Type 0} → (A → AllocState) → (C → Plan) → Option LoadState → A → C → Seen
+seen_by state_of plan_of world a c = record { world = world; place = state_of a; plan = plan_of c }
 
--- how an allocator of these zones and this policy may answer
+-- how an allocator may answer that was begun so
 abbrev pub Answering : Type 1
-Answering = Zones → Policy → Answers
+Answering = Begun → Answers
 
--- What was read of a source: nothing, a part, or all of it, which is these bytes.
+-- What was read of a source: nothing; a part, where the reading was cut off for a fault; or all of it, which is these bytes.
 pub data Input : Type 0 where
   Unread : Input
-  Cut : Input
+  Cut : InputFault → Input
   Whole : List ℕ → Input
 
--- So much of a source was read, by what it had left before and after.
-abbrev pub WasRead : Input → Option (List ℕ) → Option (List ℕ) → Type 0
-WasRead Unread left left_after = left_after ≡ left
-WasRead Cut left left_after = Unit {0}
-WasRead (Whole bytes) left left_after = (left ≡ in_front bytes left_after) × IfSome left_after (λ rest. rest ≡ [])
+-- All of a source was read, which is these bytes: it has ended, and nothing is left.
+pub record WasEnded (bytes : List ℕ) (source source_after : SourceSeen) : Type 0 where
+  pub given : source.left ≡ in_front bytes source_after.left
+  pub none_left : IfSome source_after.left (λ rest. rest ≡ [])
+  pub ended : source_after.ended ≡ true
+
+-- The reading of a source was cut off for this fault: a read failed and was counted, or the source gave more bytes than an input may have.
+abbrev pub WasCut : InputFault → SourceSeen → SourceSeen → Type 0
+WasCut input.Failed source source_after = Rose source.faults source_after.faults
+WasCut input.TooLong source source_after = IfSome source.left (λ _. input_limit < given_count source.left source_after.left)
+WasCut input.OutOfMemory source source_after = Unit {0}
+
+-- So much of a source was read, by what is seen of it before and after.
+abbrev pub WasRead : Input → SourceSeen → SourceSeen → Type 0
+WasRead Unread source source_after = source_after ≡ source
+WasRead (Cut why) source source_after = WasCut why source source_after
+WasRead (Whole bytes) source source_after = WasEnded bytes source source_after
 
 -- What a command makes: the text that is to be written, or the fault for which it makes none.
 abbrev pub Made : Type 0
@@ -87,41 +60,44 @@ Made = Result (List ℕ) Fault
 abbrev pub Doing : Type 1
 Doing = Seen → Seen → Input → Made → Type 0
 
--- What a command does that reads its whole input, by what it makes of the input's bytes. Where the input is cut off, the
--- world, the allocator and the plan stay as they were.
+-- What a command does that reads its whole input, by what it makes of the input's bytes. Where the reading is cut off, its fault is that of
+-- the reading, and the world, the allocator and the plan stay as they were.
 abbrev pub ReadsAll : (List ℕ → Seen → Seen → Made → Type 0) → Doing
 ReadsAll Makes before after (Whole bytes) made = Makes bytes before after made
-ReadsAll Makes before after Cut (Err fault.ReadFault) = after ≡ before
-ReadsAll Makes before after Cut (Err fault.InputTooLong) = after ≡ before
-ReadsAll Makes before after Cut (Err fault.OutOfMemory) = after ≡ before
-ReadsAll Makes before after _ _ = ⊥
+ReadsAll Makes before after (Cut why) made = (made ≡ Err (input_fault why)) × (after ≡ before)
+ReadsAll Makes before after Unread made = ⊥
+
+-- A sink took a text, whole, and all that it took is flushed.
+pub record TookWhole (text : List ℕ) (out out_after : SinkSeen) : Type 0 where
+  pub took : out_after ≡ record out { taken = behind out.taken text; flushed = out_after.flushed }
+  pub flushed : IsFlushed out_after
 
 -- What a call did that ended so: out took the text that was made, or with a write fault a part of it from its front, or, where none
 -- was made, nothing.
-abbrev pub Wrote : Made → Result (Unit {0}) Fault → Option (List ℕ) → Option (List ℕ) → Type 0
-Wrote (Ok text) (Ok done) taken taken_after = Took taken taken_after text
-Wrote (Ok text) (Err ended) taken taken_after = (ended ≡ fault.WriteFault) × TookFront taken taken_after text
-Wrote (Err fault) (Ok done) taken taken_after = ⊥
-Wrote (Err fault) (Err ended) taken taken_after = (ended ≡ fault) × (taken_after ≡ taken)
+abbrev pub Wrote : Made → Result (Unit {0}) Fault → SinkSeen → SinkSeen → Type 0
+Wrote (Ok text) (Ok done) out out_after = TookWhole text out out_after
+Wrote (Ok text) (Err ended) out out_after = (ended ≡ fault.WriteFault) × TookFront text out out_after
+Wrote (Err fault) (Ok done) out out_after = ⊥
+Wrote (Err fault) (Err ended) out out_after = (ended ≡ fault) × (out_after ≡ out)
 
 -- A call that ended so did what it may: something was read, something was made of it, and that was written.
-pub record Ran (May : Input → Made → Type 0) (ended : Result (Unit {0}) Fault) (left left_after taken taken_after : Option (List ℕ)) : Type 0 where
+pub record Ran (May : Input → Made → Type 0) (ended : Result (Unit {0}) Fault) (source source_after : SourceSeen) (out out_after : SinkSeen)
+    : Type 0 where
   pub input : Input
   pub made : Made
   pub did : May input made
-  pub read : WasRead input left left_after
-  pub wrote : Wrote made ended taken taken_after
+  pub read : WasRead input source source_after
+  pub wrote : Wrote made ended out out_after
 
 -- Say took the line, and counted no fault; or it took a part of it from its front, and its count rose.
 abbrev pub Said : List ℕ → SinkSeen → SinkSeen → Type 0
-Said line say say_after = (Took say.taken say_after.taken line × (say_after.faults ≡ say.faults))
-    ⊎ (TookFront say.taken say_after.taken line × Rose say.faults say_after.faults)
+Said line say say_after = Took line say say_after ⊎ TookFront line say say_after
 
 -- What a call answers that did what it may: the status of how it ended. Where a fault ended it, the fault's line was said.
-pub record Answered (May : Input → Made → Type 0) (answer : Status) (left left_after taken taken_after : Option (List ℕ)) (say say_after : SinkSeen)
+pub record Answered (May : Input → Made → Type 0) (answer : Status) (source source_after : SourceSeen) (out out_after say say_after : SinkSeen)
     : Type 0 where
   pub ended : Result (Unit {0}) Fault
-  pub ran : Ran May ended left left_after taken taken_after
+  pub ran : Ran May ended source source_after out out_after
   pub status : answer ≡ status_of ended
   pub said : IfErr ended (λ fault. Said (line_of fault) say say_after)
 
@@ -132,6 +108,6 @@ pub record Streams (answer : Status) (source source_after : SourceSeen) (out out
   pub too_long : IfSome source.left (λ _. (answer ≡ status.InputTooLong) ↔ (input_limit < given_count source.left source_after.left))
   pub write_fault : answer ≡ status.WriteFault → Rose out.faults out_after.faults
   pub write_sound : answer ≢ status.WriteFault → out_after.faults ≡ out.faults
-  pub nothing : answer ≢ status.Ok → answer ≢ status.WriteFault → out_after.taken ≡ out.taken
-  pub flushed : answer ≡ status.Ok → AllFlushed out_after.taken out_after.flushed
+  pub nothing : answer ≢ status.Ok → answer ≢ status.WriteFault → out_after ≡ out
+  pub flushed : answer ≡ status.Ok → IsFlushed out_after
   pub unflushed : answer ≢ status.Ok → out_after.flushed ≡ out.flushed

@@ -11,10 +11,11 @@ use Rattle.cfg_directory.specs.declared.container.ImageFault.TheVariants as cont
 use Rattle.vmtables.specs.declared.fault.Fault.{Fault}
 use Rattle.vmtables.specs.declared.fault.Fault.TheVariants.{ReadFault, Description, Container, OutOfMemory, InputTooLong, ImageTooLarge}
 
-abbrev pub IsOfInput : InputFault → Fault → Type 0
-IsOfInput input.Failed fault = fault ≡ ReadFault
-IsOfInput input.TooLong fault = fault ≡ InputTooLong
-IsOfInput input.OutOfMemory fault = fault ≡ OutOfMemory
+-- that of the reading of an input
+abbrev pub input_fault : InputFault → Fault
+input_fault input.Failed = ReadFault
+input_fault input.TooLong = InputTooLong
+input_fault input.OutOfMemory = OutOfMemory
 
 abbrev pub IsOfDescription : DescFault → Fault → Type 0
 IsOfDescription description.OutOfMemory fault = fault ≡ OutOfMemory

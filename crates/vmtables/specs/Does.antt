@@ -6,17 +6,16 @@ use Rattle.vmtables.specs.Boot.{BootMakes}
 use Rattle.vmtables.specs.Build.{BuildMakes}
 use Rattle.vmtables.specs.Calls.{Answering, Unread, Doing, ReadsAll}
 use Rattle.vmtables.specs.Load.{LoadMakes}
-use Rattle.vmtables.specs.Policies.{policy_of}
 use Rattle.vmtables.specs.declared.fault.Fault.TheVariants.{Usage}
 
 -- Words that are no command: nothing is read, and the world, the allocator and the plan stay as they were.
 abbrev pub IsUsage : Doing
-IsUsage before after Unread (Err Usage) = after ≡ before
+IsUsage before after Unread made = (made ≡ Err Usage) × (after ≡ before)
 IsUsage before after _ _ = ⊥
 
 -- what the command does that the words are
 abbrev pub Does : Answering → Option Command → Doing
 Does Gives None = IsUsage
-Does Gives (Some (Boot fill policy seed)) = ReadsAll (BootMakes Gives fill (policy_of policy seed) seed)
-Does Gives (Some (Load fill top_mib policy seed)) = ReadsAll (LoadMakes Gives fill top_mib (policy_of policy seed) seed)
+Does Gives (Some (Boot setting)) = ReadsAll (BootMakes Gives setting)
+Does Gives (Some (Load top_mib setting)) = ReadsAll (LoadMakes Gives top_mib setting)
 Does Gives (Some Build) = ReadsAll BuildMakes

@@ -1,15 +1,14 @@
 pub mod Causes
 pub mod Outcome
-pub mod Output
 pub mod Dump
 pub mod Calls
-pub mod Policies
 pub mod Described
 pub mod Loading
 pub mod Load
-pub mod Boot
 pub mod Build
+pub mod Boot
 pub mod Does
+pub mod Complete
 pub mod Shelf
 pub use Rattle.vt_outside.specs.Stream
 pub use Rattle.vt_outside.specs.Name
@@ -22,12 +21,11 @@ pub use Rattle.table_model.specs.Inventory
 pub use Rattle.cfg_directory.specs.Items as DirectoryItems
 pub use Rattle.cfg_directory.specs.Container
 pub use Rattle.zone_alloc.specs.Zones
-pub use Rattle.script_load.specs.Runs
-pub use Rattle.script_load.specs.Script
-pub use Rattle.script_load.specs.Allocators
-pub use Rattle.script_load.specs.Loads
-pub use Rattle.load_machine.specs.Loads as MachineLoads
-pub use Rattle.load_machine.specs.Machine
+pub use Rattle.command_acts.specs.Runs
+pub use Rattle.command_acts.specs.Script
+pub use Rattle.command_acts.specs.Allocators
+pub use Rattle.load_states.specs.Loads as MachineLoads
+pub use Rattle.load_states.specs.LoadState
 pub use Rattle.firmware_load.specs.Schedules
 pub use Rattle.firmware_load.specs.World
 pub use Rattle.vt_words.specs.Command

@@ -4,33 +4,33 @@ use Rattle.vt_outside.specs.Placement.{Range, IsFree}
 use Rattle.vt_outside.specs.Stream.{Rose}
 use Rattle.cfg_directory.specs.declared.item.Item.{Item}
 use Rattle.zone_alloc.specs.declared.alloc.Request.{Request}
-use Rattle.zone_alloc.specs.declared.policy.Policy.{Policy}
+use Rattle.vt_words.specs.declared.setting.Setting.{Setting}
 use Rattle.zone_alloc.specs.Zones.{zone_range}
-use Rattle.script_load.specs.Runs.{Answers}
-use Rattle.script_load.specs.declared.fault.LoadFault.{LoadFault}
-use Rattle.script_load.specs.declared.fault.LoadFault.TheVariants.{NoRoom}
-use Rattle.script_load.specs.Allocators.{AreZonesOf}
-use Rattle.script_load.specs.Loads.{IsAsked}
-use Rattle.load_machine.specs.Loads.{IsBegun}
-use Rattle.load_machine.specs.Machine.{Machine}
+use Rattle.command_acts.specs.Runs.{Answers}
+use Rattle.command_acts.specs.declared.fault.LoadFault.{LoadFault}
+use Rattle.command_acts.specs.declared.fault.LoadFault.TheVariants.{NoRoom}
+use Rattle.command_acts.specs.Allocators.{AreZonesOf}
+use Rattle.command_acts.specs.Script.{IsAsked}
+use Rattle.load_states.specs.Loads.{IsBegun}
+use Rattle.load_states.specs.LoadState.{LoadState}
 use Rattle.firmware_load.specs.World.{IsLoadOver}
 use Rattle.vmtables.specs.Calls.{Answering, Seen}
 use Rattle.vmtables.specs.declared.fault.Fault.{Fault}
 use Rattle.vmtables.specs.declared.fault.Fault.TheVariants as fault
 
--- The load of items answered so: a world was begun with them and a memory of this top and fill byte, an allocator with the zones of that
--- memory and this policy, and a plan with this seed, and the world is what the load leaves over the events of the plan. The allocator refused
+-- The load of items answered so: a world was begun with them and a memory of this top and the fill byte of a setting, an allocator with the
+-- zones of that memory and the setting's policy, and a plan with its seed, and the world is what the load leaves over the events of the plan. The allocator refused
 -- a request exactly where the load finds no room, and then the last one that it refused is that of the command.
-pub record IsImageLoaded (Gives : Answering) (items : List Item) (top fill : ℕ) (policy : Policy) (seed : ℕ)
+pub record IsImageLoaded (Gives : Answering) (items : List Item) (top : ℕ) (setting : Setting)
     (answer : Result (Unit {0}) LoadFault) (before after : Seen) : Type 0 where
-  pub begun : Machine
-  pub was_begun : IsBegun items top fill begun
-  pub world : Machine
+  pub begun : LoadState
+  pub was_begun : IsBegun items top setting.fill begun
+  pub world : LoadState
   pub world_is : after.world ≡ Some world
-  pub load : IsLoadOver (Gives after.place.zones after.place.policy) begun (before.plan.events seed) after.plan.left after.place.handed answer world
+  pub load : IsLoadOver (Gives after.place.begun) begun (before.plan.events setting.seed) after.plan.left after.place.handed answer world
   pub events : after.plan.events ≡ before.plan.events
-  pub zones : AreZonesOf top after.place.zones
-  pub policy_is : after.place.policy ≡ policy
+  pub zones : AreZonesOf top after.place.begun.zones
+  pub policy_is : after.place.begun.policy ≡ setting.policy
   pub no_room : (index : ℕ) → answer ≡ Err (NoRoom index)
       → Rose before.place.refusals after.place.refusals × IsAsked items index after.place.refused
   pub sound : ((index : ℕ) → answer ≢ Err (NoRoom index)) → after.place.refusals ≡ before.place.refusals
@@ -50,8 +50,8 @@ IsUnloaded items top fill before after =
     (after.plan ≡ before.plan)
     × (((after.world ≡ None) × (after.place ≡ before.place)) ⊎ IsSomeAnd after.world (IsBegun items top fill))
 
--- the loading of items failed with this fault
-abbrev pub FailsToLoad : Answering → List Item → ℕ → ℕ → Policy → ℕ → Seen → Seen → Fault → Type 0
-FailsToLoad Gives items top fill policy seed before after (fault.Load why) = IsImageLoaded Gives items top fill policy seed (Err why) before after
-FailsToLoad Gives items top fill policy seed before after fault.OutOfMemory = IsUnloaded items top fill before after
-FailsToLoad Gives items top fill policy seed before after _ = ⊥
+-- How the loading of items fails: it ended before its script did, or memory ran out before.
+pub data FailsToLoad (Gives : Answering) (items : List Item) (top : ℕ) (setting : Setting) (before after : Seen) : Fault → Type 0 where
+  ended_early : {why : LoadFault} → IsImageLoaded Gives items top setting (Err why) before after
+      → FailsToLoad Gives items top setting before after (fault.Load why)
+  not_begun : IsUnloaded items top setting.fill before after → FailsToLoad Gives items top setting before after fault.OutOfMemory

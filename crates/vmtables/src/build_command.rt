@@ -5,14 +5,13 @@ ghost use Rattle.vmtables.specs.Build.{IsImage, BuildMakes, CannotBeBuilt};
 ghost use Rattle.vmtables.specs.Calls.{ReadsAll, Ran, Seen, Streams};
 ghost use Rattle.vmtables.specs.Outcome.{status_of};
 
+use crate::describing::{machine_image, machine_of};
 use crate::fault::Fault;
 use crate::input::read_to_end;
 use crate::writing::write_text;
 use cfg_directory::write_image;
-use desc_toml::read_machine;
 use machine_desc::Machine as Described;
 use std::alloc::Global;
-use vm_image::image_of;
 use vt_outside::{Bytes, Sink, Source};
 
 /// Reads a description, and writes the container of its machine's files.
@@ -22,13 +21,10 @@ pub(crate) fn build<S: Source, K: Sink>(
     out: &mut K,
 ) -> Result<(), Fault>
     ensures ran { (seen : Seen) → Ran (ReadsAll BuildMakes seen seen) result
-        (S.left source.old) (S.left source.new) (K.taken out.old) (K.taken out.new) }
+        (S.seen source.old) (S.seen source.new) (K.seen out.old) (K.seen out.new) }
     ensures known { result ≢ Err Fault.Usage }
     ensures streams { Streams (status_of result)
-        (record { left = S.left source.old; faults = S.faults source.old })
-        (record { left = S.left source.new; faults = S.faults source.new })
-        (record { taken = K.taken out.old; flushed = K.flushed out.old; faults = K.faults out.old })
-        (record { taken = K.taken out.new; flushed = K.flushed out.new; faults = K.faults out.new }) }
+        (S.seen source.old) (S.seen source.new) (K.seen out.old) (K.seen out.new) }
 {
     let bytes = read_to_end(alloc, source)?;
     let text = container_of(alloc, bytes.as_slice())?;
@@ -40,7 +36,7 @@ fn container_of(alloc: Global, description: &[u8]) -> Result<Bytes, Fault>
     ensures ok { IfOk result (λ text. IsImage description.now text) }
     ensures err { IfErr result (CannotBeBuilt description.now) }
 {
-    let machine = read_machine(alloc, description)?;
+    let machine = machine_of(alloc, description)?;
     let container = image_container(alloc, &machine);
     drop(machine);
     container
@@ -52,6 +48,6 @@ fn image_container(alloc: Global, machine: &Described) -> Result<Bytes, Fault>
     ensures ok { IfOk result (λ text. (bytes : List ℕ) → Reads bytes machine.now → IsImage bytes text) }
     ensures err { IfErr result (λ fault. (bytes : List ℕ) → Reads bytes machine.now → CannotBeBuilt bytes fault) }
 {
-    let image = image_of(alloc, machine, 0)?;
+    let image = machine_image(alloc, machine)?;
     Ok(write_image(alloc, &image.items)?)
 }

@@ -1,15 +1,13 @@
 ghost use Rattle.std.specs.Prelude.{◌≡◌, ◌*◌, ◌%◌, ◌<◌, ◌≤◌, ◌==◌, false, [], length, take, slice_index, OnOk, OnErr};
 ghost use Rattle.std.specs.List.{list_all};
-ghost use Rattle.vt_outside.specs.Stream.{Rose};
 ghost use Rattle.vt_bytes.specs.Memory.{IsTop, IsRam, IsRamRange, ram_ranges};
 ghost use Rattle.vmtables.specs.Dump.{dump, header_line, ranges_text, row_text, rows_text};
 ghost use Rattle.guest_memory.specs.Frames.{frame_limit, frame_start};
 ghost use Rattle.hex.specs.Hex.{encode_lower, lower_digits};
-ghost use Rattle.vmtables.specs.Output.{Took, TookFront};
+ghost use Rattle.vt_outside.specs.Stream.{Took, TookFront};
 
-use crate::output::write_all;
 use guest_memory::{FRAME_BYTES, GuestMemory, ram_ranges};
-use vt_outside::{Failed, Sink};
+use vt_outside::{Failed, Sink, write_all};
 
 // How many bytes of RAM a line tells, and how many it has.
 const ROW: usize = 16;
@@ -30,12 +28,8 @@ const HIGH_BYTES: u64 = 0x200_0000;
 /// the fill byte, then `end`. The lines of a frame are offered in one piece. It doesn't flush `out`. Returns `Failed` when a write
 /// fails; `out` then took a part of the dump from its front.
 pub(crate) fn dump_to<K: Sink>(memory: &GuestMemory, out: &mut K) -> Result<(), Failed>
-    ensures ok { OnOk result (Took (K.taken out.old) (K.taken out.new) (dump memory.now)) }
-    ensures front { OnErr result (TookFront (K.taken out.old) (K.taken out.new) (dump memory.now)) }
-    ensures unflushed { K.flushed out.new ≡ K.flushed out.old }
-
-    ensures failed { OnErr result (Rose (K.faults out.old) (K.faults out.new)) }
-    ensures sound { OnOk result (K.faults out.new ≡ K.faults out.old) }
+    ensures ok { OnOk result (Took (dump memory.now) (K.seen out.old) (K.seen out.new)) }
+    ensures front { OnErr result (TookFront (dump memory.now) (K.seen out.old) (K.seen out.new)) }
 {
     write_all(out, &header(memory.top(), memory.fill()))?;
     dump_ranges(memory, out)?;
@@ -44,12 +38,8 @@ pub(crate) fn dump_to<K: Sink>(memory: &GuestMemory, out: &mut K) -> Result<(), 
 
 // Writes the lines of each range of RAM.
 fn dump_ranges<K: Sink>(memory: &GuestMemory, out: &mut K) -> Result<(), Failed>
-    ensures ok { OnOk result (Took (K.taken out.old) (K.taken out.new) (ranges_text memory.now (ram_ranges memory.now.top))) }
-    ensures front { OnErr result (TookFront (K.taken out.old) (K.taken out.new) (ranges_text memory.now (ram_ranges memory.now.top))) }
-    ensures unflushed { K.flushed out.new ≡ K.flushed out.old }
-
-    ensures failed { OnErr result (Rose (K.faults out.old) (K.faults out.new)) }
-    ensures sound { OnOk result (K.faults out.new ≡ K.faults out.old) }
+    ensures ok { OnOk result (Took (ranges_text memory.now (ram_ranges memory.now.top)) (K.seen out.old) (K.seen out.new)) }
+    ensures front { OnErr result (TookFront (ranges_text memory.now (ram_ranges memory.now.top)) (K.seen out.old) (K.seen out.new)) }
 {
     for range in ram_ranges(memory.top()) {
         let frames = (range.end - range.start) / FRAME_BYTES;
@@ -68,12 +58,8 @@ fn dump_frames<K: Sink>(
     requires lawful { IsTop memory.now.top }
     requires ram { IsRamRange memory.now.top start (4096 * count) }
     requires aligned { start % 4096 ≡ 0 }
-    ensures ok { OnOk result (Took (K.taken out.old) (K.taken out.new) (rows_text memory.now start (256 * count))) }
-    ensures front { OnErr result (TookFront (K.taken out.old) (K.taken out.new) (rows_text memory.now start (256 * count))) }
-    ensures unflushed { K.flushed out.new ≡ K.flushed out.old }
-
-    ensures failed { OnErr result (Rose (K.faults out.old) (K.faults out.new)) }
-    ensures sound { OnOk result (K.faults out.new ≡ K.faults out.old) }
+    ensures ok { OnOk result (Took (rows_text memory.now start (256 * count)) (K.seen out.old) (K.seen out.new)) }
+    ensures front { OnErr result (TookFront (rows_text memory.now start (256 * count)) (K.seen out.old) (K.seen out.new)) }
 {
     for k in 0..count {
         let address = start + FRAME_BYTES * k;
@@ -117,12 +103,8 @@ fn dump_frame<K: Sink>(memory: &GuestMemory, out: &mut K, address: u64) -> Resul
     requires lawful { IsTop memory.now.top }
     requires ram { IsRamRange memory.now.top address 4096 }
     requires aligned { address % 4096 ≡ 0 }
-    ensures ok { OnOk result (Took (K.taken out.old) (K.taken out.new) (rows_text memory.now address 256)) }
-    ensures front { OnErr result (TookFront (K.taken out.old) (K.taken out.new) (rows_text memory.now address 256)) }
-    ensures unflushed { K.flushed out.new ≡ K.flushed out.old }
-
-    ensures failed { OnErr result (Rose (K.faults out.old) (K.faults out.new)) }
-    ensures sound { OnOk result (K.faults out.new ≡ K.faults out.old) }
+    ensures ok { OnOk result (Took (rows_text memory.now address 256) (K.seen out.old) (K.seen out.new)) }
+    ensures front { OnErr result (TookFront (rows_text memory.now address 256) (K.seen out.old) (K.seen out.new)) }
 {
     let mut text = [0; FRAME_TEXT];
     let len = put_rows(&mut text, memory, address);

@@ -2,17 +2,17 @@ ghost use Rattle.std.specs.Prelude.{◌≡◌};
 ghost use Rattle.vmtables.specs.Outcome.{line_of, status_of_fault, status_of_load};
 
 use crate::input::InputFault;
-use crate::lines::{container_line, load_line, words};
+use crate::lines::{container_line, load_line};
 use crate::status::Status;
 use cfg_directory::ImageFault;
-use desc_toml::{DescFault, Line};
-use script_load::LoadFault;
+use command_acts::LoadFault;
+use desc_toml::DescFault;
 use vm_image::ImageBuildFault;
-use vt_outside::OutOfMemory;
+use vt_outside::{Line, OutOfMemory, words};
 
-/// Why a call didn't end with `Ok`.
+/// Why a command wasn't carried out whole.
 #[derive(Debug, Drop)]
-pub(crate) enum Fault {
+pub enum Fault {
     /// The source failed.
     ReadFault,
     /// The words are no command.
@@ -35,7 +35,7 @@ pub(crate) enum Fault {
 
 impl Fault {
     /// Returns the status of a call that this fault ended.
-    pub(crate) fn status(&self) -> Status
+    pub fn status(&self) -> Status
         ensures { result ≡ status_of_fault self.now }
     {
         match self {
@@ -52,7 +52,7 @@ impl Fault {
     }
 
     /// Returns the line that tells this fault, with its line feed.
-    pub(crate) fn line(&self) -> Line
+    pub fn line(&self) -> Line
         ensures { result.bytes ≡ line_of self.now }
     {
         match self {
@@ -92,9 +92,10 @@ impl From<OutOfMemory> for Fault {
 }
 
 impl From<InputFault> for Fault {
-    ghost use Rattle.vmtables.specs.Causes.{IsOfInput};
+    ghost use Rattle.std.specs.Prelude.{◌≡◌};
+    ghost use Rattle.vmtables.specs.Causes.{input_fault};
 
-    ghost from_gives = { IsOfInput };
+    ghost from_gives = { λ why fault. fault ≡ input_fault why };
 
     fn from(fault: InputFault) -> Fault {
         match fault {

@@ -1,5 +1,5 @@
-ghost use Rattle.std.specs.Prelude.{◌≡◌, ◌≢◌, ◌<◌, ◌≤◌, ◌↔◌, [], length, take, Err, IfErr, IfOk, OnErr, OnOk, IfSome};
-ghost use Rattle.vt_outside.specs.Stream.{Rose, in_front};
+ghost use Rattle.std.specs.Prelude.{◌≡◌, ◌≢◌, ◌<◌, ◌≤◌, ◌↔◌, [], true, length, take, Err, IfErr, IfOk, OnErr, OnOk, IfSome};
+ghost use Rattle.vt_outside.specs.Stream.{ReadFailed, Rose, in_front};
 ghost use Rattle.vmtables.specs.Outcome.{input_limit, given_count};
 
 use std::alloc::Global;
@@ -37,14 +37,15 @@ impl From<OutOfMemory> for InputFault {
 /// that were read, as they come, and for a buffer of 65,536 bytes. Returns `Failed` when a read fails, `TooLong` when `source`
 /// gives more bytes, and `OutOfMemory` when memory runs out. After an error the bytes that were read are lost.
 pub(crate) fn read_to_end<S: Source>(alloc: Global, source: &mut S) -> Result<Bytes, InputFault>
-    ensures given { IfOk result (λ bytes. S.left source.old ≡ in_front bytes (S.left source.new)) }
-    ensures end { OnOk result (IfSome (S.left source.new) (λ rest. rest ≡ [])) }
+    ensures given { IfOk result (λ bytes. (S.seen source.old).left ≡ in_front bytes (S.seen source.new).left) }
+    ensures end { OnOk result (IfSome (S.seen source.new).left (λ rest. rest ≡ [])) }
+    ensures ended { OnOk result ((S.seen source.new).ended ≡ true) }
     ensures within { IfOk result (λ bytes. length bytes ≤ input_limit) }
 
-    ensures failed { result ≡ Err InputFault.Failed → Rose (S.faults source.old) (S.faults source.new) }
-    ensures too_long { IfSome (S.left source.old) (λ _.
-        (result ≡ Err InputFault.TooLong) ↔ (input_limit < given_count (S.left source.old) (S.left source.new))) }
-    ensures sound { result ≢ Err InputFault.Failed → S.faults source.new ≡ S.faults source.old }
+    ensures failed { result ≡ Err InputFault.Failed → Rose (S.seen source.old).faults (S.seen source.new).faults }
+    ensures too_long { IfSome (S.seen source.old).left (λ _.
+        (result ≡ Err InputFault.TooLong) ↔ (input_limit < given_count (S.seen source.old).left (S.seen source.new).left)) }
+    ensures sound { result ≢ Err InputFault.Failed → (S.seen source.new).faults ≡ (S.seen source.old).faults }
 {
     let mut bytes = Bytes::new(alloc);
     let mut piece = buffer(alloc, PIECE)?;
@@ -63,14 +64,13 @@ pub(crate) fn read_to_end<S: Source>(alloc: Global, source: &mut S) -> Result<By
 // Reads the next bytes of `source` into the front of `piece`, and returns how many.
 fn read_piece<S: Source>(source: &mut S, piece: &mut [u8]) -> Result<usize, InputFault>
     requires { 0 < length piece.old }
-    ensures given { IfOk result (λ n. S.left source.old ≡ in_front (take n piece.new) (S.left source.new)) }
+    ensures given { IfOk result (λ n. (S.seen source.old).left ≡ in_front (take n piece.new) (S.seen source.new).left) }
     ensures fits { IfOk result (λ n. n ≤ length piece.new) }
-    ensures end { IfOk result (λ n. n ≡ 0 → IfSome (S.left source.old) (λ bytes. bytes ≡ [])) }
+    ensures none_left { IfOk result (λ n. n ≡ 0 → IfSome (S.seen source.old).left (λ bytes. bytes ≡ [])) }
+    ensures ends { IfOk result (λ n. n ≡ 0 → (S.seen source.new).ended ≡ true) }
     ensures fault { IfErr result (λ fault. fault ≡ InputFault.Failed) }
-
-    ensures kept { OnErr result (S.left source.new ≡ S.left source.old) }
-    ensures failed { OnErr result (Rose (S.faults source.old) (S.faults source.new)) }
-    ensures sound { OnOk result (S.faults source.new ≡ S.faults source.old) }
+    ensures failed { OnErr result (ReadFailed (S.seen source.old) (S.seen source.new)) }
+    ensures sound { OnOk result ((S.seen source.new).faults ≡ (S.seen source.old).faults) }
 {
     match source.read(piece) {
         Ok(count) => Ok(count),

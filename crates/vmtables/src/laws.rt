@@ -1,17 +1,39 @@
 //! Laws over the definitions, each the contract of a function that does nothing.
 
-ghost use Rattle.std.specs.Prelude.{◌≢◌, ℕ, List, Option, Some};
+ghost use Rattle.std.specs.Prelude.{◌≢◌, Some};
+ghost use Rattle.vt_outside.specs.Stream.{SinkSeen, SourceSeen};
 ghost use Rattle.vt_words.specs.declared.command.Command.TheVariants.{Boot};
-ghost use Rattle.vt_words.specs.declared.policy.PolicyName.{PolicyName};
-ghost use Rattle.vmtables.specs.Calls.{Answered, Seen, SinkSeen};
+ghost use Rattle.vt_words.specs.declared.setting.Setting.{Setting};
+ghost use Rattle.command_acts.specs.Allocators.{MayAnswer};
+ghost use Rattle.vmtables.specs.Calls.{Answered, Seen};
+ghost use Rattle.vmtables.specs.Complete.{IsBootComplete, IsBuildComplete, IsLoadComplete};
 ghost use Rattle.vmtables.specs.Does.{Does};
 ghost use Rattle.vmtables.specs.Shelf.{shelf_answers};
 ghost use Rattle.vmtables.specs.declared.status.Status.{Status};
 ghost use Rattle.vmtables.specs.declared.status.Status.TheVariants.{NoRoom};
 
+use zone_alloc::ZoneAlloc;
+
 /// States that `boot` never answers `NoRoom` where a `ShelfAlloc` gives the places, whatever its policy and its seed.
 pub fn a_shelf_has_room_for_a_machine()
-    ensures { (fill : ℕ) (policy : PolicyName) (seed : ℕ) (before after : Seen) (answer : Status)
-        (left left_after taken taken_after : Option (List ℕ)) (say say_after : SinkSeen)
-        → Answered (Does shelf_answers (Some (Boot fill policy seed)) before after) answer left left_after taken taken_after say say_after → answer ≢ NoRoom }
+    ensures { (setting : Setting) (before after : Seen) (answer : Status) (source source_after : SourceSeen) (out out_after say say_after : SinkSeen)
+        → Answered (Does shelf_answers (Some (Boot setting)) before after) answer source source_after out out_after say say_after → answer ≢ NoRoom }
+{}
+
+/// States that `boot` of a description whose machine has few files is done, unless memory ran out, where no read, no write, no flush and no
+/// place failed.
+pub fn boot_is_complete<A: ZoneAlloc>()
+    ensures { IsBootComplete (MayAnswer A.state A.gives) }
+{}
+
+/// States that `build` of a description whose machine has few files is done, unless memory ran out, where no read, no write and no flush
+/// failed.
+pub fn build_is_complete<A: ZoneAlloc>()
+    ensures { IsBuildComplete (MayAnswer A.state A.gives) }
+{}
+
+/// States that `load` of a container whose script's run is done with the places that were handed out is done, unless memory ran out, where no
+/// read, no write, no flush and no place failed.
+pub fn load_is_complete<A: ZoneAlloc>()
+    ensures { IsLoadComplete (MayAnswer A.state A.gives) }
 {}

@@ -8,6 +8,8 @@
 
 mod boot_command;
 mod build_command;
+mod carrying_out;
+mod describing;
 mod dump;
 mod fault;
 mod input;
@@ -15,13 +17,12 @@ pub mod laws;
 mod lines;
 mod load_command;
 mod loading;
-mod output;
-mod policy;
 mod status;
 mod top_call;
 mod writing;
 
-pub use firmware_load::World;
-pub use script_load::{LoadFault, State};
+pub use carrying_out::carry_out;
+pub use fault::Fault;
+pub use firmware_load::{LoadFault, State, World};
 pub use status::Status;
 pub use top_call::top;

@@ -4,19 +4,9 @@ ghost use Rattle.std.specs.Prelude.{◌≡◌, ◌≤◌, ◌++◌, ◌∷◌, [
 ghost use Rattle.vmtables.specs.Outcome.{cause_number, container_line, container_number, load_line};
 
 use cfg_directory::ImageFault;
-use desc_toml::Line;
+use command_acts::LoadFault;
 use loader_script::Cause;
-use script_load::LoadFault;
-
-/// The line of these words, at most 64 bytes, which end in a line feed.
-pub(crate) fn words(words: &str) -> Line
-    requires { length words.now ≤ 64 }
-    ensures { result.bytes ≡ words.now }
-{
-    let mut line = Line::new();
-    line.push_str(words);
-    line
-}
+use vt_outside::{Line, numbered_line, words};
 
 /// The line of a container that is refused: the number of its fault.
 pub(crate) fn container_line(fault: ImageFault) -> Line
@@ -64,19 +54,6 @@ fn command_line(index: u32, cause: Cause) -> Line
     line.push_str(number.format(index));
     line.push_str(": cause ");
     line.push_str(number.format(cause_number(cause)));
-    line.push_str("\n");
-    line
-}
-
-// The line of these words, at most 32 bytes, and a number behind them.
-fn numbered_line(words: &str, number: u32) -> Line
-    requires { length words.now ≤ 32 }
-    ensures { result.bytes ≡ words.now ++ decimal number ++ 10 ∷ [] }
-{
-    let mut digits = itoa::Buffer::new();
-    let mut line = Line::new();
-    line.push_str(words);
-    line.push_str(digits.format(number));
     line.push_str("\n");
     line
 }

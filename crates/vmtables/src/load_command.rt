@@ -1,7 +1,7 @@
 ghost use Rattle.std.specs.Prelude.{◌≡◌, ◌≢◌, ℕ, List, ◌≤◌, Ok, Err, IfErr, IfOk, OnErr, OnOk, IsSomeAnd};
 ghost use Rattle.cfg_directory.specs.declared.item.Item.{Item};
 ghost use Rattle.cfg_directory.specs.Container.{IsContainer};
-ghost use Rattle.script_load.specs.Allocators.{MayAnswer};
+ghost use Rattle.command_acts.specs.Allocators.{MayAnswer};
 ghost use Rattle.vmtables.specs.Calls.{ReadsAll, Ran, Streams, seen_by};
 ghost use Rattle.vmtables.specs.Dump.{dump};
 ghost use Rattle.vmtables.specs.Load.{LoadMakes, CannotBeRead, mib};
@@ -16,16 +16,15 @@ use cfg_directory::{Items, take_image};
 use firmware_load::{Schedule, World};
 use std::alloc::Global;
 use vt_outside::{Bytes, Sink, Source};
-use zone_alloc::{Policy, ZoneAlloc};
+use vt_words::Setting;
+use zone_alloc::ZoneAlloc;
 
-/// Reads a container, loads its files by the places that `place` gives under `policy`, over the events that `plan` has for `seed`, into
-/// memory of `top_mib` MiB in which each byte is `fill` before, and writes the dump. `top_mib` is from 64 to 3072.
+/// Reads a container, loads its files as `setting` says into memory of `top_mib` MiB, by the places that `place` gives and over the events
+/// that `plan` has, and writes the dump. `top_mib` is from 64 to 3072.
 pub(crate) fn load<S: Source, K: Sink, A: ZoneAlloc, C: Schedule>(
     alloc: Global,
-    fill: u8,
     top_mib: u32,
-    policy: Policy,
-    seed: u64,
+    setting: &Setting,
     source: &mut S,
     out: &mut K,
     place: &mut A,
@@ -33,21 +32,16 @@ pub(crate) fn load<S: Source, K: Sink, A: ZoneAlloc, C: Schedule>(
     world: &mut World,
 ) -> Result<(), Fault>
     requires lawful { (64 ≤ top_mib) × (top_mib ≤ 3072) }
-    ensures ran { Ran (ReadsAll (LoadMakes (MayAnswer A.handed A.zones A.policy A.gives) fill top_mib policy seed)
-        (seen_by A.handed A.zones A.policy A.refusals A.refused A.begun C.events C.left world.old place.old plan.old)
-        (seen_by A.handed A.zones A.policy A.refusals A.refused A.begun C.events C.left world.new place.new plan.new)) result
-        (S.left source.old) (S.left source.new) (K.taken out.old) (K.taken out.new) }
+    ensures ran { Ran (ReadsAll (LoadMakes (MayAnswer A.state A.gives) top_mib setting.now)
+        (seen_by A.state C.plan world.old place.old plan.old)
+        (seen_by A.state C.plan world.new place.new plan.new)) result
+        (S.seen source.old) (S.seen source.new) (K.seen out.old) (K.seen out.new) }
     ensures known { result ≢ Err Fault.Usage }
     ensures streams { Streams (status_of result)
-        (record { left = S.left source.old; faults = S.faults source.old })
-        (record { left = S.left source.new; faults = S.faults source.new })
-        (record { taken = K.taken out.old; flushed = K.flushed out.old; faults = K.faults out.old })
-        (record { taken = K.taken out.new; flushed = K.flushed out.new; faults = K.faults out.new }) }
+        (S.seen source.old) (S.seen source.new) (K.seen out.old) (K.seen out.new) }
 {
     let bytes = read_to_end(alloc, source)?;
-    load_container(
-        alloc, fill, top_mib, policy, seed, bytes, place, plan, world,
-    )?;
+    load_container(alloc, top_mib, setting, bytes, place, plan, world)?;
     write_dump(world, out)
 }
 
@@ -55,10 +49,8 @@ pub(crate) fn load<S: Source, K: Sink, A: ZoneAlloc, C: Schedule>(
 // twice.
 fn load_container<A: ZoneAlloc, C: Schedule>(
     alloc: Global,
-    fill: u8,
     top_mib: u32,
-    policy: Policy,
-    seed: u64,
+    setting: &Setting,
     container: Bytes,
     place: &mut A,
     plan: &mut C,
@@ -66,25 +58,15 @@ fn load_container<A: ZoneAlloc, C: Schedule>(
 ) -> Result<(), Fault>
     requires lawful { (64 ≤ top_mib) × (top_mib ≤ 3072) }
     ensures ok { OnOk result ((items : List Item) × IsContainer container items
-        × IsImageLoaded (MayAnswer A.handed A.zones A.policy A.gives) items (mib top_mib) fill policy seed (Ok tt)
-        (seen_by A.handed A.zones A.policy A.refusals A.refused A.begun C.events C.left world.old place.old plan.old)
-        (seen_by A.handed A.zones A.policy A.refusals A.refused A.begun C.events C.left world.new place.new plan.new)) }
-    ensures err { IfErr result (λ fault. LoadMakes (MayAnswer A.handed A.zones A.policy A.gives) fill top_mib policy seed container
-        (seen_by A.handed A.zones A.policy A.refusals A.refused A.begun C.events C.left world.old place.old plan.old)
-        (seen_by A.handed A.zones A.policy A.refusals A.refused A.begun C.events C.left world.new place.new plan.new) (Err fault)) }
+        × IsImageLoaded (MayAnswer A.state A.gives) items (mib top_mib) setting.now (Ok tt)
+        (seen_by A.state C.plan world.old place.old plan.old)
+        (seen_by A.state C.plan world.new place.new plan.new)) }
+    ensures err { IfErr result (λ fault. LoadMakes (MayAnswer A.state A.gives) top_mib setting.now container
+        (seen_by A.state C.plan world.old place.old plan.old)
+        (seen_by A.state C.plan world.new place.new plan.new) (Err fault)) }
 {
     let items = items_of(alloc, container)?;
-    load_items(
-        alloc,
-        items,
-        top_mib * MIB,
-        fill,
-        policy,
-        seed,
-        place,
-        plan,
-        world,
-    )
+    load_items(alloc, items, top_mib * MIB, setting, place, plan, world)
 }
 
 // The files of a container.

@@ -1,25 +1,20 @@
 ghost use Rattle.std.specs.Prelude.{◌≡◌, IfErr, IsSome, IsSomeAnd, OnErr, OnOk};
-ghost use Rattle.vt_outside.specs.Stream.{Rose};
-ghost use Rattle.load_machine.specs.Machine.{memory_of};
+ghost use Rattle.vt_outside.specs.Stream.{IsFlushed, TookFront, WriteFailed};
+ghost use Rattle.load_states.specs.LoadState.{memory_of};
+ghost use Rattle.vmtables.specs.Calls.{TookWhole};
 ghost use Rattle.vmtables.specs.Dump.{dump};
-ghost use Rattle.vmtables.specs.Output.{Took, TookFront, AllFlushed};
 
 use crate::dump::dump_to;
 use crate::fault::Fault;
-use crate::output::write_all;
 use firmware_load::World;
-use vt_outside::{Failed, Sink};
+use vt_outside::{Failed, Sink, write_all};
 
 /// Writes the dump of the world's memory, and flushes it.
 pub(crate) fn write_dump<K: Sink>(world: &World, out: &mut K) -> Result<(), Fault>
     requires { IsSome world.now }
-    ensures dumped { OnOk result (IsSomeAnd world.now (λ w. Took (K.taken out.old) (K.taken out.new) (dump (memory_of w)))) }
-    ensures flushed { OnOk result (AllFlushed (K.taken out.new) (K.flushed out.new)) }
+    ensures ok { OnOk result (IsSomeAnd world.now (λ w. TookWhole (dump (memory_of w)) (K.seen out.old) (K.seen out.new))) }
     ensures fault { IfErr result (λ fault. fault ≡ Fault.WriteFault) }
-    ensures front { OnErr result (IsSomeAnd world.now (λ w. TookFront (K.taken out.old) (K.taken out.new) (dump (memory_of w)))) }
-    ensures unflushed { OnErr result (K.flushed out.new ≡ K.flushed out.old) }
-    ensures write_fault { OnErr result (Rose (K.faults out.old) (K.faults out.new)) }
-    ensures sound { OnOk result (K.faults out.new ≡ K.faults out.old) }
+    ensures front { OnErr result (IsSomeAnd world.now (λ w. TookFront (dump (memory_of w)) (K.seen out.old) (K.seen out.new))) }
 {
     match dump_to(world.memory(), out) {
         Ok(()) => flush(out),
@@ -29,13 +24,9 @@ pub(crate) fn write_dump<K: Sink>(world: &World, out: &mut K) -> Result<(), Faul
 
 /// Writes a text, and flushes it.
 pub(crate) fn write_text<K: Sink>(text: &[u8], out: &mut K) -> Result<(), Fault>
-    ensures taken { OnOk result (Took (K.taken out.old) (K.taken out.new) text.now) }
-    ensures flushed { OnOk result (AllFlushed (K.taken out.new) (K.flushed out.new)) }
+    ensures ok { OnOk result (TookWhole text.now (K.seen out.old) (K.seen out.new)) }
     ensures fault { IfErr result (λ fault. fault ≡ Fault.WriteFault) }
-    ensures front { OnErr result (TookFront (K.taken out.old) (K.taken out.new) text.now) }
-    ensures unflushed { OnErr result (K.flushed out.new ≡ K.flushed out.old) }
-    ensures write_fault { OnErr result (Rose (K.faults out.old) (K.faults out.new)) }
-    ensures sound { OnOk result (K.faults out.new ≡ K.faults out.old) }
+    ensures front { OnErr result (TookFront text.now (K.seen out.old) (K.seen out.new)) }
 {
     match write_all(out, text) {
         Ok(()) => flush(out),
@@ -44,12 +35,10 @@ pub(crate) fn write_text<K: Sink>(text: &[u8], out: &mut K) -> Result<(), Fault>
 }
 
 fn flush<K: Sink>(out: &mut K) -> Result<(), Fault>
-    ensures taken { K.taken out.new ≡ K.taken out.old }
-    ensures unflushed { OnErr result (K.flushed out.new ≡ K.flushed out.old) }
-    ensures flushed { OnOk result (AllFlushed (K.taken out.new) (K.flushed out.new)) }
+    ensures kept { OnOk result (K.seen out.new ≡ record (K.seen out.old) { flushed = (K.seen out.new).flushed }) }
+    ensures flushed { OnOk result (IsFlushed (K.seen out.new)) }
     ensures fault { IfErr result (λ fault. fault ≡ Fault.WriteFault) }
-    ensures write_fault { OnErr result (Rose (K.faults out.old) (K.faults out.new)) }
-    ensures sound { OnOk result (K.faults out.new ≡ K.faults out.old) }
+    ensures failed { OnErr result (WriteFailed (K.seen out.old) (K.seen out.new)) }
 {
     match out.flush() {
         Ok(()) => Ok(()),

@@ -3,3 +3,4 @@ pub mod Name
 pub mod MemoryStream
 pub mod StdStream
 pub mod Placement
+pub mod File

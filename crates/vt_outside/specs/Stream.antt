@@ -1,5 +1,5 @@
--- What a source has left, what a sink has taken, and how both count their faults.
-use Rattle.std.specs.Prelude.{ℕ, ◌+◌, ◌-◌, ◌^◌, ◌≤◌, min, List, ◌++◌, Option, Some, None}
+-- What is seen of a source and of a sink, and what one call leaves of it.
+use Rattle.std.specs.Prelude.{◌≡◌, ℕ, Bool, ◌+◌, ◌-◌, ◌^◌, ◌≤◌, min, List, ◌++◌, length, Option, Some, None, IfSome}
 
 -- the next value of a count that is kept in a u64
 abbrev pub next_count : ℕ → ℕ
@@ -20,3 +20,41 @@ in_front given (Some rest) = Some (given ++ rest)
 abbrev pub behind : Option (List ℕ) → List ℕ → Option (List ℕ)
 behind None piece = None
 behind (Some before) piece = Some (before ++ piece)
+
+-- What is seen of a source: the bytes that are left, where it tells them, whether a read has found that none is, and how many reads were
+-- answered with a fault.
+pub record SourceSeen : Type 0 where
+  pub left : Option (List ℕ)
+  pub ended : Bool
+  pub faults : ℕ
+
+-- What is seen of a sink: the bytes that were taken, where it tells them, how many of them are flushed, and how many writes and flushes were
+-- answered with a fault.
+pub record SinkSeen : Type 0 where
+  pub taken : Option (List ℕ)
+  pub flushed : ℕ
+  pub faults : ℕ
+
+-- A read failed: the fault was counted, and all else is as it was.
+abbrev pub ReadFailed : SourceSeen → SourceSeen → Type 0
+ReadFailed before after = (after ≡ record before { faults = after.faults }) × Rose before.faults after.faults
+
+-- A write or a flush failed: the fault was counted, and all else is as it was.
+abbrev pub WriteFailed : SinkSeen → SinkSeen → Type 0
+WriteFailed before after = (after ≡ record before { faults = after.faults }) × Rose before.faults after.faults
+
+-- A sink took these bytes, none of which is flushed yet, and counted no fault.
+abbrev pub Took : List ℕ → SinkSeen → SinkSeen → Type 0
+Took bytes before after = after ≡ record before { taken = behind before.taken bytes }
+
+-- A sink took a part of a text from its front, nothing, some or all of it, and then failed: the fault was counted.
+pub record TookFront (text : List ℕ) (before after : SinkSeen) : Type 0 where
+  pub front : List ℕ
+  pub rest : List ℕ
+  pub text_is : text ≡ front ++ rest
+  pub took : after ≡ record before { taken = behind before.taken front; faults = after.faults }
+  pub rose : Rose before.faults after.faults
+
+-- All that a sink took is flushed.
+abbrev pub IsFlushed : SinkSeen → Type 0
+IsFlushed s = IfSome s.taken (λ bytes. s.flushed ≡ length bytes)

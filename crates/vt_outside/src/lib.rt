@@ -1,10 +1,11 @@
-//! What stands between the project and the outside: where bytes come from and go to, want of memory,
+//! What stands between the project and the outside: where bytes come from and go to, want of memory, lines for a person,
 //! and the small types that contracts see as lists. The zones of memory, and what a lawful placement is, are defined here too,
 //! below all that places files.
 #![tactic(auto)]
 
 mod bytes;
 mod fault;
+mod line;
 mod list;
 mod listed;
 mod memory_sink;
@@ -13,9 +14,11 @@ mod name;
 mod std_stream;
 mod stream;
 mod text;
+mod writing;
 
 pub use bytes::Bytes;
 pub use fault::{Failed, OutOfMemory};
+pub use line::{Line, numbered_line, words};
 pub use list::List;
 pub use listed::is_listed;
 pub use memory_sink::{ListSink, SureSink};
@@ -24,3 +27,4 @@ pub use name::{Name, NameFault, are_printable};
 pub use std_stream::{ReadSource, WriteSink};
 pub use stream::{Sink, Source};
 pub use text::Text;
+pub use writing::write_all;

@@ -1,6 +1,6 @@
 ghost use Rattle.std.specs.Prelude.{◌≡◌, ◌≢◌, ◌<◌, ◌≤◌, ◌+◌, ◌-◌, ◌↔◌, ◌⊎◌, [], ◌++◌, length, take, min};
 ghost use Rattle.std.specs.Prelude.{Some, None, IsErr, IsOk, IfOk, IfSome, OnErr, OnOk, Contains};
-ghost use Rattle.vt_outside.specs.Stream.{Rose, next_count, behind};
+ghost use Rattle.vt_outside.specs.Stream.{next_count};
 
 use crate::fault::{Failed, OutOfMemory};
 use crate::list::List;
@@ -65,11 +65,7 @@ impl ListSink {
 }
 
 impl Sink for ListSink {
-    ghost taken = { λ s. Some s.taken };
-
-    ghost flushed = { λ s. s.flushed };
-
-    ghost faults = { λ s. s.faults };
+    ghost seen = { λ s. record { taken = Some s.taken; flushed = s.flushed; faults = s.faults } };
 
     fn write(&mut self, piece: &[u8]) -> Result<usize, Failed>
         requires { 0 < length piece.now }
@@ -116,11 +112,7 @@ impl SureSink {
 }
 
 impl Sink for SureSink {
-    ghost taken = { λ _. None };
-
-    ghost flushed = { λ _. 0 };
-
-    ghost faults = { λ _. 0 };
+    ghost seen = { λ _. record { taken = None; flushed = 0; faults = 0 } };
 
     fn write(&mut self, piece: &[u8]) -> Result<usize, Failed>
         requires { 0 < length piece.now }

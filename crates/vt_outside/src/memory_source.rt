@@ -1,5 +1,6 @@
-ghost use Rattle.std.specs.Prelude.{◌≡◌, ◌≢◌, ◌<◌, ◌≤◌, ◌↔◌, [], ◌++◌, length, take, drop, min, Some, IsErr, IsOk, IfOk, IfSome, OnErr, Contains};
-ghost use Rattle.vt_outside.specs.Stream.{Rose, next_count, in_front};
+ghost use Rattle.std.specs.Prelude.{◌≡◌, ◌==◌, ◌<◌, ◌≤◌, ◌↔◌, [], ◌++◌, true, false, length, take, drop, min, Some, Ok, IsErr, IsOk, IfOk, OnErr};
+ghost use Rattle.vt_outside.specs.MemoryStream.{CallFails, after_call};
+ghost use Rattle.vt_outside.specs.Stream.{next_count};
 
 use crate::bytes::Bytes;
 use crate::fault::Failed;
@@ -17,10 +18,11 @@ pub struct ListSource {
     fails: List<u32>,
     calls: u64,
     faults: u64,
+    ended: bool,
 }
 
 impl Model for ListSource {
-    ghost use Rattle.std.specs.Prelude.{◌≤◌, ◌<◌, drop, length};
+    ghost use Rattle.std.specs.Prelude.{◌≡◌, ◌≤◌, ◌<◌, true, drop, length};
     ghost use Rattle.vt_outside.specs.MemoryStream.{SourceState};
 
     ghost Value = { SourceState };
@@ -31,17 +33,18 @@ impl Model for ListSource {
       fails = s.fails;
       calls = s.calls;
       faults = s.faults;
+      ended = s.ended;
     } };
 
-    ghost invariant = { λ s. (s.given ≤ length s.bytes) × (0 < s.piece) };
+    ghost invariant = { λ s. (s.given ≤ length s.bytes) × (0 < s.piece) × (s.ended ≡ true → s.given ≡ length s.bytes) };
 }
 
 impl ListSource {
     /// Makes a source that gives `bytes`, in order. A read gives at most `piece` bytes, which must be at least 1. `fails` lists
-    /// the reads that fail, each by its number: all reads are counted, from 0. It takes no memory.
+    /// the reads that fail, each by its number: reads are counted from 0, up to the one that finds no byte left. It takes no memory.
     pub fn new(bytes: Bytes, piece: usize, fails: List<u32>) -> ListSource
         requires { 0 < piece }
-        ensures { result ≡ record { left = bytes; piece = piece; fails = fails; calls = 0; faults = 0 } }
+        ensures { result ≡ record { left = bytes; piece = piece; fails = fails; calls = 0; faults = 0; ended = false } }
     {
         ListSource {
             bytes,
@@ -50,30 +53,33 @@ impl ListSource {
             fails,
             calls: 0,
             faults: 0,
+            ended: false,
         }
     }
 }
 
 impl Source for ListSource {
-    ghost left = { λ s. Some s.left };
-
-    ghost faults = { λ s. s.faults };
+    ghost seen = { λ s. record { left = Some s.left; ended = s.ended; faults = s.faults } };
 
     fn read(&mut self, into: &mut [u8]) -> Result<usize, Failed>
         requires { 0 < length into.old }
-        // The call fails exactly where its number is listed.
-        ensures fails { IsErr result ↔ Contains self.old.fails self.old.calls }
+        // The call fails exactly where its number is listed, and never behind the end.
+        ensures fails { IsErr result ↔ CallFails self.old }
         ensures failed { OnErr result (self.new ≡ record self.old { calls = next_count self.old.calls; faults = next_count self.old.faults }) }
         ensures untouched { OnErr result (into.new ≡ into.old) }
 
         // Else it gives as many bytes as a piece, `into` and what is left allow.
         ensures given { IfOk result (λ n. self.old.left ≡ take n into.new ++ self.new.left) }
         ensures count { IfOk result (λ n. n ≡ min (min self.old.piece (length into.old)) (length self.old.left)) }
-        ensures ok { IfOk result (λ n. self.new ≡ record self.old { left = drop n self.old.left; calls = next_count self.old.calls }) }
+        ensures ok { IfOk result (λ n. self.new ≡ after_call n self.old) }
         ensures behind { IfOk result (λ n. drop n into.new ≡ drop n into.old) }
-        ensures end { IfOk result (λ n. n ≡ 0 → self.old.left ≡ []) }
+        ensures none_left { IfOk result (λ n. n ≡ 0 → self.old.left ≡ []) }
+        ensures ended { self.old.ended ≡ true → (result ≡ Ok 0) × (self.new ≡ self.old) }
         ensures never_falls { self.old.faults ≤ self.new.faults }
     {
+        if self.ended {
+            return Ok(0);
+        }
         let call = self.calls;
         self.calls = self.calls.saturating_add(1);
         if is_listed(self.fails.as_slice(), call) {
@@ -84,6 +90,7 @@ impl Source for ListSource {
         let count = self.piece.min(into.len()).min(rest.len());
         into[..count].copy_from_slice(&rest[..count]);
         self.given += count;
+        self.ended = count == 0;
         Ok(count)
     }
 }
@@ -115,9 +122,8 @@ impl SureSource {
 }
 
 impl Source for SureSource {
-    ghost left = { λ s. Some s };
-
-    ghost faults = { λ _. 0 };
+    // It has ended where nothing is left.
+    ghost seen = { λ s. record { left = Some s; ended = length s == 0; faults = 0 } };
 
     fn read(&mut self, into: &mut [u8]) -> Result<usize, Failed>
         requires { 0 < length into.old }

@@ -1,7 +1,7 @@
-ghost use Rattle.std.specs.Prelude.{◌≡◌, ◌≢◌, ◌<◌, ◌≤◌, ◌-◌, ◌^◌, length, Some, None, IsErr, IsSomeAnd, IfOk, IfSome, IfErr, OnErr, OnOk};
+ghost use Rattle.std.specs.Prelude.{◌≡◌, ◌≢◌, ◌==◌, ◌<◌, ◌≤◌, length, true, false, Ok, Some, None, IsErr, IsSomeAnd, IfOk, IfErr, OnErr, OnOk};
 ghost use Rattle.std.specs.Io.KnownBytes.{Keeps, ReadConsumes, WriteAppends};
 ghost use Rattle.std.specs.IoError.{error_kind};
-ghost use Rattle.vt_outside.specs.Stream.{Rose, next_count, in_front, behind};
+ghost use Rattle.vt_outside.specs.Stream.{next_count};
 
 use crate::fault::Failed;
 use crate::stream::{Sink, Source};
@@ -11,10 +11,11 @@ use std::marker::Model;
 /// A source that reads from a reader of std. It counts each error that it answers with `Failed`. Contracts see the reader and
 /// this count; what is left of the reader's bytes they know where the reader tells it.
 ///
-/// A call that was interrupted is made again, and is no error.
+/// A call that was interrupted is made again, and is no error. Once the reader has given nothing it isn't called any more.
 #[derive(Drop)]
 pub struct ReadSource<R> {
     reader: R,
+    ended: bool,
     faults: u64,
 }
 
@@ -23,35 +24,46 @@ impl<R> Model for ReadSource<R> {
 
     ghost Value = { ReaderState R };
 
-    ghost view = { λ s. record { reader = s.reader; faults = s.faults } };
+    ghost view = { λ s. record { reader = s.reader; ended = s.ended; faults = s.faults } };
 }
 
 impl<R: Read> ReadSource<R> {
     /// Makes a source whose bytes come from `reader`, with no fault counted. It reads nothing yet.
     pub fn new(reader: R) -> ReadSource<R>
-        ensures { result ≡ record { reader = reader; faults = 0 } }
+        ensures { result ≡ record { reader = reader; ended = false; faults = 0 } }
     {
-        ReadSource { reader, faults: 0 }
+        ReadSource {
+            reader,
+            ended: false,
+            faults: 0,
+        }
     }
 }
 
 impl<R: Read> Source for ReadSource<R> {
-    ghost left = { λ _. None };
-
-    ghost faults = { λ s. s.faults };
+    ghost seen = { λ s. record { left = None; ended = s.ended; faults = s.faults } };
 
     fn read(&mut self, into: &mut [u8]) -> Result<usize, Failed>
         requires { 0 < length into.old }
         // The reader loses exactly the bytes that are given, and none are only where it has none.
-        ensures bytes { ReadConsumes (R.remaining self.old.reader) (R.remaining self.new.reader) result into.new }
+        ensures bytes { self.old.ended ≡ false → ReadConsumes (R.remaining self.old.reader) (R.remaining self.new.reader) result into.new }
         ensures fits { IfOk result (λ n. n ≤ length into.new) }
 
+        // A read that gives nothing is the last one of the reader: behind it nothing changes.
+        ensures ends { IfOk result (λ n. n ≡ 0 → self.new.ended ≡ true) }
+        ensures ended { self.old.ended ≡ true → (result ≡ Ok 0) × (self.new ≡ self.old) }
+
         ensures counted { OnErr result (self.new.faults ≡ next_count self.old.faults) }
+        ensures going { OnErr result (self.new.ended ≡ self.old.ended) }
         ensures sound { OnOk result (self.new.faults ≡ self.old.faults) }
         ensures never_falls { self.old.faults ≤ self.new.faults }
     {
+        if self.ended {
+            return Ok(0);
+        }
         let answer = read_from(&mut self.reader, into);
         count_fault(&mut self.faults, &answer);
+        self.ended = gives_nothing(&answer);
         answer
     }
 }
@@ -84,11 +96,7 @@ impl<W: Write> WriteSink<W> {
 }
 
 impl<W: Write> Sink for WriteSink<W> {
-    ghost taken = { λ _. None };
-
-    ghost flushed = { λ _. 0 };
-
-    ghost faults = { λ s. s.faults };
+    ghost seen = { λ s. record { taken = None; flushed = 0; faults = s.faults } };
 
     fn write(&mut self, piece: &[u8]) -> Result<usize, Failed>
         requires { 0 < length piece.now }
@@ -116,6 +124,14 @@ impl<W: Write> Sink for WriteSink<W> {
         count_fault(&mut self.faults, &answer);
         answer
     }
+}
+
+// Whether a read has given nothing.
+fn gives_nothing(answer: &Result<usize, Failed>) -> bool
+    ensures ok { IfOk answer.now (λ n. result ≡ n == 0) }
+    ensures err { OnErr answer.now (result ≡ false) }
+{
+    matches!(answer, Ok(0))
 }
 
 // Counts a fault where the answer is one.
@@ -170,8 +186,8 @@ fn flush_through<W: Write>(writer: &mut W) -> Result<(), Failed>
     Err(Failed)
 }
 
-// What a call of std answers for the whole call, or None where it was interrupted and is to be made again. std's clauses don't say
-// what a flush has done, so that no error is taken for done is said here, of every call.
+// What a call of std answers for the whole call, or None where it was interrupted and is to be made again. No error is taken for done, and
+// no answer for an interruption. That a flush was asked for at all no clause says, since std's clauses don't say what a flush has done.
 fn answer_to<T>(tried: io::Result<T>) -> Option<Result<T, Failed>>
     ensures done { IfOk tried (λ value. result ≡ Some (Ok value)) }
     ensures again { IfErr tried (λ error. error_kind error ≡ ErrorKind.Interrupted → result ≡ None) }

@@ -7,9 +7,10 @@ use Rattle.std.specs.Prelude.{codes}
 use Rattle.std.specs.Str.{bytes_eq}
 use Rattle.std.specs.Str.Parse.{digits_value}
 use Rattle.vt_words.specs.declared.command.Command.TheVariants.{Boot, Load, Build}
-use Rattle.vt_words.specs.declared.command.Command.{Command}
-use Rattle.vt_words.specs.declared.policy.PolicyName.{PolicyName}
-use Rattle.vt_words.specs.Command.{IsLawful, boot_of, build_of, command_of, command_with, fill_of, load_of, policy_of, seed_of, top_of, with_policy_and_seed}
+use Rattle.zone_alloc.specs.declared.policy.Policy.TheVariants.{Low, Top, Scatter}
+use Rattle.vt_words.specs.Command.{IsLawful, boot_of, build_of, command_of, command_with, load_of, top_of}
+use Rattle.vt_words.specs.Policies.{policy_named, HasSeed}
+use Rattle.vt_words.specs.Settings.{IsSetting, fill_of, policy_of, seed_of, setting_of}
 use Rattle.vt_words.specs.Numbers.{byte_from, byte_of, digit_of, is_decimal, number_within}
 use Rattle.vt_words.specs.Options.{Given, are_among, options_of, value_of}
 
@@ -82,33 +83,46 @@ small_seed options =
     chained (λ _. Unit {0}) (λ seed. seed < 2 ^ 64) (number_within 0 (2 ^ 64 - 1)) (λ word _. seed_in_bounds word)
     (value_of (codes "--seed") (codes "0") options) (always (value_of (codes "--seed") (codes "0") options))
 
--- a command is lawful that is made with a seed, where it is with each seed of 64 bits
-lawful_with_seed : (made : PolicyName → ℕ → Command) (options : List Given)
-    → ((policy : PolicyName) (seed : ℕ) → seed < 2 ^ 64 → IsLawful (made policy seed)) → IfSome (with_policy_and_seed made options) IsLawful
-lawful_with_seed made options each =
-    chained (λ _. Unit {0}) IsLawful (λ policy. option_and_then (λ seed. Some (made policy seed)) (seed_of options))
-    (λ policy _.
-    chained (λ seed. seed < 2 ^ 64) IsLawful (λ seed. Some (made policy seed)) (λ seed small. each policy seed small)
-    (seed_of options) (small_seed options)) (policy_of options) (always (policy_of options))
+-- a policy that is named has the seed of the words
+named_has_seed : (seed : ℕ) (word : List ℕ) → IfSome (policy_named seed word) (HasSeed seed)
+named_has_seed seed word =
+    either (HasSeed seed) (bytes_eq word (codes "low")) (Some Low) _ tt
+    (either (HasSeed seed) (bytes_eq word (codes "top")) (Some Top) _ tt
+    (either (HasSeed seed) (bytes_eq word (codes "scatter")) (Some (Scatter seed)) None refl tt))
+
+policy_has_seed : (seed : ℕ) (options : List Given) → IfSome (policy_of seed options) (HasSeed seed)
+policy_has_seed seed options = chained (λ _. Unit {0}) (HasSeed seed) (policy_named seed) (λ word _. named_has_seed seed word)
+    (value_of (codes "--policy") (codes "low") options) (always (value_of (codes "--policy") (codes "low") options))
+
+-- the setting of options is in range
+lawful_setting : (options : List Given) → IfSome (setting_of options) IsSetting
+lawful_setting options =
+    chained (λ fill. fill < 256) IsSetting
+    (λ fill. option_and_then (λ seed. option_and_then (λ policy. Some (record { fill = fill; policy = policy; seed = seed })) (policy_of seed options))
+    (seed_of options))
+    (λ fill small.
+    chained (λ seed. seed < 2 ^ 64) IsSetting
+    (λ seed. option_and_then (λ policy. Some (record { fill = fill; policy = policy; seed = seed })) (policy_of seed options))
+    (λ seed small_too.
+    chained (HasSeed seed) IsSetting (λ policy. Some (record { fill = fill; policy = policy; seed = seed }))
+    (λ policy has. record { fill = small; seed = small_too; policy = has }) (policy_of seed options) (policy_has_seed seed options))
+    (seed_of options) (small_seed options)) (fill_of options) (small_fill options)
 
 -- what boot makes of options is lawful
 lawful_boot : (options : List Given) → IfSome (boot_of options) IsLawful
 lawful_boot options =
     either IsLawful _ _ None
-    (chained (λ fill. fill < 256) IsLawful (λ fill. with_policy_and_seed (Boot fill) options)
-    (λ fill small. lawful_with_seed (Boot fill) options (λ policy seed small_too. (small, small_too)))
-    (fill_of options) (small_fill options)) tt
+    (chained IsSetting IsLawful (λ setting. Some (Boot setting)) (λ setting is. is) (setting_of options) (lawful_setting options)) tt
 
 -- what load makes of options is lawful
 lawful_load : (options : List Given) → IfSome (load_of options) IsLawful
 lawful_load options =
     either IsLawful _ _ None
-    (chained (λ fill. fill < 256) IsLawful (λ fill. option_and_then (λ top_mib. with_policy_and_seed (Load fill top_mib) options) (top_of options))
-    (λ fill small.
-    chained (λ top_mib. (64 ≤ top_mib) × (top_mib ≤ 3072)) IsLawful (λ top_mib. with_policy_and_seed (Load fill top_mib) options)
-    (λ top_mib bounds. lawful_with_seed (Load fill top_mib) options
-    (λ policy seed small_too. (small, bounds.0, bounds.1, small_too))) (top_of options) (top_in_bounds options))
-    (fill_of options) (small_fill options)) tt
+    (chained (λ top_mib. (64 ≤ top_mib) × (top_mib ≤ 3072)) IsLawful
+    (λ top_mib. option_and_then (λ setting. Some (Load top_mib setting)) (setting_of options))
+    (λ top_mib bounds.
+    chained IsSetting IsLawful (λ setting. Some (Load top_mib setting)) (λ setting is. (bounds.0, bounds.1, is)) (setting_of options)
+    (lawful_setting options)) (top_of options) (top_in_bounds options)) tt
 
 lawful_build : (options : List Given) → IfSome (build_of options) IsLawful
 lawful_build options = either IsLawful (are_among [] options) (Some Build) None tt tt

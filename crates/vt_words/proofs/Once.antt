@@ -7,9 +7,10 @@ use Rattle.std.specs.Option.{option_and_then}
 use Rattle.std.specs.Prelude.{codes, ◌||◌}
 use Rattle.std.specs.Str.{bytes_eq}
 use Rattle.vt_words.specs.declared.command.Command.TheVariants.{Boot, Load, Build}
-use Rattle.vt_words.specs.declared.command.Command.{Command}
-use Rattle.vt_words.specs.declared.policy.PolicyName.{PolicyName}
-use Rattle.vt_words.specs.Command.{boot_of, build_of, command_of, command_with, fill_of, load_of, policy_of, seed_of, top_of, with_policy_and_seed}
+use Rattle.vt_words.specs.declared.setting.Setting.{Setting}
+use Rattle.zone_alloc.specs.declared.policy.Policy.{Policy}
+use Rattle.vt_words.specs.Command.{boot_of, build_of, command_of, command_with, load_of, top_of}
+use Rattle.vt_words.specs.Settings.{fill_of, policy_of, seed_of, setting_names, setting_of}
 use Rattle.vt_words.specs.Numbers.{byte_of, number_within}
 use Rattle.vt_words.specs.Options.{Given, are_among, have_values, only, options_of, values_of}
 use Rattle.vt_words.specs.Policies.{policy_named}
@@ -103,44 +104,42 @@ behind : {A B : Type 0} (f : A → Option B) (found : Option A) → IsSome (opti
 behind f (Some a) is = (a, refl, is)
 behind f None is = absurd (cc)
 
--- the policy and the seed of what is made with both are given once at most
-policy_and_seed_once : (made : PolicyName → ℕ → Command) (options : List Given) → IsSome (with_policy_and_seed made options)
-    → AllByRecursion (λ name. length (values_of name options) ≤ 1) (codes "--policy" ∷ codes "--seed" ∷ [])
-policy_and_seed_once made options is =
-    let policy = behind (λ policy. option_and_then (λ seed. Some (made policy seed)) (seed_of options)) (policy_of options) is in
-    let seed = behind (λ seed. Some (made policy.0 seed)) (seed_of options) policy.2 in (
-      once policy_named (codes "low") (values_of (codes "--policy") options) policy.1,
-      (once (number_within 0 (2 ^ 64 - 1)) (codes "0") (values_of (codes "--seed") options) seed.1, tt),
+abbrev setting_with : ℕ → Policy → ℕ → Setting
+setting_with fill policy seed = record { fill = fill; policy = policy; seed = seed }
+
+-- each option of a setting that is given is given once at most
+setting_once : (options : List Given) → IsSome (setting_of options)
+    → AllByRecursion (λ name. length (values_of name options) ≤ 1) setting_names
+setting_once options is =
+    let fill =
+    behind (λ fill. option_and_then (λ seed. option_and_then (λ policy. Some (setting_with fill policy seed)) (policy_of seed options))
+    (seed_of options)) (fill_of options) is in
+    let seed = behind (λ seed. option_and_then (λ policy. Some (setting_with fill.0 policy seed)) (policy_of seed options)) (seed_of options) fill.2 in
+    let policy = behind (λ policy. Some (setting_with fill.0 policy seed.0)) (policy_of seed.0 options) seed.2 in (
+      once byte_of (codes "00") (values_of (codes "--fill") options) fill.1,
+      (
+        once (policy_named seed.0) (codes "low") (values_of (codes "--policy") options) policy.1,
+        (once (number_within 0 (2 ^ 64 - 1)) (codes "0") (values_of (codes "--seed") options) seed.1, tt),
+      ),
     )
 
 -- each option of boot is given once
 boot_once : (options : List Given) → IsSome (boot_of options) → IsDistinct bytes_eq (map (λ option. option.name) options)
 boot_once options is =
-    let given =
-    passed (are_among (codes "--fill" ∷ codes "--policy" ∷ codes "--seed" ∷ []) options)
-    (option_and_then (λ fill. with_policy_and_seed (Boot fill) options) (fill_of options)) is in
-    let fill = behind (λ fill. with_policy_and_seed (Boot fill) options) (fill_of options) given.1 in
-    distinct (codes "--fill" ∷ codes "--policy" ∷ codes "--seed" ∷ []) options given.0
-    (once byte_of (codes "00") (values_of (codes "--fill") options) fill.1, policy_and_seed_once (Boot fill.0) options fill.2)
+    let given = passed (are_among setting_names options) (option_and_then (λ setting. Some (Boot setting)) (setting_of options)) is in
+    let setting = behind (λ setting. Some (Boot setting)) (setting_of options) given.1 in
+    distinct setting_names options given.0 (setting_once options setting.1)
 
 -- each option of load is given once
 load_once : (options : List Given) → IsSome (load_of options) → IsDistinct bytes_eq (map (λ option. option.name) options)
 load_once options is =
     let given =
-    passed (are_among (codes "--fill" ∷ codes "--top" ∷ codes "--policy" ∷ codes "--seed" ∷ []) options)
-    (option_and_then (λ fill. option_and_then (λ top_mib. with_policy_and_seed (Load fill top_mib) options) (top_of options))
-    (fill_of options)) is in
-    let fill =
-    behind (λ fill. option_and_then (λ top_mib. with_policy_and_seed (Load fill top_mib) options) (top_of options))
-    (fill_of options) given.1 in
-    let top = behind (λ top_mib. with_policy_and_seed (Load fill.0 top_mib) options) (top_of options) fill.2 in
-    distinct (codes "--fill" ∷ codes "--top" ∷ codes "--policy" ∷ codes "--seed" ∷ []) options given.0 (
-      once byte_of (codes "00") (values_of (codes "--fill") options) fill.1,
-      (
-        once (number_within 64 3072) (codes "64") (values_of (codes "--top") options) top.1,
-        policy_and_seed_once (Load fill.0 top.0) options top.2,
-      ),
-    )
+    passed (are_among (codes "--top" ∷ setting_names) options)
+    (option_and_then (λ top_mib. option_and_then (λ setting. Some (Load top_mib setting)) (setting_of options)) (top_of options)) is in
+    let top = behind (λ top_mib. option_and_then (λ setting. Some (Load top_mib setting)) (setting_of options)) (top_of options) given.1 in
+    let setting = behind (λ setting. Some (Load top.0 setting)) (setting_of options) top.2 in
+    distinct (codes "--top" ∷ setting_names) options given.0
+    (once (number_within 64 3072) (codes "64") (values_of (codes "--top") options) top.1, setting_once options setting.1)
 
 build_once : (options : List Given) → IsSome (build_of options) → IsDistinct bytes_eq (map (λ option. option.name) options)
 build_once options is = distinct [] options (passed (are_among [] options) (Some Build) is).0 tt

@@ -1,5 +1,5 @@
 -- Numbers and commands as they are written.
-use Rattle.std.proofs.Common.{◌≡◌, ℕ, suc, zero, ◌+◌, ◌*◌, ◌<◌, ◌≤◌, ◌^◌, ◌-◌, ◌/◌, ◌%◌, ◌↔◌, Bool, true, false, cond, leb, length, get_or, List, [], ◌∷◌, Option, Some, None, arith, refl, ap, sym, ◌∙◌}
+use Rattle.std.proofs.Common.{◌≡◌, ℕ, suc, zero, ◌+◌, ◌*◌, ◌<◌, ◌≤◌, ◌^◌, ◌-◌, ◌/◌, ◌%◌, ◌↔◌, Bool, true, false, cond, leb, length, get_or, List, [], ◌∷◌, Option, Some, None, ◌⊎◌, inl, inr, subst, arith, refl, ap, sym, ◌∙◌}
 use Rattle.std.proofs.lemmas.Bool.{and_parts, leb-true}
 use Rattle.std.proofs.lemmas.Bool.Decides.{nat_tests}
 use Rattle.std.proofs.lemmas.Fmt.{decimal-digits_value, decimal_digit, decimal_nonempty, digits_decimal, digits_value-decimal, first_decimal}
@@ -9,9 +9,12 @@ use Rattle.std.specs.Str.Parse.{digits_value}
 use Rattle.vt_words.specs.declared.command.Command.{Command}
 use Rattle.vt_words.specs.declared.command.Command.TheVariants.{Boot, Load, Build}
 use Rattle.vt_words.specs.Command.{IsLawful, command_of}
-use Rattle.vt_words.specs.declared.policy.PolicyName.{PolicyName}
-use Rattle.vt_words.specs.declared.policy.PolicyName.TheVariants.{Low, Top, Scatter}
-use Rattle.vt_words.specs.Policies.{policy_named, word_of}
+use Rattle.std.proofs.lemmas.Slice.Eq.{bytes_eq-Decides}
+use Rattle.std.specs.Str.{bytes_eq}
+use Rattle.std.specs.Prelude.{codes}
+use Rattle.zone_alloc.specs.declared.policy.Policy.{Policy}
+use Rattle.zone_alloc.specs.declared.policy.Policy.TheVariants.{Low, Top, Scatter}
+use Rattle.vt_words.specs.Policies.{policy_named, word_of, HasSeed}
 use Rattle.vt_words.specs.Numbers.{byte_from, byte_of, digit_of, is_decimal, number_within}
 use Rattle.vt_words.specs.Written.{hex_digits, words_of}
 use Rattle.vt_words.proofs.Decimals.{own, digits_of_decimal, decimal_not_empty, is_decimal-nonzero}
@@ -105,10 +108,36 @@ pub two_digits : (word : List ℕ) (byte : ℕ) → (byte_of word ≡ Some byte)
 two_digits word byte = (written_byte word byte, λ h. ap byte_of h.1 ∙ read_byte byte h.0)
 
 -- a policy is what its name names
-read_policy : (policy : PolicyName) → policy_named (word_of policy) ≡ Some policy
-read_policy Low = refl
-read_policy Top = refl
-read_policy Scatter = refl
+read_policy : (seed : ℕ) (policy : Policy) → HasSeed seed policy → policy_named seed (word_of policy) ≡ Some policy
+read_policy seed Low has = refl
+read_policy seed Top has = refl
+read_policy seed (Scatter chosen) has = ap (λ (n : ℕ). Some (Scatter n)) (sym has)
+
+-- what a test of a word says where it gives one
+word_tested : (word name : List ℕ) (named policy : Policy) (rest : Option Policy)
+    → cond (bytes_eq word name) (Some named) rest ≡ Some policy → ((word ≡ name) × (named ≡ policy)) ⊎ (rest ≡ Some policy)
+word_tested word name named policy rest e =
+    elim (bytes_eq word name) as (λ is. (bytes_eq word name ≡ is) → cond is (Some named) rest ≡ Some policy
+    → ((word ≡ name) × (named ≡ policy)) ⊎ (rest ≡ Some policy))
+    [ true ↦ λ same found. inl ((bytes_eq-Decides word name).0 same, cc) | false ↦ λ same found. inr found ] refl e
+
+-- a word that is a policy is the policy's name
+named_policy : (seed : ℕ) (word : List ℕ) (policy : Policy) → policy_named seed word ≡ Some policy → (word ≡ word_of policy) × HasSeed seed policy
+named_policy seed word policy e =
+    elim (word_tested word (codes "low") Low policy _ e) [
+      | inl low ↦ (low.0 ∙ ap word_of low.1, subst (HasSeed seed) low.1 tt)
+      | inr more ↦ elim (word_tested word (codes "top") Top policy _ more) [
+        | inl top ↦ (top.0 ∙ ap word_of top.1, subst (HasSeed seed) top.1 tt)
+        | inr last ↦ elim (word_tested word (codes "scatter") (Scatter seed) policy None last) [
+          | inl scatter ↦ (scatter.0 ∙ ap word_of scatter.1, subst (HasSeed seed) scatter.1 refl)
+          | inr none ↦ absurd (cc)
+        ]
+      ]
+    ]
+
+pub policy_names : (seed : ℕ) (word : List ℕ) (policy : Policy)
+    → (policy_named seed word ≡ Some policy) ↔ ((word ≡ word_of policy) × HasSeed seed policy)
+policy_names seed word policy = (named_policy seed word policy, λ h. ap (policy_named seed) h.0 ∙ read_policy seed policy h.1)
 
 -- a seed is what it's written as
 read_seed : (seed : ℕ) → seed < 2 ^ 64 → number_within 0 (2 ^ 64 - 1) (decimal seed) ≡ Some seed
@@ -116,15 +145,15 @@ read_seed seed small = read_number 0 (2 ^ 64 - 1) seed (omega arith) (omega arit
 
 -- a lawful command is what its words are
 pub read_command : (command : Command) → IsLawful command → command_of (words_of command) ≡ Some command
-read_command (Boot fill policy seed) lawful =
-    let byte = read_byte fill lawful.0 in
-    let named = read_policy policy in
-    let number = read_seed seed lawful.1 in
-    rw (byte, named, number)
-read_command (Load fill top_mib policy seed) lawful =
-    let byte = read_byte fill lawful.0 in
-    let top = read_number 64 3072 top_mib (omega arith) lawful.1 lawful.2 in
-    let named = read_policy policy in
-    let number = read_seed seed lawful.3 in
-    rw (byte, top, named, number)
+read_command (Boot setting) lawful =
+    let byte = read_byte setting.fill lawful.fill in
+    let named = read_policy setting.seed setting.policy lawful.policy in
+    let number = read_seed setting.seed lawful.seed in
+    rw (byte, number, named)
+read_command (Load top_mib setting) lawful =
+    let byte = read_byte setting.fill lawful.2.fill in
+    let top = read_number 64 3072 top_mib (omega arith) lawful.0 lawful.1 in
+    let named = read_policy setting.seed setting.policy lawful.2.policy in
+    let number = read_seed setting.seed lawful.2.seed in
+    rw (top, byte, number, named)
 read_command Build lawful = refl

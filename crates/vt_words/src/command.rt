@@ -1,33 +1,22 @@
 ghost use Rattle.std.specs.Prelude.{◌≡◌, ◌≤◌, map, string_bytes, IfSome};
-ghost use Rattle.vt_words.specs.Command.{IsLawful, boot_of, build_of, command_of, fill_of, load_of, policy_of, seed_of, top_of};
+ghost use Rattle.vt_words.specs.Command.{IsLawful, boot_of, build_of, command_of, load_of, top_of};
 ghost use Rattle.vt_words.specs.Options.{options_of};
 
-use crate::numbers::{byte_of, number_within};
+use crate::numbers::number_within;
 use crate::options::{are_among, have_values, value_of};
-use crate::policy::{PolicyName, policy_named};
+use crate::setting::{Setting, setting_of};
 
 /// What the words of a command line ask for.
 #[derive(Clone, Copy, Debug, PartialEq, Eq)]
 pub enum Command {
     /// Builds a machine's files, loads them, and dumps the guest's memory.
-    Boot {
-        /// What each byte of memory is at the beginning.
-        fill: u8,
-        /// How the guest's allocator chooses where files stand.
-        policy: PolicyName,
-        /// The seed of the events, and of the places that a scattering allocator chooses.
-        seed: u64,
-    },
+    Boot(Setting),
     /// Loads a container's files, and dumps the guest's memory.
     Load {
-        /// What each byte of memory is at the beginning.
-        fill: u8,
         /// The top of memory, in MiB.
         top_mib: u32,
-        /// How the guest's allocator chooses where files stand.
-        policy: PolicyName,
-        /// The seed of the events, and of the places that a scattering allocator chooses.
-        seed: u64,
+        /// How the files are loaded.
+        setting: Setting,
     },
     /// Builds a machine's files, and gives their container.
     Build,
@@ -59,26 +48,19 @@ fn boot_of(options: &[String]) -> Option<Command>
     if !are_among(&["--fill", "--policy", "--seed"], options) {
         return None;
     }
-    Some(Command::Boot {
-        fill: fill_of(options)?,
-        policy: policy_of(options)?,
-        seed: seed_of(options)?,
-    })
+    Some(Command::Boot(setting_of(options)?))
 }
 
 fn load_of(options: &[String]) -> Option<Command>
     ensures command { result ≡ load_of (options_of (map string_bytes options.now)) }
     ensures lawful { IfSome result IsLawful }
 {
-    if !are_among(&["--fill", "--top", "--policy", "--seed"], options) {
+    if !are_among(&["--top", "--fill", "--policy", "--seed"], options) {
         return None;
     }
-    Some(Command::Load {
-        fill: fill_of(options)?,
-        top_mib: top_of(options)?,
-        policy: policy_of(options)?,
-        seed: seed_of(options)?,
-    })
+    let top_mib = top_of(options)?;
+    let setting = setting_of(options)?;
+    Some(Command::Load { top_mib, setting })
 }
 
 fn build_of(options: &[String]) -> Option<Command>
@@ -91,13 +73,6 @@ fn build_of(options: &[String]) -> Option<Command>
     Some(Command::Build)
 }
 
-// The fill byte that the options give.
-fn fill_of(options: &[String]) -> Option<u8>
-    ensures { result ≡ fill_of (options_of (map string_bytes options.now)) }
-{
-    byte_of(value_of("--fill", "00", options)?)
-}
-
 // The top of memory that the options give, in MiB.
 fn top_of(options: &[String]) -> Option<u32>
     ensures top { result ≡ top_of (options_of (map string_bytes options.now)) }
@@ -105,18 +80,4 @@ fn top_of(options: &[String]) -> Option<u32>
 {
     let top_mib = number_within(64, 3072, value_of("--top", "64", options)?)?;
     Some(top_mib as u32)
-}
-
-// The policy that the options give.
-fn policy_of(options: &[String]) -> Option<PolicyName>
-    ensures { result ≡ policy_of (options_of (map string_bytes options.now)) }
-{
-    policy_named(value_of("--policy", "low", options)?)
-}
-
-// The seed that the options give.
-fn seed_of(options: &[String]) -> Option<u64>
-    ensures { result ≡ seed_of (options_of (map string_bytes options.now)) }
-{
-    number_within(0, u64::MAX, value_of("--seed", "0", options)?)
 }

@@ -9,8 +9,8 @@ ghost use Rattle.vt_words.specs.declared.command.Command.{Command};
 ghost use Rattle.vt_words.specs.Command.{IsLawful, command_of};
 ghost use Rattle.vt_words.specs.Numbers.{byte_of, number_within};
 ghost use Rattle.vt_words.specs.Options.{have_values, options_of};
-ghost use Rattle.vt_words.specs.declared.policy.PolicyName.{PolicyName};
-ghost use Rattle.vt_words.specs.Policies.{policy_named, word_of};
+ghost use Rattle.zone_alloc.specs.declared.policy.Policy.{Policy};
+ghost use Rattle.vt_words.specs.Policies.{policy_named, word_of, HasSeed};
 ghost use Rattle.vt_words.specs.Written.{hex_digits, words_of};
 
 /// States that words are the same command in whatever order its options stand.
@@ -47,7 +47,8 @@ pub fn numbers_are_decimal()
         ↔ ((word ≡ decimal number) × (least ≤ number) × (number ≤ most)) }
 {}
 
-/// States that a word is a policy exactly where it's that policy's name.
+/// States that a word is a policy exactly where it's that policy's name, and the policy has no seed but that of the words.
 pub fn policies_are_named()
-    ensures { (word : List ℕ) (policy : PolicyName) → (policy_named word ≡ Some policy) ↔ (word ≡ word_of policy) }
+    ensures { (seed : ℕ) (word : List ℕ) (policy : Policy) → (policy_named seed word ≡ Some policy)
+        ↔ ((word ≡ word_of policy) × HasSeed seed policy) }
 {}

@@ -24,6 +24,7 @@ pub mod laws;
 mod numbers;
 mod options;
 mod policy;
+mod setting;
 
 pub use command::{Command, read_words};
-pub use policy::PolicyName;
+pub use setting::Setting;

@@ -1,25 +1,17 @@
-ghost use Rattle.std.specs.Prelude.{◌≡◌};
-ghost use Rattle.vt_words.specs.Policies.{policy_named};
+ghost use Rattle.std.specs.Prelude.{◌≡◌, IfSome};
+ghost use Rattle.vt_words.specs.Policies.{policy_named, HasSeed};
 
-/// Names how the guest's allocator chooses where a file stands.
-#[derive(Clone, Copy, Debug, PartialEq, Eq)]
-pub enum PolicyName {
-    /// Chooses the lowest place of the zone that the file fits in.
-    Low,
-    /// Chooses the highest.
-    Top,
-    /// Chooses a place by the command's seed.
-    Scatter,
-}
+use zone_alloc::Policy;
 
-// The policy of which this is the name.
-pub(crate) fn policy_named(word: &str) -> Option<PolicyName>
-    ensures { result ≡ policy_named word.now }
+// The policy of which `word` is the name, where `seed` is that of the words.
+pub(crate) fn policy_named(seed: u64, word: &str) -> Option<Policy>
+    ensures policy { result ≡ policy_named seed word.now }
+    ensures seed { IfSome result (HasSeed seed) }
 {
     match word {
-        "low" => Some(PolicyName::Low),
-        "top" => Some(PolicyName::Top),
-        "scatter" => Some(PolicyName::Scatter),
+        "low" => Some(Policy::Low),
+        "top" => Some(Policy::Top),
+        "scatter" => Some(Policy::Scatter(seed)),
         _ => None,
     }
 }

@@ -1,8 +1,8 @@
-ghost use Rattle.std.specs.Prelude.{◌≡◌, ℕ, Bool, true, ◌+◌, ◌<◌, ◌≤◌, List, [], ◌∷◌, ◌++◌, length, Option, Some, None, IfOk, OnOk, OnErr, is_ok};
+ghost use Rattle.std.specs.Prelude.{◌≡◌, ℕ, true, ◌<◌, ◌≤◌, length, Option, IfOk, OnErr, is_ok};
 ghost use Rattle.std.specs.Int.{is_power_of_two};
 ghost use Rattle.std.specs.Result.{result_ok};
-ghost use Rattle.vt_outside.specs.Placement.{Range, IsFree};
-ghost use Rattle.vt_outside.specs.Stream.{next_count};
+ghost use Rattle.vt_outside.specs.Placement.{IsFree};
+ghost use Rattle.zone_alloc.specs.Allocators.{begun_as, with_range, with_refusal};
 ghost use Rattle.zone_alloc.specs.Places.{range_in, HaveAddresses};
 
 use crate::policy::Policy;
@@ -36,30 +36,14 @@ pub struct Request {
 
 /// What gives files their places in the zones of memory.
 pub trait ZoneAlloc {
-    ghost use Rattle.zone_alloc.specs.declared.policy.Policy.{Policy};
-    ghost use Rattle.zone_alloc.specs.declared.zone.Zone.{Zone};
-    ghost use Rattle.zone_alloc.specs.declared.zones.Zones.{Zones};
     ghost use Rattle.zone_alloc.specs.declared.alloc.Request.{Request};
+    ghost use Rattle.zone_alloc.specs.Allocators.{AllocState};
 
-    // The ranges that are handed out, in their order.
-    ghost handed: { Self → List Range };
+    // What it was begun with, the ranges that are handed out, and what it has refused.
+    ghost state: { Self → AllocState };
 
-    // The zones and the policy of the last `begin`.
-    ghost zones: { Self → Zones };
-
-    ghost policy: { Self → Policy };
-
-    // How many places were refused. A count that is kept in a u64 stays at its last value.
-    ghost refusals: { Self → ℕ };
-
-    // The last request, if it was refused.
-    ghost refused: { Self → Option Request };
-
-    // The last `begin` had memory.
-    ghost begun: { Self → Bool };
-
-    // Where it may place a file of this size and align in this zone, or None for a refusal.
-    ghost gives: { Self → Zone → ℕ → ℕ → Option ℕ → Type 0 };
+    // Where it may place what a request asks for, or None for a refusal.
+    ghost gives: { Self → Request → Option ℕ → Type 0 };
 
     /// Hands nothing out any more, and takes the zones of `within`, each of which must have an address, and the policy `by`. Memory for
     /// [`MOST_RANGES`] ranges is reserved from `alloc` here, so that `place` takes none. The count of refusals stays.
@@ -67,12 +51,7 @@ pub trait ZoneAlloc {
     /// On `OutOfMemory` there is no memory for so many ranges, and `place` can't be called before another `begin`.
     fn begin(&mut self, alloc: Global, within: Zones, by: Policy) -> Result<(), OutOfMemory>
         requires { HaveAddresses within }
-        ensures none { handed self.new ≡ [] }
-        ensures zones { zones self.new ≡ within }
-        ensures policy { policy self.new ≡ by }
-        ensures clear { refused self.new ≡ None }
-        ensures count { refusals self.new ≡ refusals self.old }
-        ensures begun { begun self.new ≡ is_ok result };
+        ensures { state self.new ≡ begun_as within by (is_ok result) (state self.old) };
 
     /// Returns a place in `zone` for a file of `size` bytes, at least 1: a multiple of `align`, a power of two, from which the
     /// file lies in the zone and apart from each range that was handed out. The file's range is handed out then. Before it,
@@ -80,22 +59,14 @@ pub trait ZoneAlloc {
     ///
     /// On `NoRoom` nothing is handed out. The refusal is counted, where the count isn't full.
     fn place(&mut self, zone: Zone, size: u32, align: u32) -> Result<u64, NoRoom>
-        requires begun { begun self.old ≡ true }
-        requires room { length (handed self.old) < 1024 }
+        requires begun { (state self.old).begun.ready ≡ true }
+        requires room { length (state self.old).handed < 1024 }
         requires size { 0 < size }
         requires align { is_power_of_two align ≡ true }
-        ensures lawful { IfOk result (λ place. IsFree (range_in (zones self.old) zone) (handed self.old) size align place) }
-        ensures handed { IfOk result (λ place. handed self.new ≡ handed self.old ++ record { start = place; end = place + size } ∷ []) }
-        ensures sound { OnOk result (refusals self.new ≡ refusals self.old) }
-        ensures clear { OnOk result (refused self.new ≡ None) }
-
-        ensures kept { OnErr result (handed self.new ≡ handed self.old) }
-        ensures counted { OnErr result (refusals self.new ≡ next_count (refusals self.old)) }
-        ensures asked { OnErr result (refused self.new ≡ Some (record { zone = zone; size = size; align = align })) }
-
-        ensures gives { gives self.old zone size align (result_ok result) }
-        ensures never_falls { refusals self.old ≤ refusals self.new }
-        ensures zones { zones self.new ≡ zones self.old }
-        ensures policy { policy self.new ≡ policy self.old }
-        ensures begun { begun self.new ≡ begun self.old };
+        ensures lawful { IfOk result (λ place. IsFree (range_in (state self.old).begun.zones zone) (state self.old).handed size align place) }
+        ensures ok { IfOk result (λ place.
+            state self.new ≡ with_range (record { zone = zone; size = size; align = align }) place (state self.old)) }
+        ensures err { OnErr result (state self.new ≡ with_refusal (record { zone = zone; size = size; align = align }) (state self.old)) }
+        ensures gives { gives self.old (record { zone = zone; size = size; align = align }) (result_ok result) }
+        ensures never_falls { (state self.old).refusals ≤ (state self.new).refusals };
 }

@@ -1,13 +1,12 @@
-ghost use Rattle.std.specs.Prelude.{◌≡◌, true, false, ◌+◌, ◌<◌, ◌≤◌, [], ◌∷◌, ◌++◌, length, Some, None, IfOk, OnErr, is_ok};
+ghost use Rattle.std.specs.Prelude.{◌≡◌, true, ◌<◌, ◌≤◌, length, IfOk, OnErr, is_ok};
 ghost use Rattle.std.specs.Int.{is_power_of_two};
 ghost use Rattle.std.specs.Result.{result_ok};
 ghost use Rattle.vt_outside.specs.Placement.{IsFree};
 ghost use Rattle.vt_outside.specs.Stream.{next_count};
-ghost use Rattle.zone_alloc.specs.declared.policy.Policy.TheVariants.{Low};
 ghost use Rattle.zone_alloc.specs.Places.{range_in, HaveAddresses};
-ghost use Rattle.zone_alloc.specs.Allocators.{failing_gives, no_zones};
+ghost use Rattle.zone_alloc.specs.Allocators.{before_begin, begun_as, with_range, with_refusal, failing_gives};
 
-use crate::alloc::{NoRoom, ZoneAlloc};
+use crate::alloc::{NoRoom, Request, ZoneAlloc};
 use crate::policy::Policy;
 use crate::shelf::ShelfAlloc;
 use crate::zone::Zone;
@@ -36,11 +35,7 @@ impl FailingAlloc {
     /// Makes an allocator that has no zones yet and has refused nothing. `fails` lists the calls of `place` that are refused, each
     /// by its number: all these calls are counted, from 0, and the count goes on over each `begin`. It takes no memory.
     pub fn new(fails: List<u32>) -> FailingAlloc
-        ensures { result ≡ record {
-          shelf = record { handed = []; zones = no_zones; policy = Low; refusals = 0; refused = None; begun = false };
-          fails = fails;
-          calls = 0;
-        } }
+        ensures { result ≡ record { shelf = before_begin; fails = fails; calls = 0 } }
     {
         FailingAlloc {
             shelf: ShelfAlloc::new(),
@@ -51,56 +46,31 @@ impl FailingAlloc {
 }
 
 impl ZoneAlloc for FailingAlloc {
-    ghost handed = { λ f. f.shelf.handed };
-
-    ghost zones = { λ f. f.shelf.zones };
-
-    ghost policy = { λ f. f.shelf.policy };
-
-    ghost refusals = { λ f. f.shelf.refusals };
-
-    ghost refused = { λ f. f.shelf.refused };
-
-    ghost begun = { λ f. f.shelf.begun };
+    ghost state = { λ f. f.shelf };
 
     ghost gives = { failing_gives };
 
     fn begin(&mut self, alloc: Global, within: Zones, by: Policy) -> Result<(), OutOfMemory>
         requires { HaveAddresses within }
-        ensures { self.new ≡ record self.old {
-          shelf = record {
-            handed = [];
-            zones = within;
-            policy = by;
-            refusals = self.old.shelf.refusals;
-            refused = None;
-            begun = is_ok result;
-          };
-        } }
+        ensures { self.new ≡ record self.old { shelf = begun_as within by (is_ok result) self.old.shelf } }
     {
         self.shelf.begin(alloc, within, by)
     }
 
     fn place(&mut self, zone: Zone, size: u32, align: u32) -> Result<u64, NoRoom>
-        requires begun { self.old.shelf.begun ≡ true }
+        requires begun { self.old.shelf.begun.ready ≡ true }
         requires room { length self.old.shelf.handed < 1024 }
         requires size { 0 < size }
         requires align { is_power_of_two align ≡ true }
         // A listed call is refused, and another one is answered as by a `ShelfAlloc`.
-        ensures gives { failing_gives self.old zone size align (result_ok result) }
-        ensures lawful { IfOk result (λ place. IsFree (range_in self.old.shelf.zones zone) self.old.shelf.handed size align place) }
+        ensures gives { failing_gives self.old (record { zone = zone; size = size; align = align }) (result_ok result) }
+        ensures lawful { IfOk result (λ place. IsFree (range_in self.old.shelf.begun.zones zone) self.old.shelf.handed size align place) }
         ensures ok { IfOk result (λ place. self.new ≡ record self.old {
-          shelf = record self.old.shelf {
-            handed = self.old.shelf.handed ++ record { start = place; end = place + size } ∷ [];
-            refused = None;
-          };
+          shelf = with_range (record { zone = zone; size = size; align = align }) place self.old.shelf;
           calls = next_count self.old.calls;
         }) }
         ensures err { OnErr result (self.new ≡ record self.old {
-          shelf = record self.old.shelf {
-            refusals = next_count self.old.shelf.refusals;
-            refused = Some (record { zone = zone; size = size; align = align });
-          };
+          shelf = with_refusal (record { zone = zone; size = size; align = align }) self.old.shelf;
           calls = next_count self.old.calls;
         }) }
         ensures never_falls { self.old.shelf.refusals ≤ self.new.shelf.refusals }
@@ -108,7 +78,7 @@ impl ZoneAlloc for FailingAlloc {
         let call = self.calls;
         self.calls = self.calls.saturating_add(1);
         if is_listed(self.fails.as_slice(), call) {
-            self.shelf.refuse(zone, size, align);
+            self.shelf.refuse(Request { zone, size, align });
             return Err(NoRoom);
         }
         self.shelf.place(zone, size, align)

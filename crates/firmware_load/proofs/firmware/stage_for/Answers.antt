@@ -1,6 +1,6 @@
 use Rattle.std.proofs.Common.{List, ℕ, ap, ◌∙◌}
-use Rattle.load_machine.specs.Machine.{listed_named}
-use Rattle.load_machine.specs.Steps.{stage_for}
+use Rattle.load_states.specs.LoadState.{listed_named}
+use Rattle.load_states.specs.Steps.{stage_for}
 use Rattle.firmware_load.proofs.firmware.stage_for.Goals as goal
 
 pub returns-in-None : goal.returns-in-None

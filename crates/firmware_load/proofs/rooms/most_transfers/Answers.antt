@@ -1,5 +1,5 @@
 use Rattle.std.proofs.Common.{arith, length, ap}
-use Rattle.load_machine.specs.Moves.{pieces_of}
+use Rattle.load_states.specs.Moves.{pieces_of}
 use Rattle.firmware_load.proofs.RoomOfLoads.{transfers_are}
 use Rattle.firmware_load.proofs.rooms.most_transfers.Goals as goal
 

@@ -1,7 +1,7 @@
 use Rattle.std.proofs.Common.{◌≡◌, ◌≤◌, Some, length, arith, sym, ap, ◌∙◌}
 use Rattle.std.specs.Option.{option_copied}
 use Rattle.cfg_directory.specs.Items.{named}
-use Rattle.image_files.specs.Items.{loader_name}
+use Rattle.loader_script.specs.LoaderName.{loader_name}
 use Rattle.firmware_load.proofs.RoomOfLoads.{loader_small}
 use Rattle.firmware_load.proofs.rooms.script_size.Goals as goal
 

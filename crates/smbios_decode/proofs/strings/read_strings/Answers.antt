@@ -1,6 +1,7 @@
-use Rattle.std.proofs.Common.{◌+◌, arith, sym, ◌∙◌}
+use Rattle.std.proofs.Common.{◌+◌, take, arith, refl, sym, ◌∙◌}
 use Rattle.std.proofs.lemmas.List.{length-take-le}
-use Rattle.smbios_decode.proofs.Pieces.{Begins, both_within, strings_begin, none_begin, no_strings}
+use Rattle.smbios_decode.specs.Faults.{BeginsStrings}
+use Rattle.smbios_decode.proofs.Pieces.{Begins, pieces, on_err, both_within, strings_begin, none_begin, no_strings}
 use Rattle.smbios_decode.proofs.strings.read_strings.Goals as goal
 use Rattle.smbios_decode.proofs.strings.read_strings.Goals.{then-end-eq0, else-end-eq0+in_ok-texts}
 
@@ -14,6 +15,13 @@ slice_bounds-texts_in-end c =
 
 pub overflow_add-result : goal.overflow_add-result
 overflow_add-result c = omega (arith, both_within c.args.bytes.now c.in-Some.end c.in-Some.ensures.some.0)
+
+pub returns-in_err-texts-clause-no_memory : goal.returns-in_err-texts-clause-no_memory
+returns-in_err-texts-clause-no_memory c =
+    let bytes = c.args.bytes.now in
+    let strings = pieces (take c.in-Some.end bytes) in
+    let begins = strings_begin bytes c.in-Some.end strings c.in-Some.ensures.some c.if-end-eq0.false refl in
+    on_err c.from_residual.result (BeginsStrings bytes) (strings, begins.rest, begins.are, begins.split)
 
 pub returns-clause-found : goal.returns-clause-found
 returns-clause-found c =

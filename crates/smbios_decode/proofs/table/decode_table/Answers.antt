@@ -1,4 +1,4 @@
-use Rattle.std.proofs.Common.{Ok, Err}
+use Rattle.std.proofs.Common.{Ok, Err, ⊎_elim}
 use Rattle.smbios_decode.proofs.OneReading.{as_meant}
 use Rattle.smbios_decode.proofs.table.decode_table.Goals as goal
 
@@ -9,3 +9,8 @@ returns-clause-reads c =
 pub returns-clause-refuses : goal.returns-clause-refuses
 returns-clause-refuses c =
     λ fault means. as_meant c.args.bytes.now c.decode.result (Err fault) c.decode.ensures.read c.decode.ensures.refused means
+
+pub returns-clause-at_once : goal.returns-clause-at_once
+returns-clause-at_once c = λ fault means none.
+    ⊎_elim (λ told. told) (λ want. absurd (none (c.decode.ensures.no_memory want)))
+    (as_meant c.args.bytes.now c.decode.result (Err fault) c.decode.ensures.read c.decode.ensures.refused means)

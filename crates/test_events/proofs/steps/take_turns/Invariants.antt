@@ -1,12 +1,12 @@
 use Rattle.std.proofs.Common.{◌≡◌, true, IsSome, IfSome}
-use Rattle.script_load.specs.Allocators.{AreZonesOf}
-use Rattle.script_load.specs.FilesInMemory.{placed_ranges}
+use Rattle.command_acts.specs.Allocators.{AreZonesOf}
+use Rattle.command_acts.specs.FilesInMemory.{placed_ranges}
 use Rattle.test_events.proofs.steps.take_turns.Given as goal
 
 abbrev pub invariant-loop : goal.invariant-loop
 invariant-loop g l = record {
   some : IsSome l.world;
-  begun : g.A.ZoneAlloc.begun l.place ≡ true;
-  zones : AreZonesOf 0x4000000 (g.A.ZoneAlloc.zones l.place);
-  handed : IfSome l.world (λ w. g.A.ZoneAlloc.handed l.place ≡ placed_ranges w.placed);
+  begun : (g.A.ZoneAlloc.state l.place).begun.ready ≡ true;
+  zones : AreZonesOf 0x4000000 (g.A.ZoneAlloc.state l.place).begun.zones;
+  handed : IfSome l.world (λ w. (g.A.ZoneAlloc.state l.place).handed ≡ placed_ranges w.placed);
 }

@@ -3,6 +3,6 @@ use Rattle.test_zones.proofs.rows.are_placed.Given as goal
 
 abbrev pub invariant-loop-row : goal.invariant-loop-row
 invariant-loop-row g l = record {
-  begun : g.A.ZoneAlloc.begun l.alloc ≡ true;
-  grown : length (g.A.ZoneAlloc.handed l.alloc) ≤ length (g.A.ZoneAlloc.handed l.fn.alloc) + l.row-index;
+  begun : (g.A.ZoneAlloc.state l.alloc).begun.ready ≡ true;
+  grown : length (g.A.ZoneAlloc.state l.alloc).handed ≤ length (g.A.ZoneAlloc.state l.fn.alloc).handed + l.row-index;
 }

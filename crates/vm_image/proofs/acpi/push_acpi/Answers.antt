@@ -4,8 +4,7 @@ use Rattle.table_model.specs.Acpi.{IsWritable}
 use Rattle.table_model.proofs.AcceptedAcpi.{accepted_fits}
 use Rattle.table_model.proofs.Walked.{machine_writable}
 use Rattle.vm_image.specs.Image.{acpi_files, acpi_part, acpi_placed}
-use Rattle.vm_image.specs.AcpiHeld.{IsAcpiImage}
-use Rattle.vm_image.specs.Promised.{AreAcpiKnown}
+use Rattle.vm_image.specs.AcpiHeld.{AreAcpiKnown, IsAcpiImage}
 use Rattle.vm_image.proofs.Pushed.{on_ok}
 use Rattle.vm_image.proofs.acpi.push_acpi.Goals as goal
 

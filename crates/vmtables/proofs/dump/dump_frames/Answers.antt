@@ -1,12 +1,12 @@
-use Rattle.std.proofs.Common.{refl, ap, ◌∙◌}
-use Rattle.script_load.proofs.OneCommand.{on_err}
+use Rattle.std.proofs.Common.{ap, ◌∙◌}
+use Rattle.command_acts.proofs.OneCommand.{on_err}
 use Rattle.vmtables.proofs.Rows.{rows_none}
 use Rattle.vmtables.proofs.Frames.{frame_ram, frame_took, frame_passed, frame_failed}
 use Rattle.vmtables.proofs.dump.dump_frames.Goals as goal
 use Rattle.vmtables.proofs.dump.dump_frames.Goals.{then-may_have_lines+in_ok-dump_frame, else-may_have_lines}
 
 pub loop-k-init : goal.loop-k-init
-loop-k-init g c = record { so_far = rows_none _ _ _; unflushed = refl; sound = refl }
+loop-k-init g c = rows_none _ _ _
 
 pub may_have_lines-requires-clause-ram : goal.may_have_lines-requires-clause-ram
 may_have_lines-requires-clause-ram g c = frame_ram _ _ c.args.count _ c.requires.ram c.loop-k-test.true
@@ -17,20 +17,13 @@ dump_frame-requires-clause-ram g c = frame_ram _ _ c.args.count _ c.requires.ram
 pub returns-in_err-dump_frame-clause-front : goal.returns-in_err-dump_frame-clause-front
 returns-in_err-dump_frame-clause-front g c =
     on_err c.from_residual.result _
-    (frame_failed _ _ _ c.args.memory.now c.args.start _ c.args.count c.loop-k-test.true c.loop-k.invariant.so_far c.in_err-dump_frame.ensures.front)
+    (frame_failed _ _ _ c.args.memory.now c.args.start _ c.args.count c.loop-k-test.true c.loop-k.invariant c.in_err-dump_frame.ensures.front)
 
 pub loop-k-preserved : goal.loop-k-preserved
 loop-k-preserved g c =
     elim c.if-may_have_lines.branch [
-      | then-may_have_lines+in_ok-dump_frame w ↦ record {
-        so_far = ap g.K.Sink.taken w.out-is ∙ frame_took _ _ _ c.args.memory.now c.args.start _ c.loop-k.invariant.so_far w.in_ok-dump_frame.ensures.ok;
-        unflushed = ap g.K.Sink.flushed w.out-is ∙ w.in_ok-dump_frame.ensures.unflushed ∙ c.loop-k.invariant.unflushed;
-        sound = ap g.K.Sink.faults w.out-is ∙ w.in_ok-dump_frame.ensures.sound ∙ c.loop-k.invariant.sound;
-      }
-      | else-may_have_lines w ↦ record {
-        so_far = ap g.K.Sink.taken w.out-is
-            ∙ frame_passed _ _ c.args.memory.now c.args.start _ c.loop-k.invariant.so_far (c.may_have_lines.ensures w.if-may_have_lines.false);
-        unflushed = ap g.K.Sink.flushed w.out-is ∙ c.loop-k.invariant.unflushed;
-        sound = ap g.K.Sink.faults w.out-is ∙ c.loop-k.invariant.sound;
-      }
+      | then-may_have_lines+in_ok-dump_frame w ↦ ap g.K.Sink.seen w.out-is
+          ∙ frame_took _ _ _ c.args.memory.now c.args.start _ c.loop-k.invariant w.in_ok-dump_frame.ensures.ok
+      | else-may_have_lines w ↦ ap g.K.Sink.seen w.out-is
+          ∙ frame_passed _ _ c.args.memory.now c.args.start _ c.loop-k.invariant (c.may_have_lines.ensures w.if-may_have_lines.false)
     ]

@@ -1,8 +1,8 @@
 use Rattle.std.proofs.Common.{subst}
 use Rattle.std.proofs.lemmas.Result.{on_ok_weaker, on_err_weaker}
-use Rattle.vmtables.specs.Output.{Took}
-use Rattle.script_load.proofs.OneCommand.{on_err}
-use Rattle.vmtables.proofs.Taken.{took_then, front_then}
+use Rattle.vt_outside.specs.Stream.{Took}
+use Rattle.command_acts.proofs.OneCommand.{on_err}
+use Rattle.vt_outside.proofs.Taken.{took_then, front_then}
 use Rattle.vmtables.proofs.Parts.{header_is, header_failed, lines_failed, last_failed, all_taken}
 use Rattle.vmtables.proofs.dump.dump_to.Goals as goal
 
@@ -14,20 +14,20 @@ returns-in_err-write_all-clause-front g c =
 pub returns-in_err-dump_ranges-clause-front : goal.returns-in_err-dump_ranges-clause-front
 returns-in_err-dump_ranges-clause-front g c =
     let header = header_is c.args.memory.now _ _ _ c.header.ensures c.top.ensures.value c.fill.ensures in
-    let first = subst (Took (g.K.Sink.taken c.args.out.now) (g.K.Sink.taken c.write_all.new.out)) header c.in_ok-write_all.ensures.ok in
+    let first = subst (λ text. Took text (g.K.Sink.seen c.args.out.now) (g.K.Sink.seen c.write_all.new.out)) header c.in_ok-write_all.ensures.ok in
     on_err c.from_residual-in_err-dump_ranges.result _
     (lines_failed _ _ c.args.memory.now (front_then _ _ _ _ _ first c.in_err-dump_ranges.ensures.front))
 
 pub returns-clause-ok : goal.returns-clause-ok
 returns-clause-ok g c =
     let header = header_is c.args.memory.now _ _ _ c.header.ensures c.top.ensures.value c.fill.ensures in
-    let first = subst (Took (g.K.Sink.taken c.args.out.now) (g.K.Sink.taken c.write_all.new.out)) header c.in_ok-write_all.ensures.ok in
+    let first = subst (λ text. Took text (g.K.Sink.seen c.args.out.now) (g.K.Sink.seen c.write_all.new.out)) header c.in_ok-write_all.ensures.ok in
     let lines = took_then _ _ _ _ _ first c.in_ok-dump_ranges.ensures.ok in
     on_ok_weaker c.write_all-2.result (all_taken _ _ _ c.args.memory.now lines) c.write_all-2.ensures.ok
 
 pub returns-clause-front : goal.returns-clause-front
 returns-clause-front g c =
     let header = header_is c.args.memory.now _ _ _ c.header.ensures c.top.ensures.value c.fill.ensures in
-    let first = subst (Took (g.K.Sink.taken c.args.out.now) (g.K.Sink.taken c.write_all.new.out)) header c.in_ok-write_all.ensures.ok in
+    let first = subst (λ text. Took text (g.K.Sink.seen c.args.out.now) (g.K.Sink.seen c.write_all.new.out)) header c.in_ok-write_all.ensures.ok in
     let lines = took_then _ _ _ _ _ first c.in_ok-dump_ranges.ensures.ok in
     on_err_weaker c.write_all-2.result (last_failed _ _ _ c.args.memory.now lines) c.write_all-2.ensures.front

@@ -5,9 +5,9 @@ use Rattle.vmtables.proofs.input.read_to_end.Given as goal
 
 abbrev pub invariant-loop-piece : goal.invariant-loop-piece
 invariant-loop-piece g l = record {
-  given : g.S.Source.left l.initial.source ≡ in_front l.bytes (g.S.Source.left l.source);
+  given : (g.S.Source.seen l.initial.source).left ≡ in_front l.bytes (g.S.Source.seen l.source).left;
   within : length l.bytes ≤ input_limit;
-  sound : g.S.Source.faults l.source ≡ g.S.Source.faults l.initial.source;
+  sound : (g.S.Source.seen l.source).faults ≡ (g.S.Source.seen l.initial.source).faults;
   some : 0 < length l.piece.items;
 }
 

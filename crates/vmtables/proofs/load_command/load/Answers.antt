@@ -1,34 +1,44 @@
 use Rattle.std.proofs.Common.{refl}
-use Rattle.script_load.specs.Allocators.{MayAnswer}
-use Rattle.vmtables.specs.Load.{LoadMakes}
-use Rattle.vmtables.proofs.Endings.{cut_off, refused, dump_wrote, wrote_streams}
+use Rattle.command_acts.specs.Allocators.{MayAnswer}
+use Rattle.vmtables.specs.Load.{LoadMakes, loaded}
+use Rattle.vmtables.proofs.Endings.{cut_off, ended_so, refused, dump_wrote, dump_streams, quiet_streams}
+use Rattle.vmtables.proofs.QuietFaults.{container_quiet}
 use Rattle.vmtables.proofs.load_command.load.Goals as goal
 
 pub returns-in_err-bytes-clause-ran : goal.returns-in_err-bytes-clause-ran
 returns-in_err-bytes-clause-ran g c =
-    cut_off (LoadMakes (MayAnswer g.A.ZoneAlloc.handed g.A.ZoneAlloc.zones g.A.ZoneAlloc.policy g.A.ZoneAlloc.gives) c.args.fill c.args.top_mib c.args.policy c.args.seed)
-    c.in_err-bytes.field-0.0 c.from_residual.result _ _ _ _ c.from_residual.ensures.1
+    let read = c.in_err-bytes.ensures in
+    cut_off (LoadMakes (MayAnswer g.A.ZoneAlloc.state g.A.ZoneAlloc.gives) c.args.top_mib c.args.setting.now) c.in_err-bytes.field-0.0 c.from_residual.result _ _ _ _ read.failed read.too_long
+    c.from_residual.ensures.1
 
 pub returns-in_err-load_container-clause-ran : goal.returns-in_err-load_container-clause-ran
 returns-in_err-load_container-clause-ran g c =
     let read = c.in_ok-bytes.ensures in
     let failed = c.in_err-load_container in
     let answer = c.from_residual-in_err-load_container in
-    refused (LoadMakes (MayAnswer g.A.ZoneAlloc.handed g.A.ZoneAlloc.zones g.A.ZoneAlloc.policy g.A.ZoneAlloc.gives) c.args.fill c.args.top_mib c.args.policy c.args.seed)
-    c.in_ok-bytes.bytes c.in_ok-bytes.bytes failed.field-0.0 answer.result _ _ _ _ _ read.given read.end refl failed.ensures.err answer.ensures.1
+    refused (LoadMakes (MayAnswer g.A.ZoneAlloc.state g.A.ZoneAlloc.gives) c.args.top_mib c.args.setting.now) c.in_ok-bytes.bytes c.in_ok-bytes.bytes failed.field-0.0 answer.result _ _ _ _ _
+    (ended_so _ _ _ read.given read.end read.ended) refl failed.ensures.err answer.ensures.1
 
 pub returns-clause-ran : goal.returns-clause-ran
 returns-clause-ran g c =
     let read = c.in_ok-bytes.ensures in
     let written = c.write_dump.ensures in
-    let loaded = c.in_ok-load_container.ensures.ok in
-    dump_wrote (LoadMakes (MayAnswer g.A.ZoneAlloc.handed g.A.ZoneAlloc.zones g.A.ZoneAlloc.policy g.A.ZoneAlloc.gives) c.args.fill c.args.top_mib c.args.policy c.args.seed)
-    c.write_dump.result c.in_ok-bytes.bytes loaded.2.world _ _ _ _ _ _ read.given read.end loaded.2.world_is (loaded.0, loaded.1, loaded.2, refl)
-    written.dumped written.fault written.front
+    let is = c.in_ok-load_container.ensures.ok in
+    dump_wrote (LoadMakes (MayAnswer g.A.ZoneAlloc.state g.A.ZoneAlloc.gives) c.args.top_mib c.args.setting.now) c.write_dump.result c.in_ok-bytes.bytes is.2.world _ _ _ _ _ _
+    (ended_so _ _ _ read.given read.end read.ended) is.2.world_is (loaded is.0 is.1 is.2 refl) written.ok written.fault written.front
 
 pub returns-clause-streams : goal.returns-clause-streams
 returns-clause-streams g c =
     let read = c.in_ok-bytes.ensures in
     let written = c.write_dump.ensures in
-    wrote_streams c.write_dump.result c.in_ok-bytes.bytes _ _ _ _ (read.sound (λ is. cc)) read.too_long written.flushed written.fault written.unflushed
-    written.write_fault written.sound
+    let is = c.in_ok-load_container.ensures.ok in
+    dump_streams c.write_dump.result c.in_ok-bytes.bytes is.2.world _ _ _ _ _ (read.sound (λ failed. cc)) read.too_long is.2.world_is
+    written.ok written.fault written.front
+
+pub returns-in_err-load_container-clause-streams : goal.returns-in_err-load_container-clause-streams
+returns-in_err-load_container-clause-streams g c =
+    let read = c.in_ok-bytes.ensures in
+    let failed = c.in_err-load_container in
+    let answer = c.from_residual-in_err-load_container in
+    quiet_streams failed.field-0.0 answer.result c.in_ok-bytes.bytes _ _ _ (container_quiet _ _ _ _ _ _ failed.field-0.0 failed.ensures.err)
+    answer.ensures.1 (read.sound (λ is. cc)) read.too_long

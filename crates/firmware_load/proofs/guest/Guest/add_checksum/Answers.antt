@@ -1,5 +1,5 @@
-use Rattle.image_files.specs.Items.{files_of}
-use Rattle.script_load.proofs.OneCommand.{sum_can}
+use Rattle.cfg_directory.specs.Files.{files_of}
+use Rattle.command_acts.proofs.OneCommand.{sum_can}
 use Rattle.firmware_load.proofs.CommandsDone.{sum_done}
 use Rattle.firmware_load.proofs.guest.Guest.add_checksum.Goals as goal
 

@@ -1,5 +1,5 @@
-use Rattle.image_files.specs.Items.{files_of}
-use Rattle.script_load.proofs.OneCommand.{pointer_can}
+use Rattle.cfg_directory.specs.Files.{files_of}
+use Rattle.command_acts.proofs.OneCommand.{pointer_can}
 use Rattle.firmware_load.proofs.CommandsDone.{pointer_done, pointer_refused}
 use Rattle.firmware_load.proofs.guest.Guest.add_pointer.Goals as goal
 

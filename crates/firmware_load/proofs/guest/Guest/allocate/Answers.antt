@@ -1,6 +1,7 @@
-use Rattle.std.proofs.Common.{Some, None, refl}
-use Rattle.image_files.specs.Items.{files_of}
-use Rattle.script_load.specs.Allocators.{MayAnswer}
+use Rattle.std.proofs.Common.{Some, None, refl, ap}
+use Rattle.cfg_directory.specs.Files.{files_of}
+use Rattle.zone_alloc.specs.Allocators.{AllocState}
+use Rattle.command_acts.specs.Allocators.{MayAnswer}
 use Rattle.firmware_load.proofs.Allocating.{IsAllocating, allocating, is_listed, distinct_placements, few_handed, handed_more, may_answer}
 use Rattle.firmware_load.proofs.Allocating.{asks, was_asked, same_index, goes_placed, goes_without}
 use Rattle.firmware_load.proofs.guest.Guest.allocate.Given as given
@@ -28,8 +29,8 @@ numbered-requires g c = (allocating _ _ _ _ _ _ c.requires.ready c.requires.earl
 
 pub place-requires-clause-room : goal.place-requires-clause-room
 place-requires-clause-room g c =
-    few_handed c.args.self.now.device.items c.args.self.now.placements.placed.items (g.A.ZoneAlloc.handed c.args.place.now) c.requires.ready.items
-    (asked_for g c).fewer c.requires.handed
+    few_handed c.args.self.now.device.items c.args.self.now.placements.placed.items (g.A.ZoneAlloc.state c.args.place.now).handed
+    c.requires.ready.items (asked_for g c).fewer c.requires.handed
 
 pub place-requires-clause-size : goal.place-requires-clause-size
 place-requires-clause-size g c = (asked_for g c).some
@@ -49,11 +50,10 @@ bring-requires-clause-fresh g c = (given_place g c).fresh
 
 pub returns-in-Ok-clause-goes : goal.returns-in-Ok-clause-goes
 returns-in-Ok-clause-goes g c = λ script.
-    goes_placed (MayAnswer g.A.ZoneAlloc.handed g.A.ZoneAlloc.zones g.A.ZoneAlloc.policy g.A.ZoneAlloc.gives (g.A.ZoneAlloc.zones c.args.place.now)
-    (g.A.ZoneAlloc.policy c.args.place.now))
+    goes_placed (MayAnswer g.A.ZoneAlloc.state g.A.ZoneAlloc.gives (g.A.ZoneAlloc.state c.args.place.now).begun)
     c.args.self.now c.bring.new.self c.args.listed.now script c.args.name.now c.args.align c.args.zone c.args.index c.in-Ok.at
     c.listed_of-file.result.now (brought g c) c.listed_of-file.ensures
-    (may_answer g.A.ZoneAlloc.handed g.A.ZoneAlloc.zones g.A.ZoneAlloc.policy g.A.ZoneAlloc.gives c.args.place.now
+    (may_answer g.A.ZoneAlloc.state g.A.ZoneAlloc.gives c.args.place.now
     (files_of c.args.self.now.device.items) c.args.self.now.placements.placed.items c.args.name.now c.args.align c.args.zone
     c.listed_of-file.result.now.size (Some c.in-Ok.at) (brought g c).size c.requires.handed (rw c.numbered.ensures at c.in-Ok.ensures.gives)
     (rw c.numbered.ensures at c.in-Ok.ensures.lawful))
@@ -62,7 +62,7 @@ returns-in-Ok-clause-goes g c = λ script.
 pub returns-in-Ok-clause-handed : goal.returns-in-Ok-clause-handed
 returns-in-Ok-clause-handed g c =
     handed_more _ _ _ _ (record { name = c.listed_of-file.result.now.name; place = c.in-Ok.at; size = c.listed_of-file.result.now.size })
-    c.requires.handed c.in-Ok.ensures.handed c.bring.ensures.placed
+    c.requires.handed (ap (λ (s : AllocState). s.handed) c.in-Ok.ensures.ok) c.bring.ensures.placed
 
 pub returns-in-Ok-clause-asked : goal.returns-in-Ok-clause-asked
 returns-in-Ok-clause-asked g c =
@@ -71,11 +71,10 @@ returns-in-Ok-clause-asked g c =
 pub returns-in-Err-clause-goes : goal.returns-in-Err-clause-goes
 returns-in-Err-clause-goes g c = λ script.
     let without = allocating _ _ _ _ _ _ c.requires.ready c.requires.early c.listed_of-file.ensures in
-    goes_without (MayAnswer g.A.ZoneAlloc.handed g.A.ZoneAlloc.zones g.A.ZoneAlloc.policy g.A.ZoneAlloc.gives (g.A.ZoneAlloc.zones c.args.place.now)
-    (g.A.ZoneAlloc.policy c.args.place.now))
+    goes_without (MayAnswer g.A.ZoneAlloc.state g.A.ZoneAlloc.gives (g.A.ZoneAlloc.state c.args.place.now).begun)
     c.args.self.now c.args.listed.now script c.args.name.now c.args.align c.args.zone c.args.index c.listed_of-file.result.now
     without
-    (may_answer g.A.ZoneAlloc.handed g.A.ZoneAlloc.zones g.A.ZoneAlloc.policy g.A.ZoneAlloc.gives c.args.place.now
+    (may_answer g.A.ZoneAlloc.state g.A.ZoneAlloc.gives c.args.place.now
     (files_of c.args.self.now.device.items) c.args.self.now.placements.placed.items c.args.name.now c.args.align c.args.zone
     c.listed_of-file.result.now.size None without.size c.requires.handed (rw c.numbered.ensures at c.in-Err.ensures.gives) tt)
 
@@ -88,9 +87,9 @@ pub returns-in-Err-clause-no_room : goal.returns-in-Err-clause-no_room
 returns-in-Err-clause-no_room g c = λ at is.
     let without = allocating _ _ _ _ _ _ c.requires.ready c.requires.early c.listed_of-file.ensures in (
       same_index c.args.index at is,
-      c.in-Err.ensures.counted,
+      ap (λ (s : AllocState). s.refusals) c.in-Err.ensures.err,
       was_asked c.args.self.now c.args.listed.now c.args.name.now c.args.align c.args.zone c.args.index c.listed_of-file.result.now c.numbered.result _
-          without c.numbered.ensures c.in-Err.ensures.asked,
+          without c.numbered.ensures (ap (λ (s : AllocState). s.refused) c.in-Err.ensures.err),
     )
 
 pub returns-in-Err-clause-sound : goal.returns-in-Err-clause-sound

@@ -1,7 +1,7 @@
 use Rattle.std.proofs.Common.{ap, ◌∙◌}
 use Rattle.cfg_dma.specs.Reads.{started}
 use Rattle.cfg_dma.specs.Transfers.{attached}
-use Rattle.load_machine.specs.Guarded.{descriptor_at}
+use Rattle.load_states.specs.Guarded.{descriptor_at}
 use Rattle.firmware_load.proofs.guest.Guest.bring.Goals as goal
 
 pub returns-clause-after : goal.returns-clause-after

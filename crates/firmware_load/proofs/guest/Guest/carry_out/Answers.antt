@@ -1,13 +1,13 @@
 use Rattle.std.proofs.Common.{◌≡◌, None, subst, sym}
 use Rattle.loader_script.specs.Refusal.{EndLow}
 use Rattle.loader_script.specs.declared.entry.Entry.{Entry}
-use Rattle.image_files.specs.Items.{files_of}
-use Rattle.script_load.specs.Allocators.{MayAnswer}
-use Rattle.script_load.specs.Placing.{places_in}
-use Rattle.script_load.specs.Runs.{early_cause}
-use Rattle.script_load.proofs.Placings.{distinct_infos, end_low}
-use Rattle.load_machine.specs.declared.stage.Stage.TheVariants.{AtCommand}
-use Rattle.firmware_load.specs.Inside.{machine_at, progress_now}
+use Rattle.cfg_directory.specs.Files.{files_of}
+use Rattle.command_acts.specs.Allocators.{MayAnswer}
+use Rattle.command_acts.specs.Placing.{places_in}
+use Rattle.command_acts.specs.Runs.{early_cause}
+use Rattle.command_acts.proofs.Placings.{distinct_infos, end_low}
+use Rattle.load_states.specs.declared.stage.Stage.TheVariants.{AtCommand}
+use Rattle.firmware_load.specs.Inside.{load_at, progress_now}
 use Rattle.firmware_load.proofs.Allocating.{distinct_placements}
 use Rattle.firmware_load.proofs.CommandsDone.{goes_refused, goes_skipped, told_early}
 use Rattle.firmware_load.proofs.guest.Guest.carry_out.Goals as goal
@@ -24,9 +24,8 @@ refusal-requires-clause-low g c =
 
 pub returns-in-Some-clause-goes : goal.returns-in-Some-clause-goes
 returns-in-Some-clause-goes g c = λ script.
-    goes_refused (MayAnswer g.A.ZoneAlloc.handed g.A.ZoneAlloc.zones g.A.ZoneAlloc.policy g.A.ZoneAlloc.gives (g.A.ZoneAlloc.zones c.args.place.now)
-    (g.A.ZoneAlloc.policy c.args.place.now))
-    (machine_at c.args.self.now (AtCommand c.args.index) c.args.listed.now script) c.args.index c.args.entry.now c.in-Some.cause
+    goes_refused (MayAnswer g.A.ZoneAlloc.state g.A.ZoneAlloc.gives (g.A.ZoneAlloc.state c.args.place.now).begun)
+    (load_at c.args.self.now (AtCommand c.args.index) c.args.listed.now script) c.args.index c.args.entry.now c.in-Some.cause
     (told_early c.args.self.now.memory (files_of c.args.self.now.device.items) c.args.self.now.placements.infos.items
     c.args.self.now.placements.placed.items c.args.entry.now c.refusal.result _ c.requires.ready.infos c.refusal.ensures c.in-Some.is)
 
@@ -51,6 +50,5 @@ add_checksum-requires-clause-early g c =
 pub returns-in-Skipped-clause-goes : goal.returns-in-Skipped-clause-goes
 returns-in-Skipped-clause-goes g c = λ script.
     rw c.in-Skipped.is
-    (goes_skipped (MayAnswer g.A.ZoneAlloc.handed g.A.ZoneAlloc.zones g.A.ZoneAlloc.policy g.A.ZoneAlloc.gives (g.A.ZoneAlloc.zones c.args.place.now)
-    (g.A.ZoneAlloc.policy c.args.place.now))
-    (machine_at c.args.self.now (AtCommand c.args.index) c.args.listed.now script) c.args.index c.in-Skipped.field-0)
+    (goes_skipped (MayAnswer g.A.ZoneAlloc.state g.A.ZoneAlloc.gives (g.A.ZoneAlloc.state c.args.place.now).begun)
+    (load_at c.args.self.now (AtCommand c.args.index) c.args.listed.now script) c.args.index c.in-Skipped.field-0)

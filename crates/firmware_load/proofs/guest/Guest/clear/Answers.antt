@@ -1,6 +1,6 @@
 use Rattle.std.proofs.Common.{ap, replicate, ◌∙◌}
 use Rattle.vt_bytes.specs.Memory.{with_bytes}
-use Rattle.load_machine.specs.Guarded.{descriptor_at, buffer_at, buffer_size}
+use Rattle.load_states.specs.Guarded.{descriptor_at, buffer_at, buffer_size}
 use Rattle.firmware_load.proofs.guest.Guest.clear.Goals as goal
 
 pub returns-clause-memory : goal.returns-clause-memory

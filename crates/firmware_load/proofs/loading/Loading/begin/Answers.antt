@@ -2,28 +2,30 @@ use Rattle.std.proofs.Common.{List, length, arith, refl, ap, subst, ◌∙◌}
 use Rattle.cfg_directory.specs.declared.item.Item.{Item}
 use Rattle.cfg_directory.specs.Items.{IsItems}
 use Rattle.cfg_dma.specs.Device.{DeviceState}
-use Rattle.image_files.specs.Items.{files_of}
+use Rattle.cfg_directory.specs.Files.{files_of}
 use Rattle.loader_script.specs.Run.{infos_of}
-use Rattle.script_load.specs.Script.{script_in}
-use Rattle.load_machine.specs.declared.stage.Stage.TheVariants.{AsksCount}
+use Rattle.command_acts.specs.Script.{script_in}
 use Rattle.firmware_load.specs.declared.loading.Loading.{Loading}
-use Rattle.firmware_load.proofs.Opening.{IsOpening, new_device, opening_begun, opening_inside, room_more}
+use Rattle.load_states.specs.Loads.{begun_device, opening_stage}
+use Rattle.load_states.specs.Runs.{NoAnswer}
+use Rattle.load_states.proofs.Opening.{begun_keeps}
+use Rattle.firmware_load.specs.Inside.{load_of}
+use Rattle.firmware_load.proofs.Opening.{IsOpening, opening_begun, opening_inside, room_more}
 use Rattle.firmware_load.proofs.loading.Loading.begin.Goals as goal
 
 pub returns : goal.returns
 returns c =
     let l : Loading = record {
       guest = record { device = c.in_ok-device.device; memory = c.in_ok-memory.memory; placements = c.in_ok-placements.placements };
-      stage = AsksCount;
+      stage = opening_stage;
       listed = c.in_ok-listed.listed;
       script = c.in_ok-script.script;
     } in
     let opening : IsOpening c.args.items c.args.top c.args.fill l = record {
       lawful = subst IsItems c.items.view_is c.items.invariant;
       names = c.in_ok-device.ensures.names;
-      device = c.in_ok-device.ensures.device;
       device_is = c.in_ok-device.ensures.begun
-          ∙ ap (λ room. let d : DeviceState = record (new_device c.args.items) { spare = room } in d) c.most_transfers-transfers.ensures;
+          ∙ ap (λ room. let d : DeviceState = record (begun_device c.args.items) { spare = room } in d) c.most_transfers-transfers.ensures;
       memory = c.in_ok-memory.ensures.lawful;
       top_is = c.in_ok-memory.ensures.top;
       fill_is = c.in_ok-memory.ensures.fill;
@@ -39,7 +41,9 @@ returns c =
       listed_room = omega (arith, c.in_ok-listed.ensures.capacity, ap length c.all.ensures.items);
       script_room = room_more (script_in c.args.items) c.script_len.result _ c.in_ok-script.ensures.capacity c.script_len.ensures;
     } in
+    let begun = opening_begun c.args.items c.args.top c.args.fill l opening in
     record {
-      begun = opening_begun c.args.items c.args.top c.args.fill l opening;
+      begun = begun;
+      kept = begun_keeps NoAnswer c.args.items c.args.top c.args.fill (load_of l) begun;
       inside = opening_inside c.args.items c.args.top c.args.fill l opening;
     }

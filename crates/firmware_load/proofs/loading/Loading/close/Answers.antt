@@ -1,10 +1,10 @@
 use Rattle.std.proofs.Common.{refl, sym, ap, ◌∙◌}
 use Rattle.std.proofs.lemmas.Bool.{true≢false}
-use Rattle.script_load.specs.Allocators.{MayAnswer}
-use Rattle.script_load.specs.Runs.{Answers}
-use Rattle.script_load.proofs.Goes.{answers_are_lawful}
-use Rattle.load_machine.specs.Runs.{has_ended}
-use Rattle.firmware_load.specs.Inside.{machine_of, IsTurn}
+use Rattle.command_acts.specs.Allocators.{MayAnswer}
+use Rattle.command_acts.specs.Runs.{Answers}
+use Rattle.command_acts.proofs.Goes.{answers_are_lawful}
+use Rattle.load_states.specs.Runs.{has_ended}
+use Rattle.firmware_load.specs.Inside.{load_of, IsTurn}
 use Rattle.firmware_load.proofs.OnRun.{asks_nothing, asks_through}
 use Rattle.firmware_load.proofs.Turns.{closes_none, closes_more, turn_less_inside}
 use Rattle.firmware_load.proofs.loading.Loading.close.Goals as goal
@@ -12,48 +12,39 @@ use Rattle.firmware_load.proofs.loading.Loading.close.Goals as goal
 pub loop-self-init : goal.loop-self-init
 loop-self-init g c = record {
   inside = c.requires.inside;
-  closes = closes_none (MayAnswer g.A.ZoneAlloc.handed g.A.ZoneAlloc.zones g.A.ZoneAlloc.policy g.A.ZoneAlloc.gives
-      (g.A.ZoneAlloc.zones c.args.place.now) (g.A.ZoneAlloc.policy c.args.place.now)) (machine_of c.args.self.now);
-  asks = asks_nothing c.args.self.now (g.A.ZoneAlloc.refusals c.args.place.now) (g.A.ZoneAlloc.refused c.args.place.now);
+  closes = closes_none (MayAnswer g.A.ZoneAlloc.state g.A.ZoneAlloc.gives (g.A.ZoneAlloc.state c.args.place.now).begun) (load_of c.args.self.now);
+  asks = asks_nothing c.args.self.now (g.A.ZoneAlloc.state c.args.place.now);
   handed = c.requires.handed;
-  zones = refl;
-  policy = refl;
   begun = refl;
 }
 
 pub take_turn-requires-clause-zones : goal.take_turn-requires-clause-zones
-take_turn-requires-clause-zones g c = rw (c.loop-self.invariant.zones, c.loop-self.invariant.asks.top) c.requires.zones
+take_turn-requires-clause-zones g c = rw (c.loop-self.invariant.begun, c.loop-self.invariant.asks.top) c.requires.zones
 
 pub loop-self-smaller : goal.loop-self-smaller
 loop-self-smaller g c =
     let state = c.loop-self in
-    turn_less_inside (MayAnswer g.A.ZoneAlloc.handed g.A.ZoneAlloc.zones g.A.ZoneAlloc.policy g.A.ZoneAlloc.gives
-    (g.A.ZoneAlloc.zones state.place) (g.A.ZoneAlloc.policy state.place)) state.self c.take_turn.new.self
-    (answers_are_lawful g.A.ZoneAlloc.handed g.A.ZoneAlloc.zones g.A.ZoneAlloc.policy g.A.ZoneAlloc.gives
-    (g.A.ZoneAlloc.zones state.place) (g.A.ZoneAlloc.policy state.place) state.self.guest.memory.top
-    (rw (state.invariant.zones, state.invariant.asks.top) c.requires.zones)) state.invariant.inside (sym c.loop-self-test.ensures)
+    turn_less_inside (MayAnswer g.A.ZoneAlloc.state g.A.ZoneAlloc.gives (g.A.ZoneAlloc.state state.place).begun) state.self c.take_turn.new.self
+    (answers_are_lawful g.A.ZoneAlloc.state g.A.ZoneAlloc.gives (g.A.ZoneAlloc.state state.place).begun state.self.guest.memory.top
+    (rw (state.invariant.begun, state.invariant.asks.top) c.requires.zones)) state.invariant.inside (sym c.loop-self-test.ensures)
     c.take_turn.ensures.turn
 
 pub loop-self-preserved : goal.loop-self-preserved
 loop-self-preserved g c =
     let state = c.loop-self in
-    let May : Answers = MayAnswer g.A.ZoneAlloc.handed g.A.ZoneAlloc.zones g.A.ZoneAlloc.policy g.A.ZoneAlloc.gives
-    (g.A.ZoneAlloc.zones c.args.place.now) (g.A.ZoneAlloc.policy c.args.place.now) in
-    let lawful = answers_are_lawful g.A.ZoneAlloc.handed g.A.ZoneAlloc.zones g.A.ZoneAlloc.policy g.A.ZoneAlloc.gives
-    (g.A.ZoneAlloc.zones c.args.place.now) (g.A.ZoneAlloc.policy c.args.place.now) c.args.self.now.guest.memory.top c.requires.zones in
-    let turn : IsTurn May (machine_of state.self) (machine_of c.take_turn.new.self) =
-    rw (state.invariant.zones, state.invariant.policy) at c.take_turn.ensures.turn in
+    let alloc = g.A.ZoneAlloc.state c.args.place.now in
+    let May : Answers = MayAnswer g.A.ZoneAlloc.state g.A.ZoneAlloc.gives alloc.begun in
+    let lawful = answers_are_lawful g.A.ZoneAlloc.state g.A.ZoneAlloc.gives alloc.begun c.args.self.now.guest.memory.top c.requires.zones in
+    let turn : IsTurn May (load_of state.self) (load_of c.take_turn.new.self) =
+    rw state.invariant.begun at c.take_turn.ensures.turn in
     let running = sym c.loop-self-test.ensures in
     record {
       inside = c.take_turn.ensures.inside;
-      closes = closes_more May (machine_of c.args.self.now) (machine_of state.self) (machine_of c.take_turn.new.self) lawful
+      closes = closes_more May (load_of c.args.self.now) (load_of state.self) (load_of c.take_turn.new.self) lawful
           (λ over. true≢false (sym (ap has_ended (state.invariant.asks.ended over).0 ∙ over) ∙ running)) state.invariant.closes running turn;
-      asks = asks_through c.args.self.now state.self c.take_turn.new.self (g.A.ZoneAlloc.refusals c.args.place.now)
-          (g.A.ZoneAlloc.refusals state.place) (g.A.ZoneAlloc.refusals c.take_turn.new.place) (g.A.ZoneAlloc.refused c.args.place.now)
-          (g.A.ZoneAlloc.refused state.place) (g.A.ZoneAlloc.refused c.take_turn.new.place) running state.invariant.asks c.take_turn.ensures.asks;
+      asks = asks_through c.args.self.now state.self c.take_turn.new.self alloc (g.A.ZoneAlloc.state state.place)
+          (g.A.ZoneAlloc.state c.take_turn.new.place) running state.invariant.asks c.take_turn.ensures.asks;
       handed = c.take_turn.ensures.handed;
-      zones = c.take_turn.ensures.zones ∙ state.invariant.zones;
-      policy = c.take_turn.ensures.policy ∙ state.invariant.policy;
       begun = c.take_turn.ensures.begun ∙ state.invariant.begun;
     }
 

@@ -1,6 +1,6 @@
 use Rattle.std.proofs.Common.{List, arith, sym, subst, inr, ◌∙◌}
 use Rattle.cfg_directory.specs.declared.listed.Listed.{Listed}
-use Rattle.script_load.specs.Allocators.{MayAnswer}
+use Rattle.command_acts.specs.Allocators.{MayAnswer}
 use Rattle.firmware_load.specs.Inside.{IsReady}
 use Rattle.firmware_load.proofs.AtStages.{command_small, is_ready}
 use Rattle.firmware_load.proofs.AtCommands.{command_found, none_found, command_steps, closing_steps, request_is}
@@ -26,7 +26,7 @@ returns-in-Some-clause-steps g c =
     let entry = c.in-Some.entry.now in
     let read = c.in-Some.ensures.lookup in
     let found = command_found c.deref.result.now l.script.items c.args.index entry c.deref.ensures.value read.3.0 read.1 in
-    command_steps (MayAnswer {A = g.row.A.Denot} A.handed A.zones A.policy A.gives (A.zones place) (A.policy place)) l c.carry_out-self.new.self
+    command_steps (MayAnswer {A = g.row.A.Denot} A.state A.gives (A.state place).begun) l c.carry_out-self.new.self
     c.carry_out-self.result c.deref-in-Some.result.now c.args.index entry c.requires.stage found c.deref-in-Some.ensures.value
     (c.carry_out-self.ensures.goes l.script.items)
 
@@ -53,5 +53,5 @@ returns-in-None-clause-steps g c =
     let place = c.args.place.now in
     let l = c.args.self.now in
     let none = none_found c.deref.result.now l.script.items c.args.index c.deref.ensures.value c.in-None.ensures.lookup.3 in
-    closing_steps (MayAnswer {A = g.row.A.Denot} A.handed A.zones A.policy A.gives (A.zones place) (A.policy place)) l c.clear.new.self c.args.index
+    closing_steps (MayAnswer {A = g.row.A.Denot} A.state A.gives (A.state place).begun) l c.clear.new.self c.args.index
     c.requires.stage none c.clear.ensures.memory c.clear.ensures.device c.clear.ensures.placements

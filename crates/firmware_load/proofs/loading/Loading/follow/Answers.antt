@@ -1,46 +1,46 @@
 use Rattle.std.proofs.Common.{sym, ◌∙◌}
-use Rattle.script_load.specs.Allocators.{MayAnswer}
-use Rattle.script_load.specs.Runs.{Answers}
-use Rattle.script_load.proofs.Goes.{answers_are_lawful}
-use Rattle.load_machine.specs.Runs.{StepsTo}
-use Rattle.firmware_load.specs.Inside.{machine_of}
+use Rattle.command_acts.specs.Allocators.{MayAnswer}
+use Rattle.command_acts.specs.Runs.{Answers}
+use Rattle.command_acts.proofs.Goes.{answers_are_lawful}
+use Rattle.load_states.specs.Runs.{StepsTo}
+use Rattle.firmware_load.specs.Inside.{load_of}
+use Rattle.firmware_load.proofs.Given.{left_taken, left_ended}
 use Rattle.firmware_load.proofs.OnRun.{follows_more, follows_all, asks_through, step_asks}
 use Rattle.firmware_load.proofs.loading.Loading.follow.Goals as goal
 
 pub step-requires-clause-zones : goal.step-requires-clause-zones
-step-requires-clause-zones g c = rw (c.loop-plan.invariant.zones, c.loop-plan.invariant.asks.top) c.requires.zones
+step-requires-clause-zones g c = rw (c.loop-plan.invariant.begun, c.loop-plan.invariant.asks.top) c.requires.zones
 
 pub loop-plan-preserved : goal.loop-plan-preserved
 loop-plan-preserved g c =
     let state = c.loop-plan in
-    let May : Answers = MayAnswer g.A.ZoneAlloc.handed g.A.ZoneAlloc.zones g.A.ZoneAlloc.policy g.A.ZoneAlloc.gives
-    (g.A.ZoneAlloc.zones c.args.place.now) (g.A.ZoneAlloc.policy c.args.place.now) in
-    let lawful = answers_are_lawful g.A.ZoneAlloc.handed g.A.ZoneAlloc.zones g.A.ZoneAlloc.policy g.A.ZoneAlloc.gives
-    (g.A.ZoneAlloc.zones c.args.place.now) (g.A.ZoneAlloc.policy c.args.place.now) c.args.self.now.guest.memory.top c.requires.zones in
-    let steps : StepsTo May c.in-Some.event (machine_of state.self) (machine_of c.step.new.self) =
-    rw (state.invariant.zones, state.invariant.policy) at c.step.ensures.steps in
+    let alloc = g.A.ZoneAlloc.state c.args.place.now in
+    let alloc_then = g.A.ZoneAlloc.state state.place in
+    let alloc_now = g.A.ZoneAlloc.state c.step.new.place in
+    let May : Answers = MayAnswer g.A.ZoneAlloc.state g.A.ZoneAlloc.gives alloc.begun in
+    let lawful = answers_are_lawful g.A.ZoneAlloc.state g.A.ZoneAlloc.gives alloc.begun c.args.self.now.guest.memory.top c.requires.zones in
+    let steps : StepsTo May c.in-Some.event (load_of state.self) (load_of c.step.new.self) =
+    rw state.invariant.begun at c.step.ensures.steps in
     let running = sym c.loop-plan-test.ensures in
+    let given = left_taken (g.C.Schedule.plan state.plan) (g.C.Schedule.plan c.next.new.self) c.in-Some.event c.in-Some.ensures.taken in
     record {
       inside = c.step.ensures.inside;
-      follows = follows_more May (machine_of c.args.self.now) (machine_of state.self) (machine_of c.step.new.self) c.in-Some.event
-          (g.C.Schedule.left c.args.plan.now) (g.C.Schedule.left state.plan) (g.C.Schedule.left c.next.new.self) lawful state.invariant.follows
-          c.in-Some.ensures.taken running steps;
-      events = c.next.ensures.same ∙ state.invariant.events;
-      asks = asks_through c.args.self.now state.self c.step.new.self (g.A.ZoneAlloc.refusals c.args.place.now) (g.A.ZoneAlloc.refusals state.place)
-          (g.A.ZoneAlloc.refusals c.step.new.place) (g.A.ZoneAlloc.refused c.args.place.now) (g.A.ZoneAlloc.refused state.place)
-          (g.A.ZoneAlloc.refused c.step.new.place) running state.invariant.asks
-          (step_asks May c.in-Some.event state.self c.step.new.self (g.A.ZoneAlloc.refusals state.place) (g.A.ZoneAlloc.refusals c.step.new.place)
-          (g.A.ZoneAlloc.refused state.place) (g.A.ZoneAlloc.refused c.step.new.place) (rw state.invariant.asks.top lawful) state.invariant.inside running
+      follows = follows_more May (load_of c.args.self.now) (load_of state.self) (load_of c.step.new.self) c.in-Some.event
+          (g.C.Schedule.plan c.args.plan.now).left (g.C.Schedule.plan state.plan).left (g.C.Schedule.plan c.next.new.self).left lawful
+          state.invariant.follows
+          given.0 running steps;
+      events = given.1 ∙ state.invariant.events;
+      asks = asks_through c.args.self.now state.self c.step.new.self alloc alloc_then alloc_now running state.invariant.asks
+          (step_asks May c.in-Some.event state.self c.step.new.self alloc_then alloc_now (rw state.invariant.asks.top lawful) state.invariant.inside running
           steps c.step.ensures.no_room c.step.ensures.sound);
       handed = c.step.ensures.handed;
-      zones = c.step.ensures.zones ∙ state.invariant.zones;
-      policy = c.step.ensures.policy ∙ state.invariant.policy;
       begun = c.step.ensures.begun ∙ state.invariant.begun;
     }
 
 pub returns-in-None-clause-follows : goal.returns-in-None-clause-follows
 returns-in-None-clause-follows g c =
-    follows_all (MayAnswer g.A.ZoneAlloc.handed g.A.ZoneAlloc.zones g.A.ZoneAlloc.policy g.A.ZoneAlloc.gives
-    (g.A.ZoneAlloc.zones c.args.place.now) (g.A.ZoneAlloc.policy c.args.place.now)) (machine_of c.args.self.now) (machine_of c.loop-plan.self)
-    (g.C.Schedule.left c.args.plan.now) (g.C.Schedule.left c.loop-plan.plan) (g.C.Schedule.left c.next.new.self) c.loop-plan.invariant.follows
-    c.in-None.ensures.end c.in-None.ensures.ended
+    follows_all (MayAnswer g.A.ZoneAlloc.state g.A.ZoneAlloc.gives (g.A.ZoneAlloc.state c.args.place.now).begun) (load_of c.args.self.now)
+    (load_of c.loop-plan.self) (g.C.Schedule.plan c.args.plan.now).left (g.C.Schedule.plan c.loop-plan.plan).left
+    (g.C.Schedule.plan c.next.new.self).left c.loop-plan.invariant.follows
+    c.in-None.ensures.end
+    (left_ended (g.C.Schedule.plan c.loop-plan.plan) (g.C.Schedule.plan c.next.new.self) c.in-None.ensures.end c.in-None.ensures.same)

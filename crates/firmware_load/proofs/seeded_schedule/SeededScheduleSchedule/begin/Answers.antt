@@ -2,12 +2,12 @@ use Rattle.std.proofs.Common.{◌≡◌, ℕ, ap, ◌∙◌}
 use Rattle.firmware_load.specs.Drawing.{drawn_events}
 use Rattle.firmware_load.specs.Schedules.{seeded_events}
 use Rattle.firmware_load.proofs.OfSeed.{none_drawn, all_drawn}
-use Rattle.firmware_load.proofs.Given.{seed_has}
+use Rattle.firmware_load.proofs.Given.{seed_has, seeded_plan}
 use Rattle.firmware_load.proofs.seeded_schedule.SeededScheduleSchedule.begin.Goals as goal
 use Rattle.firmware_load.proofs.seeded_schedule.SeededScheduleSchedule.begin.Goals.{then-seed-eq0, else-seed-eq0}
 
-pub returns-clause-left : goal.returns-clause-left
-returns-clause-left c =
+pub returns-clause-plan : goal.returns-clause-plan
+returns-clause-plan c =
     let drawn : drawn_events c.if-seed-eq0.self c.seed_from_u64-self-inside.result ≡ seeded_events c.args.seed =
     elim c.if-seed-eq0.branch [
       | then-seed-eq0 w ↦
@@ -16,4 +16,4 @@ returns-clause-left c =
           ap (λ (count : ℕ). drawn_events count c.seed_from_u64-self-inside.result) w.self-is
           ∙ all_drawn c.args.seed c.seed_from_u64-self-inside.result w.if-seed-eq0.false c.seed_from_u64-self-inside.ensures
     ] in
-    drawn ∙ seed_has c.args.seed (seeded_events c.args.seed) c.ranges.seed.fits
+    ap seeded_plan (drawn ∙ seed_has c.args.seed (seeded_events c.args.seed) c.ranges.seed.fits)

@@ -5,5 +5,5 @@ pub returns-clause-kept : goal.returns-clause-kept
 returns-clause-kept g c =
     let A = g.A.ZoneAlloc in
     let place = c.args.place.now in
-    kept_after {A = g.row.A.Denot} A.handed A.zones A.policy A.gives (A.zones place) (A.policy place) c.args.self.now c.self.inside.loading
+    kept_after {A = g.row.A.Denot} A.state A.gives (A.state place).begun c.args.self.now c.self.inside.loading
     c.in-Some.loading c.step.new.self c.args.event c.in-Some.is c.self.view_is c.requires.zones c.step.ensures.steps

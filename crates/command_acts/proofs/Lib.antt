@@ -1,0 +1,15 @@
+pub mod Writes
+pub mod NamedInMemory
+pub mod PlacedFiles
+pub mod OneMoreFile
+pub mod Patches
+pub mod Pointers
+pub mod Checksums
+pub mod Placings
+pub mod Infos
+pub mod Causes
+pub mod PlainRuns
+pub mod OneCommand
+pub mod Allocations
+pub mod Decoded
+pub mod Goes

@@ -1,0 +1,302 @@
+-- Which files are placed, and where.
+use Rattle.std.proofs.Common.{◌≡◌, ℕ, zero, suc, ◌+◌, ◌<◌, ◌≤◌, ◌^◌, inl, inr, true, false, List, [], ◌∷◌, ◌++◌, length, Option, Some, None}
+use Rattle.std.proofs.Common.{option_map, cond, slice_set, get_or, IsSome, is_some, ltb, replicate, vec_capacity, length-append, arith, refl, ap, ap₂, subst, sym, ◌∙◌}
+use Rattle.std.proofs.lemmas.List.{length-map}
+use Rattle.std.specs.List.{AllByRecursion, position_or_len}
+use Rattle.std.specs.Str.{bytes_eq}
+use Rattle.std.proofs.lemmas.Bool.{cases_Bool, cases_lt, cond-true, cond-false, true≢false, lt-ltb}
+use Rattle.std.proofs.lemmas.Option.{same_Some, none-some, slice_get_past}
+use Rattle.std.proofs.lemmas.List.Folds.{find_at}
+use Rattle.std.proofs.lemmas.Slice.Eq.{bytes_eq-Decides}
+use Rattle.vt_bytes.specs.Memory.{Memory}
+use Rattle.cfg_directory.specs.declared.item.Item.{Item}
+use Rattle.cfg_directory.specs.Items.{HasNoName, AreDistinct as AreDistinctItems}
+use Rattle.loader_script.specs.declared.refusing.FileInfo.{FileInfo}
+use Rattle.loader_script.specs.Refusal.{info_of, causes_of, first_cause, AreDistinct, EndLow}
+use Rattle.loader_script.specs.declared.entry.Entry.{Entry}
+use Rattle.command_acts.specs.Runs.{at_files, early_cause}
+use Rattle.vt_outside.specs.File.{File}
+use Rattle.loader_script.specs.Run.{Placed, file_of, placed_of, infos_of, places_of}
+use Rattle.loader_script.proofs.Named.{same_name, other_name, of_found, found_passes}
+use Rattle.cfg_directory.specs.Files.{files_of}
+use Rattle.command_acts.specs.declared.placed.PlacedFile.{PlacedFile}
+use Rattle.command_acts.specs.declared.placements.Placements.{Placements}
+use Rattle.command_acts.specs.FilesInMemory.{placed_named, placed_in, files_in, ArePlaced, IsOfSize, IsLoading, EndsLow}
+use Rattle.command_acts.specs.Placing.{place_named, places_in, count_places, ArePlacements}
+use Rattle.command_acts.proofs.NamedInMemory.{named_in}
+
+-- a file's place is the same with its bytes and without them
+place_after : (m : Memory) (found : Option PlacedFile) → option_map (λ (p : Placed). p.place) (option_map (placed_in m) found)
+    ≡ option_map (λ (p : PlacedFile). p.place) found
+place_after m None = refl
+place_after m (Some p) = refl
+
+-- the places of files are the same with their bytes and without them
+pub same_places : (m : Memory) (placed : List PlacedFile) (files : List File)
+    → places_in placed (infos_of files) ≡ places_of (files_in m placed) files
+same_places m placed [] = refl
+same_places m placed (file ∷ files) =
+    let named : option_map (λ (p : Placed). p.place) (placed_of (files_in m placed) file.name) ≡ place_named placed file.name =
+    ap (option_map (λ (p : Placed). p.place)) (named_in m placed file.name) ∙ place_after m (placed_named placed file.name) in
+    ap₂ (λ (p : Option ℕ) (ps : List (Option ℕ)). p ∷ ps) (sym named) (same_places m placed files)
+
+-- a name is tested equal to itself
+passes_itself : (a b : List ℕ) → a ≡ b → bytes_eq a b ≡ true
+passes_itself a b = (bytes_eq-Decides a b).1
+
+-- names differ either way
+other_way : (a b : List ℕ) → bytes_eq a b ≡ false → bytes_eq b a ≡ false
+other_way a b differ = other_name b a (λ same. true≢false (sym (passes_itself a b (sym same)) ∙ differ))
+
+-- items of names of their own are files of such names
+no_name : (items : List Item) (name : List ℕ) → HasNoName items name
+    → AllByRecursion (λ (other : FileInfo). bytes_eq other.name name ≡ false) (infos_of (files_of items))
+no_name [] name none = tt
+no_name (item ∷ items) name none = (none.0, no_name items name none.1)
+
+pub distinct_infos : (items : List Item) → AreDistinctItems items → AreDistinct (infos_of (files_of items))
+distinct_infos [] distinct = tt
+distinct_infos (item ∷ items) distinct = (no_name items item.name distinct.0, distinct_infos items distinct.3)
+
+-- a file is the one of its name
+abbrev IsItsOwn : List File → File → Type 0
+IsItsOwn files file = file_of files file.name ≡ Some file
+
+behind_first : (first : File) (files rest : List File) → AllByRecursion (λ (other : FileInfo). bytes_eq other.name first.name ≡ false) (infos_of rest)
+    → AllByRecursion (IsItsOwn files) rest → AllByRecursion (IsItsOwn (first ∷ files)) rest
+behind_first first files [] differ own = tt
+behind_first first files (file ∷ rest) differ own =
+    (cond-false _ _ _ (other_way file.name first.name differ.0) ∙ own.0, behind_first first files rest differ.1 own.1)
+
+pub each_its_own : (files : List File) → AreDistinct (infos_of files) → AllByRecursion (IsItsOwn files) files
+each_its_own [] distinct = tt
+each_its_own (file ∷ files) distinct =
+    (cond-true _ _ _ (passes_itself file.name file.name refl), behind_first file files files distinct.0 (each_its_own files distinct.1))
+
+-- a placed file ends low by the size that it has in fw_cfg
+low_by_size : (files : List File) (placed : List PlacedFile) (file : File) (p : PlacedFile) → placed_named placed file.name ≡ Some p
+    → IsItsOwn files file → AllByRecursion (IsOfSize files) placed → AllByRecursion EndsLow placed → p.place + length file.bytes ≤ 2 ^ 32
+low_by_size files placed file p found own sizes low =
+    let named : p.name ≡ file.name = same_name p.name file.name (found_passes (λ (q : PlacedFile). bytes_eq q.name file.name) placed p found) in
+    let size = of_found (IsOfSize files) (λ (q : PlacedFile). bytes_eq q.name file.name) placed p found sizes in
+    let is : length file.bytes ≡ p.size =
+    same_Some (length file.bytes) p.size (sym (ap (option_map (λ (f : File). length f.bytes)) (ap (file_of files) named ∙ own)) ∙ size) in
+    let ends = of_found EndsLow (λ (q : PlacedFile). bytes_eq q.name file.name) placed p found low in
+    omega arith
+
+-- one file more ends low where it is placed, and those behind it do
+low_more : (info : FileInfo) (infos : List FileInfo) (place : Option ℕ) (places : List (Option ℕ))
+    → ((at : ℕ) → place ≡ Some at → at + info.size ≤ 2 ^ 32) → EndLow infos places → EndLow (info ∷ infos) (place ∷ places)
+low_more info infos None places low rest = rest
+low_more info infos (Some at) places low rest = (low at refl, rest)
+
+place_from : (found : Option PlacedFile) (at : ℕ) → option_map (λ (p : PlacedFile). p.place) found ≡ Some at
+    → (p : PlacedFile) × (found ≡ Some p) × (p.place ≡ at)
+place_from None at is = absurd (none-some at is)
+place_from (Some p) at is = (p, refl, same_Some p.place at is)
+
+low_each : (files : List File) (placed : List PlacedFile) (rest : List File) → AllByRecursion (IsItsOwn files) rest
+    → AllByRecursion (IsOfSize files) placed → AllByRecursion EndsLow placed → EndLow (infos_of rest) (places_in placed (infos_of rest))
+low_each files placed [] own sizes low = tt
+low_each files placed (file ∷ rest) own sizes low =
+    low_more (record { name = file.name; size = length file.bytes; writable = file.writable }) (infos_of rest) (place_named placed file.name)
+    (places_in placed (infos_of rest))
+    (λ at is.
+    let p = place_from (placed_named placed file.name) at is in
+    let ends = low_by_size files placed file p.0 p.1 own.0 sizes low in
+    subst (λ n. n + length file.bytes ≤ 2 ^ 32) p.2 ends)
+    (low_each files placed rest own.1 sizes low)
+
+-- each end low
+each_low : (top : ℕ) (placed : List PlacedFile) → ArePlaced top placed → AllByRecursion EndsLow placed
+each_low top [] all = tt
+each_low top (p ∷ placed) all = (all.1, each_low top placed all.3)
+
+pub end_low : (top : ℕ) (files : List File) (placed : List PlacedFile) → AreDistinct (infos_of files) → IsLoading top files placed
+    → EndLow (infos_of files) (places_in placed (infos_of files))
+end_low top files placed distinct loading =
+    low_each files placed files (each_its_own files distinct) loading.sizes (each_low top placed loading.apart)
+
+-- the placed file of a name, after one more file
+named_more : (placed : List PlacedFile) (f : PlacedFile) (name : List ℕ) → bytes_eq f.name name ≡ false
+    → placed_named (placed ++ f ∷ []) name ≡ placed_named placed name
+named_more [] f name other = cond-false _ _ _ other
+named_more (p ∷ placed) f name other =
+    elim (bytes_eq p.name name) as (λ same. cond same (Some p) (placed_named (placed ++ f ∷ []) name) ≡ cond same (Some p) (placed_named placed name)) [
+      | true ↦ refl
+      | false ↦ named_more placed f name other
+    ]
+
+named_last : (placed : List PlacedFile) (f : PlacedFile) → placed_named placed f.name ≡ None → placed_named (placed ++ f ∷ []) f.name ≡ Some f
+named_last [] f none = cond-true _ _ _ (passes_itself f.name f.name refl)
+named_last (p ∷ placed) f none =
+    elim (cases_Bool (bytes_eq p.name f.name)) as (λ _. placed_named ((p ∷ placed) ++ f ∷ []) f.name ≡ Some f) [
+      | inl same ↦ absurd (none-some p (sym none ∙ cond-true _ _ _ same))
+      | inr other ↦ cond-false _ _ _ other ∙ named_last placed f (sym (cond-false _ _ _ other) ∙ none)
+    ]
+
+-- files that have other names stand where they stood
+places_others : (placed : List PlacedFile) (f : PlacedFile) (infos : List FileInfo)
+    → AllByRecursion (λ (other : FileInfo). bytes_eq other.name f.name ≡ false) infos → places_in (placed ++ f ∷ []) infos ≡ places_in placed infos
+places_others placed f [] others = refl
+places_others placed f (info ∷ infos) others =
+    ap₂ (λ (p : Option ℕ) (ps : List (Option ℕ)). p ∷ ps)
+    (ap (option_map (λ (p : PlacedFile). p.place)) (named_more placed f info.name (other_way info.name f.name others.0)))
+    (places_others placed f infos others.1)
+
+-- the index of the file of a name
+abbrev pub index_of : List FileInfo → List ℕ → ℕ
+index_of infos name = position_or_len (λ (info : FileInfo). bytes_eq info.name name) infos
+
+-- the place there is now the file's
+pub places_put : (placed : List PlacedFile) (f : PlacedFile) (infos : List FileInfo) → AreDistinct infos → placed_named placed f.name ≡ None
+    → IsSome (info_of infos f.name)
+    → slice_set (places_in placed infos) (index_of infos f.name) (Some f.place) ≡ places_in (placed ++ f ∷ []) infos
+places_put placed f [] distinct none there = absurd (true≢false (sym there))
+places_put placed f (info ∷ infos) distinct none there =
+    elim (cases_Bool (bytes_eq info.name f.name)) as
+    (λ _. slice_set (places_in placed (info ∷ infos)) (index_of (info ∷ infos) f.name) (Some f.place) ≡ places_in (placed ++ f ∷ []) (info ∷ infos)) [
+      | inl same ↦
+          let is : info.name ≡ f.name = same_name info.name f.name same in
+          let here : index_of (info ∷ infos) f.name ≡ 0 = rw same refl in
+          let others = subst (λ n. AllByRecursion (λ (other : FileInfo). bytes_eq other.name n ≡ false) infos) is distinct.0 in
+          let now : place_named (placed ++ f ∷ []) info.name ≡ Some f.place =
+          ap (place_named (placed ++ f ∷ [])) is ∙ ap (option_map (λ (p : PlacedFile). p.place)) (named_last placed f none) in
+          ap (λ i. slice_set (places_in placed (info ∷ infos)) i (Some f.place)) here
+          ∙ ap₂ (λ (p : Option ℕ) (ps : List (Option ℕ)). p ∷ ps) (sym now) (sym (places_others placed f infos others))
+      | inr other ↦
+          let next : 1 + index_of infos f.name ≡ suc (index_of infos f.name) = omega arith in
+          let later : index_of (info ∷ infos) f.name ≡ suc (index_of infos f.name) = rw other next in
+          let rest : IsSome (info_of infos f.name) = subst IsSome (cond-false _ _ _ other) there in
+          let same : place_named placed info.name ≡ place_named (placed ++ f ∷ []) info.name =
+          ap (option_map (λ (p : PlacedFile). p.place)) (sym (named_more placed f info.name (other_way info.name f.name other))) in
+          ap (λ i. slice_set (places_in placed (info ∷ infos)) i (Some f.place)) later
+          ∙ ap₂ (λ (p : Option ℕ) (ps : List (Option ℕ)). p ∷ ps) same (places_put placed f infos distinct.1 none rest)
+    ]
+
+-- one place more
+pub count_put : (places : List (Option ℕ)) (i place : ℕ) → i < length places → get_or places i None ≡ None
+    → count_places (slice_set places i (Some place)) ≡ suc (count_places places)
+count_put [] i place within none = absurd (omega (arith, within))
+count_put (None ∷ places) zero place within none = refl
+count_put (Some p ∷ places) zero place within none = absurd (none-some p (sym none))
+count_put (None ∷ places) (suc i) place within none = count_put places i place (omega (arith, within)) none
+count_put (Some p ∷ places) (suc i) place within none = ap suc (count_put places i place (omega (arith, within)) none)
+
+-- there are no more places than files
+count_most : (places : List (Option ℕ)) → count_places places ≤ length places
+count_most [] = omega arith
+count_most (None ∷ places) = omega (arith, count_most places)
+count_most (Some p ∷ places) = omega (arith, count_most places)
+
+-- a place that is none leaves fewer places than files
+pub count_few : (places : List (Option ℕ)) (i : ℕ) → i < length places → get_or places i None ≡ None → count_places places < length places
+count_few [] i within none = absurd (omega (arith, within))
+count_few (None ∷ places) i within none = omega (arith, count_most places)
+count_few (Some p ∷ places) zero within none = absurd (none-some p (sym none))
+count_few (Some p ∷ places) (suc i) within none = omega (arith, count_few places i (omega (arith, within)) none)
+
+-- the first cause that placements tell is the one of how far the run is
+pub refusal_is : (entry : Entry) (m : Memory) (placed : List PlacedFile) (files : List File) (infos : List FileInfo) → infos ≡ infos_of files
+    → first_cause (causes_of entry infos (places_in placed infos)) ≡ early_cause entry (at_files files (files_in m placed) [])
+refusal_is entry m placed files infos is =
+    ap (λ is. first_cause (causes_of entry is (places_in placed is))) is
+    ∙ ap (λ places. first_cause (causes_of entry (infos_of files) places)) (same_places m placed files)
+
+-- no file is placed yet
+pub nowhere_yet : (infos : List FileInfo) → places_in [] infos ≡ replicate (length infos) None
+nowhere_yet [] = refl
+nowhere_yet (info ∷ infos) = ap (λ places. None ∷ places) (nowhere_yet infos)
+
+count_nowhere : (n : ℕ) → count_places (replicate n None) ≡ 0
+count_nowhere zero = refl
+count_nowhere (suc n) = count_nowhere n
+
+pub none_placed : (p : Placements) (len : ℕ) → p.places.items ≡ replicate len None → len ≡ length p.infos.items → p.placed.items ≡ []
+    → length p.infos.items ≤ vec_capacity p.placed → ArePlacements p
+none_placed p len places len_is none room = record {
+  places = places ∙ ap (λ n. replicate n None) len_is ∙ sym (nowhere_yet p.infos.items)
+      ∙ ap (λ placed. places_in placed p.infos.items) (sym none);
+  count = ap length none ∙ sym (ap count_places places ∙ count_nowhere len);
+  room = room;
+}
+
+-- the index of a file that is there
+pub there_within : (infos : List FileInfo) (name : List ℕ) → IsSome (info_of infos name) → index_of infos name < length infos
+there_within infos name there =
+    elim (cases_lt (index_of infos name) (length infos)) as (λ _. index_of infos name < length infos) [
+      | inl within ↦ within
+      | inr past ↦ absurd (true≢false (sym there ∙ ap is_some (find_at (λ (info : FileInfo). bytes_eq info.name name) infos
+          ∙ slice_get_past infos (index_of infos name) past)))
+    ]
+
+-- a search for it finds that index
+pub found_there : (infos : List FileInfo) (name : List ℕ) (found : Option ℕ) → IsSome (info_of infos name)
+    → found ≡ cond (ltb (index_of infos name) (length infos)) (Some (index_of infos name)) None → found ≡ Some (index_of infos name)
+found_there infos name found there is = is ∙ cond-true _ _ _ (lt-ltb _ _ (there_within infos name there))
+
+-- a file that isn't placed stands nowhere
+pub unplaced_nowhere : (placed : List PlacedFile) (infos : List FileInfo) (name : List ℕ) → placed_named placed name ≡ None
+    → get_or (places_in placed infos) (index_of infos name) None ≡ None
+unplaced_nowhere placed [] name none = refl
+unplaced_nowhere placed (info ∷ infos) name none =
+    elim (cases_Bool (bytes_eq info.name name)) as (λ _. get_or (places_in placed (info ∷ infos)) (index_of (info ∷ infos) name) None ≡ None) [
+      | inl same ↦
+          let here : index_of (info ∷ infos) name ≡ 0 = rw same refl in
+          ap (λ i. get_or (places_in placed (info ∷ infos)) i None) here
+          ∙ ap (place_named placed) (same_name info.name name same) ∙ ap (option_map (λ (p : PlacedFile). p.place)) none
+      | inr other ↦
+          let next : 1 + index_of infos name ≡ suc (index_of infos name) = omega arith in
+          let later : index_of (info ∷ infos) name ≡ suc (index_of infos name) = rw other next in
+          ap (λ i. get_or (places_in placed (info ∷ infos)) i None) later ∙ unplaced_nowhere placed infos name none
+    ]
+
+nowhere_there : (p : Placements) (name : List ℕ) → ArePlacements p → placed_named p.placed.items name ≡ None
+    → get_or p.places.items (index_of p.infos.items name) None ≡ None
+nowhere_there p name are none =
+    ap (λ places. get_or places (index_of p.infos.items name) None) are.places ∙ unplaced_nowhere p.placed.items p.infos.items name none
+
+there_index : (p : Placements) (name : List ℕ) → ArePlacements p → IsSome (info_of p.infos.items name)
+    → index_of p.infos.items name < length p.places.items
+there_index p name are there =
+    omega (
+      arith,
+      there_within p.infos.items name there,
+      ap length are.places,
+      length-map p.infos.items (λ (info : FileInfo). place_named p.placed.items info.name),
+    )
+
+-- fewer files are placed than there are, where one isn't
+pub few_placed : (p : Placements) (name : List ℕ) → ArePlacements p → IsSome (info_of p.infos.items name)
+    → placed_named p.placed.items name ≡ None → length p.placed.items < length p.infos.items
+few_placed p name are there none =
+    omega (
+      arith,
+      count_few p.places.items (index_of p.infos.items name) (there_index p name are there) (nowhere_there p name are none),
+      are.count,
+      ap length are.places,
+      length-map p.infos.items (λ (info : FileInfo). place_named p.placed.items info.name),
+    )
+
+-- the placements with one file more
+pub are_put : (p new : Placements) (f : PlacedFile) (index : ℕ) → ArePlacements p → AreDistinct p.infos.items → IsSome (info_of p.infos.items f.name)
+    → placed_named p.placed.items f.name ≡ None → index ≡ index_of p.infos.items f.name → new.infos.items ≡ p.infos.items
+    → new.places.items ≡ slice_set p.places.items index (Some f.place) → new.placed.items ≡ p.placed.items ++ f ∷ []
+    → vec_capacity new.placed ≡ vec_capacity p.placed → ArePlacements new
+are_put p new f index are distinct there none is infos places placed capacity =
+    let at : new.places.items ≡ slice_set p.places.items (index_of p.infos.items f.name) (Some f.place) =
+    places ∙ ap (λ i. slice_set p.places.items i (Some f.place)) is in
+    record {
+      places = at ∙ ap (λ ps. slice_set ps (index_of p.infos.items f.name) (Some f.place)) are.places
+          ∙ places_put p.placed.items f p.infos.items distinct none there
+          ∙ ap₂ (λ ps is. places_in ps is) (sym placed) (sym infos);
+      count = omega (
+        arith,
+        ap length placed,
+        length-append p.placed.items (f ∷ []),
+        are.count,
+        ap count_places at,
+        count_put p.places.items (index_of p.infos.items f.name) f.place (there_index p f.name are there) (nowhere_there p f.name are none),
+      );
+      room = omega (arith, ap length infos, are.room, capacity);
+    }

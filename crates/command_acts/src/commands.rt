@@ -1,0 +1,67 @@
+ghost use Rattle.std.specs.Prelude.{◌≡◌, ◌≤◌, ◌<◌, ◌^◌, Some, IsSome, OnOk, OnErr};
+ghost use Rattle.loader_script.specs.Run.{pointer_sum, with_pointer, with_sum};
+ghost use Rattle.command_acts.specs.FilesInMemory.{files_in, placed_named, ArePlaced, Stays, CanPoint, CanSum, pointed, summed};
+
+use crate::placed::PlacedFile;
+use guest_memory::{GuestMemory, TooFar};
+use vt_outside::Name;
+
+/// Carries out an AddPointer: adds the guest address at which the file `src` stands to the little-endian number in the `size` bytes
+/// at `offset` in the file `dest`. The files of `placed` stand in RAM and apart, both files are among them, `size` is 1, 2, 4 or 8,
+/// and these bytes lie in `dest`. Each other byte of memory stays. It takes no memory.
+///
+/// Returns `TooFar` where the sum doesn't fit in `size` bytes; then no byte is touched.
+pub fn add_pointer(
+    memory: &mut GuestMemory,
+    placed: &[PlacedFile],
+    dest: &Name,
+    src: &Name,
+    offset: u32,
+    size: u8,
+) -> Result<(), TooFar>
+    requires placed { ArePlaced memory.old.top placed.now }
+    requires lawful { CanPoint (files_in memory.old placed.now) dest.now src.now offset size }
+    ensures fits { OnOk result (pointer_sum (files_in memory.old placed.now) dest.now src.now offset size < 256 ^ size) }
+    ensures after { OnOk result (files_in memory.new placed.now ≡ with_pointer dest.now src.now offset size (files_in memory.old placed.now)) }
+    ensures stays { OnOk result (Stays memory.old memory.new placed.now placed.now) }
+    ensures far { OnErr result (256 ^ size ≤ pointer_sum (files_in memory.old placed.now) dest.now src.now offset size) }
+    ensures same { OnErr result (memory.new ≡ memory.old) }
+    ensures exact { OnOk result (memory.new ≡ pointed memory.old placed.now dest.now src.now offset size) }
+{
+    let field = placed_of(placed, dest).place + u64::from(offset);
+    let amount = placed_of(placed, src).place;
+    memory.patch_add(field, size, amount)
+}
+
+/// Carries out an AddChecksum: subtracts the sum of the `length` bytes at `start` in the file `name`, modulo 256, from the byte at
+/// `offset` in it. The files of `placed` stand in RAM and apart, the file is among them, and the byte and the range lie in it. Where
+/// the byte lies in the range, the range then sums to zero. Each other byte of memory stays. It takes no memory.
+pub fn add_checksum(
+    memory: &mut GuestMemory,
+    placed: &[PlacedFile],
+    name: &Name,
+    offset: u32,
+    start: u32,
+    length: u32,
+)
+    requires placed { ArePlaced memory.old.top placed.now }
+    requires lawful { CanSum (files_in memory.old placed.now) name.now offset start length }
+    ensures after { files_in memory.new placed.now ≡ with_sum name.now offset start length (files_in memory.old placed.now) }
+    ensures stays { Stays memory.old memory.new placed.now placed.now }
+    ensures exact { memory.new ≡ summed memory.old placed.now name.now offset start length }
+{
+    let place = placed_of(placed, name).place;
+    let field = place + u64::from(offset);
+    let range = place + u64::from(start);
+    let byte = memory.read(field);
+    let sum = memory.sum_range(range, length);
+    memory.write(field, byte.wrapping_sub(sum));
+}
+
+// The placed file that has the name.
+fn placed_of<'a>(placed: &'a [PlacedFile], name: &Name) -> &'a PlacedFile
+    requires { IsSome (placed_named placed.now name.now) }
+    ensures { placed_named placed.now name.now ≡ Some result.now }
+{
+    placed.iter().find(|file| file.name == *name).unwrap()
+}

@@ -1,9 +1,0 @@
-use Rattle.std.proofs.Common.{arith}
-use Rattle.firmware_load.proofs.AtStages.{commands_fit}
-use Rattle.firmware_load.proofs.loading.Loading.await_script.Goals as goal
-
-pub take_commands-requires-clause-room : goal.take_commands-requires-clause-room
-take_commands-requires-clause-room c =
-    let script = c.args.self.now.script in
-    let fits = commands_fit c.requires.inside.kept c.requires.stage c.requires.inside.rooms.script in
-    omega (arith, fits.fit, script.ok.0, c.buffered.ensures.len, c.asked-bytes.ensures)

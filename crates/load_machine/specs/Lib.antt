@@ -1,7 +1,0 @@
-pub mod Guarded
-pub mod Machine
-pub mod Steps
-pub mod Runs
-pub mod Moves
-pub mod Kept
-pub mod Loads

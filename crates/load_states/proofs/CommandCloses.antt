@@ -1,0 +1,98 @@
+-- The closing step, behind the last command.
+use Rattle.std.proofs.Common.{◌≡◌, ℕ, ◌+◌, ◌-◌, ◌<◌, ◌≤◌, ◌⊎◌, true, false, List, [], ◌∷◌, ◌++◌, length, replicate, Ok}
+use Rattle.std.proofs.Common.{inl, inr, arith, refl, ap, sym, subst, ◌∙◌}
+use Rattle.std.proofs.lemmas.Bool.Decides.{nat_tests}
+use Rattle.std.proofs.lemmas.List.{get_or-replicate, length-replicate}
+use Rattle.vt_bytes.specs.Memory.{Memory, IsMemory, IsRamRange, at, with_bytes}
+use Rattle.vt_bytes.proofs.Memories.{byte_with, others_with, lawful_with}
+use Rattle.cfg_directory.specs.declared.item.Item.{Item}
+use Rattle.loader_script.specs.Run.{Placed, Done}
+use Rattle.cfg_directory.specs.Files.{files_of}
+use Rattle.command_acts.specs.FilesInMemory.{files_in, placed_ranges}
+use Rattle.command_acts.specs.Runs.{Answers, EndsWith}
+use Rattle.load_states.specs.declared.event.Event.{Event}
+use Rattle.load_states.specs.declared.event.Event.TheVariants.{Firmware}
+use Rattle.load_states.specs.declared.stage.Stage.TheVariants.{AtCommand}
+use Rattle.load_states.specs.Guarded.{descriptor_at, buffer_at, buffer_size, is_work}
+use Rattle.load_states.specs.LoadState.{LoadState, memory_of, files_now}
+use Rattle.load_states.specs.Steps.{cleared, closed}
+use Rattle.load_states.specs.Kept.{IsKept, StageKeeps, IsCleared}
+use Rattle.load_states.proofs.Frames.{kept_from, files_same, left_firmware, beside_work, descriptor_ram, buffer_ram}
+use Rattle.load_states.proofs.Fronts.{all_done}
+use Rattle.load_states.proofs.CommandCauses.{ended_run}
+
+-- a range that is filled holds the fill byte
+filled_there : (m : Memory) (start count fill address : ℕ) → IsMemory m → IsRamRange m.top start count → start ≤ address → address < start + count
+    → at (with_bytes m start (replicate count fill)) address ≡ fill
+filled_there m start count fill address lawful ram from below =
+    let i = address - start in
+    let place : address ≡ start + i = omega arith in
+    let within : i < count = omega arith in
+    ap (at (with_bytes m start (replicate count fill))) place
+    ∙ byte_with m start (replicate count fill) i lawful (λ k less. ram k (omega (arith, length-replicate count fill)))
+    (omega (arith, length-replicate count fill))
+    ∙ get_or-replicate count i fill 0 within
+
+-- and other bytes stay
+filled_other : (m : Memory) (start count fill address : ℕ) → IsMemory m → (address < start) ⊎ (start + count ≤ address)
+    → at (with_bytes m start (replicate count fill)) address ≡ at m address
+filled_other m start count fill address lawful other =
+    others_with m start (replicate count fill) address lawful
+    (subst (λ (n : ℕ). (address < start) ⊎ (start + n ≤ address)) (sym (length-replicate count fill)) other)
+
+-- an address of the work range is one of the descriptor or of the buffer
+work_parts : (address : ℕ) → is_work address ≡ true
+    → ((descriptor_at ≤ address) × (address < descriptor_at + 16)) ⊎ ((buffer_at ≤ address) × (address < buffer_at + 4096))
+work_parts address is = grind (arith, nat_tests)
+
+-- clearing leaves the bytes outside of the work range
+cleared_other : (m : Memory) (address : ℕ) → IsMemory m → is_work address ≡ false → at (cleared m) address ≡ at m address
+cleared_other m address lawful other =
+    let beside = beside_work address other in
+    let first = with_bytes m descriptor_at (replicate 16 m.fill) in
+    filled_other first buffer_at buffer_size m.fill address (lawful_with m descriptor_at (replicate 16 m.fill) lawful) beside.1
+    ∙ filled_other m descriptor_at 16 m.fill address lawful beside.0
+
+-- and fills those of it
+cleared_work : (m : Memory) → IsMemory m → IsCleared (cleared m)
+cleared_work m lawful address work =
+    let first = with_bytes m descriptor_at (replicate 16 m.fill) in
+    let first_lawful = lawful_with m descriptor_at (replicate 16 m.fill) lawful in
+    elim (work_parts address work) as (λ _. at (cleared m) address ≡ m.fill) [
+      | inl is ↦
+          filled_other first buffer_at buffer_size m.fill address first_lawful (inl (omega (arith, is.1)))
+          ∙ filled_there m descriptor_at 16 m.fill address lawful (descriptor_ram m.top) is.0 is.1
+      | inr is ↦ filled_there first buffer_at buffer_size m.fill address first_lawful (buffer_ram m.top) is.0 is.1
+    ]
+
+-- placed files stay
+files_cleared : (May : Answers) (items : List Item) (top fill : ℕ) (events : List Event) (w : LoadState) → IsKept May items top fill events w
+    → files_in (cleared (memory_of w)) w.placed ≡ files_now w
+files_cleared May items top fill events w kept =
+    files_same top (memory_of w) (cleared (memory_of w)) w.placed kept.top kept.loading.apart kept.zoned
+    (λ address ram guarded other. cleared_other (memory_of w) address kept.memory other)
+
+-- The firmware closes the load behind the last command.
+pub closed_keeps : (May : Answers) (items : List Item) (top fill : ℕ) (events : List Event) (w : LoadState) (index : ℕ)
+    → IsKept May items top fill events w → StageKeeps May items w (AtCommand index) → length w.script ≤ index
+    → IsKept May items top fill (events ++ Firmware ∷ []) (closed w)
+closed_keeps May items top fill events w index kept keeps past =
+    let m = memory_of w in
+    let ends = all_done May (files_of items) w.script index (placed_ranges w.placed) (files_now w) past keeps.3 in
+    let same = files_cleared May items top fill events w kept in
+    kept_from May items top fill events (events ++ Firmware ∷ []) w (closed w) kept
+    (record {
+      items = refl;
+      room = refl;
+      device = kept.device;
+      memory = lawful_with (with_bytes m descriptor_at (replicate 16 m.fill)) buffer_at (replicate buffer_size m.fill)
+          (lawful_with m descriptor_at (replicate 16 m.fill) kept.memory);
+      top = refl;
+      fill = refl;
+    }) refl
+    (λ address ram other beside. cleared_other m address kept.memory other) (λ address. left_firmware top fill events address) (
+      ended_run May items w.script Done (Ok tt) (closed w) keeps.2.idle keeps.0.script
+          (subst (λ (now : List Placed). EndsWith May (files_of items) 0 w.script [] Done now) (sym same) ends) refl,
+      keeps.2.finished,
+      cleared_work m kept.memory,
+    )

@@ -1,0 +1,145 @@
+-- What a step of the load leaves as it was.
+use Rattle.std.proofs.Common.{◌≡◌, ℕ, ◌+◌, ◌<◌, ◌≤◌, ◌⊎◌, inl, inr, true, false, List, [], ◌∷◌, ◌++◌, length, ◌==◌, ◌&&◌, not, if◌then◌else◌}
+use Rattle.std.proofs.Common.{arith, refl, sym, ap, ap₂, subst, ◌∙◌}
+use Rattle.std.specs.Prelude.{nat_lt, nat_le, ◌||◌}
+use Rattle.std.specs.List.{AllByRecursion}
+use Rattle.std.proofs.lemmas.Bool.{leb-false, ltb-false, le-leb, lt-ltb, and_from, and_cases, or_parts, or_left, or_right}
+use Rattle.vt_outside.specs.Placement.{high_zone}
+use Rattle.vt_bytes.specs.Memory.{Memory, IsRam, at}
+use Rattle.vt_bytes.proofs.Bytes.{bytes_at-same}
+use Rattle.cfg_directory.specs.declared.item.Item.{Item}
+use Rattle.loader_script.specs.Run.{Placed, infos_of}
+use Rattle.cfg_directory.specs.Files.{files_of}
+use Rattle.cfg_dma.specs.Reads.{GoesOn}
+use Rattle.command_acts.specs.declared.placed.PlacedFile.{PlacedFile}
+use Rattle.command_acts.specs.FilesInMemory.{files_in, ArePlaced, IsBeside, IsLoading}
+use Rattle.command_acts.specs.Placing.{count_places, places_in}
+use Rattle.command_acts.specs.Runs.{Answers}
+use Rattle.load_states.specs.declared.event.Event.{Event}
+use Rattle.load_states.specs.declared.event.Event.TheVariants.{Device, Firmware, Other}
+use Rattle.load_states.specs.Guarded.{descriptor_at, buffer_at, is_work, is_guarded}
+use Rattle.load_states.specs.LoadState.{LoadState, memory_of}
+use Rattle.load_states.specs.Moves.{most_transfers}
+use Rattle.load_states.specs.Runs.{left_by_others}
+use Rattle.load_states.specs.Kept.{IsKept, StageKeeps, IsZoned}
+
+-- ---- what the other processors left, after one more event
+
+-- a piece of the device's transfer adds nothing
+pub left_device : (top held : ℕ) (events : List Event) (bytes address : ℕ)
+    → left_by_others top held (events ++ Device bytes ∷ []) address ≡ left_by_others top held events address
+left_device top held [] bytes address = refl
+left_device top held (Other written byte ∷ events) bytes address =
+    left_device top (if written == address && not (is_guarded top address) then byte else held) events bytes address
+left_device top held (Device count ∷ events) bytes address = left_device top held events bytes address
+left_device top held (Firmware ∷ events) bytes address = left_device top held events bytes address
+
+-- a step of the firmware adds nothing
+pub left_firmware : (top held : ℕ) (events : List Event) (address : ℕ)
+    → left_by_others top held (events ++ Firmware ∷ []) address ≡ left_by_others top held events address
+left_firmware top held [] address = refl
+left_firmware top held (Other written byte ∷ events) address =
+    left_firmware top (if written == address && not (is_guarded top address) then byte else held) events address
+left_firmware top held (Device count ∷ events) address = left_firmware top held events address
+left_firmware top held (Firmware ∷ events) address = left_firmware top held events address
+
+-- a write of another processor adds its byte, at its address where that isn't guarded
+pub left_other : (top held : ℕ) (events : List Event) (written byte address : ℕ)
+    → left_by_others top held (events ++ Other written byte ∷ []) address
+    ≡ (if written == address && not (is_guarded top address) then byte else left_by_others top held events address)
+left_other top held [] written byte address = refl
+left_other top held (Other earlier other ∷ events) written byte address =
+    left_other top (if earlier == address && not (is_guarded top address) then other else held) events written byte address
+left_other top held (Device count ∷ events) written byte address = left_other top held events written byte address
+left_other top held (Firmware ∷ events) written byte address = left_other top held events written byte address
+
+-- ---- the work range
+
+-- the descriptor stands in RAM
+pub descriptor_ram : (top i : ℕ) → i < 16 → IsRam top (descriptor_at + i)
+descriptor_ram top i within = inl (omega arith, omega arith)
+
+-- so does the buffer
+pub buffer_ram : (top i : ℕ) → i < 4096 → IsRam top (buffer_at + i)
+buffer_ram top i within = inl (omega arith, omega arith)
+
+-- the descriptor is in the work range
+pub descriptor_is_work : (i : ℕ) → i < 16 → is_work (descriptor_at + i) ≡ true
+descriptor_is_work i within =
+    let address = descriptor_at + i in
+    or_left (nat_le descriptor_at address && nat_lt address 0x7010) (nat_le buffer_at address && nat_lt address 0x9000)
+    (and_from (nat_le descriptor_at address) (nat_lt address 0x7010) (le-leb descriptor_at address (omega arith))
+    (lt-ltb address 0x7010 (omega arith)))
+
+-- so is the buffer
+pub buffer_is_work : (i : ℕ) → i < 4096 → is_work (buffer_at + i) ≡ true
+buffer_is_work i within =
+    let address = buffer_at + i in
+    or_right (nat_le descriptor_at address && nat_lt address 0x7010) (nat_le buffer_at address && nat_lt address 0x9000)
+    (and_from (nat_le buffer_at address) (nat_lt address 0x9000) (le-leb buffer_at address (omega arith)) (lt-ltb address 0x9000 (omega arith)))
+
+-- the work range is guarded
+pub work_is_guarded : (top address : ℕ) → is_work address ≡ true → is_guarded top address ≡ true
+work_is_guarded top address is =
+    or_left (is_work address || (nat_le 0xE0000 address && nat_lt address 0x100000))
+    (nat_le (high_zone top).start address && nat_lt address top)
+    (or_left (is_work address) (nat_le 0xE0000 address && nat_lt address 0x100000) is)
+
+-- an address that isn't in a range is below it or from its end on
+outside : (address start end : ℕ) → (nat_le start address && nat_lt address end) ≡ false → (address < start) ⊎ (end ≤ address)
+outside address start end is =
+    elim (and_cases (nat_le start address) (nat_lt address end) is) as (λ _. (address < start) ⊎ (end ≤ address)) [
+      | inl below ↦ inl (leb-false start address below)
+      | inr from ↦ inr (ltb-false address end from)
+    ]
+
+-- an address that isn't in the work range is beside the descriptor and beside the buffer
+pub beside_work : (address : ℕ) → is_work address ≡ false
+    → ((address < descriptor_at) ⊎ (descriptor_at + 16 ≤ address)) × ((address < buffer_at) ⊎ (buffer_at + 4096 ≤ address))
+beside_work address is =
+    let ranges = or_parts (nat_le descriptor_at address && nat_lt address 0x7010) (nat_le buffer_at address && nat_lt address 0x9000) is in (
+      outside address descriptor_at 0x7010 ranges.0,
+      outside address buffer_at 0x9000 ranges.1,
+    )
+
+-- ---- placed files
+
+-- files hold the same bytes where guarded places beside the work range do
+pub files_same : (top : ℕ) (before after : Memory) (placed : List PlacedFile) → before.top ≡ top → ArePlaced top placed
+    → AllByRecursion (IsZoned top) placed
+    → ((address : ℕ) → IsRam top address → is_guarded top address ≡ true → is_work address ≡ false → at after address ≡ at before address)
+    → files_in after placed ≡ files_in before placed
+files_same top before after [] its_top apart zoned same = refl
+files_same top before after (p ∷ placed) its_top apart zoned same =
+    ap₂ (λ (x : Placed) (xs : List Placed). x ∷ xs)
+    (ap (λ (held : List ℕ). record { name = p.name; place = p.place; bytes = held }) (bytes_at-same after before p.place p.size
+    (λ i within. same (p.place + i) (apart.0 i within) (zoned.0 i within).0 (zoned.0 i within).1)))
+    (files_same top before after placed its_top apart.3 zoned.1 same)
+
+-- ---- what is kept
+
+-- A step keeps what the load keeps if it changes no byte but in the work range and in placed files, places no file, and what holds at
+-- its new stage holds.
+pub kept_from : (May : Answers) (items : List Item) (top fill : ℕ) (events later : List Event) (w next : LoadState)
+    → IsKept May items top fill events w → GoesOn w.attached next.attached → next.placed ≡ w.placed
+    → ((address : ℕ) → IsRam top address → is_work address ≡ false → AllByRecursion (IsBeside address) w.placed
+    → at (memory_of next) address ≡ at (memory_of w) address)
+    → ((address : ℕ) → left_by_others top fill later address ≡ left_by_others top fill events address)
+    → StageKeeps May items next next.stage → IsKept May items top fill later next
+kept_from May items top fill events later w next kept goes placed same left stage = record {
+  lawful = kept.lawful;
+  names = kept.names;
+  items = goes.items ∙ kept.items;
+  device = goes.device;
+  room = subst (λ n. most_transfers items ≤ n) (sym goes.room) kept.room;
+  memory = goes.memory;
+  top = goes.top ∙ kept.top;
+  fill = goes.fill ∙ kept.fill;
+  loading = subst (IsLoading top (files_of items)) (sym placed) kept.loading;
+  zoned = subst (AllByRecursion (IsZoned top)) (sym placed) kept.zoned;
+  count = subst (λ (files : List PlacedFile). length files ≡ count_places (places_in files (infos_of (files_of items)))) (sym placed) kept.count;
+  others = λ address ram other beside.
+      let before = subst (AllByRecursion (IsBeside address)) placed beside in
+      same address ram other before ∙ kept.others address ram other before ∙ sym (left address);
+  stage = stage;
+}

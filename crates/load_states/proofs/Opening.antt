@@ -1,0 +1,61 @@
+-- What a load keeps when it is begun.
+use Rattle.std.proofs.Common.{◌≡◌, ℕ, ◌≤◌, List, [], ◌∷◌, length, inl, arith, refl, ap, sym, subst, ◌∙◌}
+use Rattle.std.specs.List.{AllByRecursion}
+use Rattle.vt_bytes.specs.Memory.{IsRam}
+use Rattle.cfg_directory.specs.declared.item.Item.{Item}
+use Rattle.cfg_directory.specs.Items.{IsItems}
+use Rattle.cfg_dma.specs.Device.{DeviceState, IsDevice}
+use Rattle.cfg_dma.specs.Transfers.{room_of}
+use Rattle.cfg_directory.specs.Files.{files_of}
+use Rattle.loader_script.specs.declared.refusing.FileInfo.{FileInfo}
+use Rattle.loader_script.specs.Run.{infos_of}
+use Rattle.command_acts.specs.declared.placed.PlacedFile.{PlacedFile}
+use Rattle.command_acts.specs.FilesInMemory.{IsLoading}
+use Rattle.command_acts.specs.Placing.{count_places, places_in}
+use Rattle.command_acts.specs.Runs.{Answers}
+use Rattle.load_states.specs.LoadState.{LoadState}
+use Rattle.load_states.specs.Kept.{IsKept, IsZoned, StageKeeps}
+use Rattle.load_states.specs.Loads.{IsBegun, begun_device}
+use Rattle.load_states.specs.Moves.{most_transfers}
+
+-- no files have no places
+nothing_placed : (infos : List FileInfo) → 0 ≡ count_places (places_in [] infos)
+nothing_placed [] = refl
+nothing_placed (info ∷ infos) = nothing_placed infos
+
+-- a device that is begun is lawful
+begun_lawful : (items : List Item) → IsItems items → IsDevice (begun_device items)
+begun_lawful items lawful = record { items = lawful; offset = omega arith; flight = tt }
+
+-- A load that is begun keeps, over no events, what a load keeps, however places will be answered.
+pub begun_keeps : (May : Answers) (items : List Item) (top fill : ℕ) (w : LoadState) → IsBegun items top fill w → IsKept May items top fill [] w
+begun_keeps May items top fill w begun =
+    let none : w.placed ≡ [] = begun.nothing.placed in
+    record {
+      lawful = begun.lawful;
+      names = begun.names;
+      items = ap (λ (d : DeviceState). d.items) begun.device;
+      device = subst IsDevice (sym begun.device) (begun_lawful items begun.lawful);
+      room = subst (λ (d : DeviceState). most_transfers items ≤ room_of d) (sym begun.device) (omega arith);
+      memory = begun.memory;
+      top = begun.top;
+      fill = begun.fill;
+      loading = subst (IsLoading top (files_of items)) (sym none) (record { apart = tt; sizes = tt });
+      zoned = subst (AllByRecursion (IsZoned top)) (sym none) tt;
+      count = subst (λ (placed : List PlacedFile). length placed ≡ count_places (places_in placed (infos_of (files_of items)))) (sym none)
+          (nothing_placed (infos_of (files_of items)));
+      others = λ address ram other beside. begun.blank address (subst (λ t. IsRam t address) (sym begun.top) ram) ∙ begun.fill;
+      stage = subst (StageKeeps May items w) (sym begun.stage) (
+        tt,
+        (
+          begun.nothing,
+          record {
+            idle = record {
+              idle = ap (λ (d : DeviceState). d.flight) begun.device;
+              finished = ap (λ (d : DeviceState). d.finished) begun.device;
+            };
+            asks = inl (refl, omega arith, refl);
+          },
+        ),
+      );
+    }

@@ -1,0 +1,234 @@
+-- A write of another processor keeps what the load keeps.
+use Rattle.std.proofs.Common.{◌≡◌, ◌≢◌, ℕ, ◌+◌, ◌<◌, ◌≤◌, ◌⊎◌, inl, inr, Bool, true, false, List, [], ◌∷◌, ◌++◌, ◌==◌, ◌&&◌, not}
+use Rattle.std.proofs.Common.{if◌then◌else◌, Option, Result, Ok, Err, arith, refl, sym, ap, ap₂, subst, ◌∙◌}
+use Rattle.std.specs.Prelude.{nat_lt, nat_le, IfOk}
+use Rattle.std.specs.List.{AllByRecursion}
+use Rattle.std.proofs.lemmas.Bool.{cases_lt, cases_eq, cond-true, cond-false, and_parts, and_cases, and_left, and_right, and_from}
+use Rattle.std.proofs.lemmas.Bool.{both_ways, eq-eqb, ne_eqb, not_from_true, or_cases, ltb-true}
+use Rattle.vt_bytes.specs.Memory.{Memory, IsMemory, IsRam, IsRamRange, at, is_ram, with_bytes}
+use Rattle.vt_bytes.proofs.Memories.{byte_with, others_with, lawful_with}
+use Rattle.vt_bytes.proofs.Seen.{ram_tested}
+use Rattle.cfg_directory.specs.declared.item.Item.{Item}
+use Rattle.loader_script.specs.Run.{Placed, End}
+use Rattle.cfg_directory.specs.Files.{files_of}
+use Rattle.cfg_dma.proofs.Awaited.{awaited_same}
+use Rattle.command_acts.specs.declared.fault.LoadFault.{LoadFault}
+use Rattle.command_acts.specs.declared.placed.PlacedFile.{PlacedFile}
+use Rattle.command_acts.specs.FilesInMemory.{files_in, ArePlaced}
+use Rattle.command_acts.specs.Runs.{Answers, EndsWith, result_of}
+use Rattle.command_acts.specs.Script.{script_in}
+use Rattle.load_states.specs.declared.event.Event.{Event}
+use Rattle.load_states.specs.declared.event.Event.TheVariants.{Other}
+use Rattle.load_states.specs.declared.stage.Stage.{Stage}
+use Rattle.load_states.specs.declared.stage.Stage.TheVariants.{Asks, Awaits, AtCommand, Done, Refused}
+use Rattle.load_states.specs.Guarded.{descriptor_at, buffer_at, is_work, is_guarded, written_by_other}
+use Rattle.load_states.specs.LoadState.{LoadState, memory_of, with_memory}
+use Rattle.load_states.specs.Steps.{step}
+use Rattle.load_states.specs.Kept.{IsKept, StageKeeps, IsZoned, IsNext, IsAwaiting, IsCleared, HasCarriedOut, HasEnded, read_by}
+use Rattle.load_states.proofs.Frames.{left_other, descriptor_is_work, work_is_guarded, files_same}
+use Rattle.load_states.proofs.Looks.{by_test}
+use Rattle.load_states.proofs.Known.{FrontStays, known_still, front_outside, read_guarded}
+use Rattle.load_states.proofs.Taken.{script_still}
+
+-- ---- the byte that is written
+
+-- whether a write of another processor is carried out
+abbrev is_carried_out : ℕ → ℕ → Bool
+is_carried_out top address = is_ram top address && not (is_guarded top address)
+
+-- a place that isn't written holds what it held
+not_there : (m : Memory) (written byte address : ℕ) → written ≢ address
+    → (if written == address && not (is_guarded m.top address) then byte else at m address) ≡ at m address
+not_there m written byte address other =
+    cond-false (written == address && not (is_guarded m.top address)) byte (at m address)
+    (and_left (written == address) (not (is_guarded m.top address)) (ne_eqb written address other))
+
+-- a write that is carried out changes its byte alone
+byte_changed : (m : Memory) (written byte address : ℕ) → IsMemory m → IsRam m.top address → is_carried_out m.top written ≡ true
+    → at (with_bytes m written (byte ∷ [])) address ≡ (if written == address && not (is_guarded m.top address) then byte else at m address)
+byte_changed m written byte address memory ram carried =
+    let after = with_bytes m written (byte ∷ []) in
+    let free = and_parts (is_ram m.top written) (not (is_guarded m.top written)) carried in
+    let test = written == address && not (is_guarded m.top address) in
+    elim (cases_eq written address) as (λ _. at after address ≡ (if test then byte else at m address)) [
+      | inl same ↦
+          let writable : IsRamRange m.top written 1 = λ i below. let here : address ≡ written + i = omega arith in subst (IsRam m.top) here ram in
+          let first : address ≡ written + 0 = omega arith in
+          ap (at after) first ∙ byte_with m written (byte ∷ []) 0 memory writable (omega arith)
+          ∙ sym (cond-true test byte (at m address) (and_from (written == address) (not (is_guarded m.top address)) (eq-eqb written address same)
+          (subst (λ a. not (is_guarded m.top a) ≡ true) same free.1)))
+      | inr other ↦
+          let apart : (address < written) ⊎ (written + 1 ≤ address) =
+          elim (cases_lt address written) as (λ _. (address < written) ⊎ (written + 1 ≤ address)) [
+            | inl below ↦ inl below
+            | inr from ↦ inr (omega arith)
+          ] in
+          others_with m written (byte ∷ []) address memory apart ∙ sym (not_there m written byte address other)
+    ]
+
+-- a write that isn't changes no byte that is RAM
+byte_refused : (m : Memory) (written byte address : ℕ) → IsRam m.top address → is_carried_out m.top written ≡ false
+    → at m address ≡ (if written == address && not (is_guarded m.top address) then byte else at m address)
+byte_refused m written byte address ram refused =
+    let test = written == address && not (is_guarded m.top address) in
+    elim (cases_eq written address) as (λ _. at m address ≡ (if test then byte else at m address)) [
+      | inl same ↦
+          elim (and_cases (is_ram m.top written) (not (is_guarded m.top written)) refused)
+          as (λ _. at m address ≡ (if test then byte else at m address)) [
+            | inl none ↦ absurd (both_ways (is_ram m.top written) none (ram_tested m.top written (subst (IsRam m.top) (sym same) ram)))
+            | inr guarded ↦
+                sym (cond-false test byte (at m address) (and_right (written == address) (not (is_guarded m.top address))
+                (subst (λ a. not (is_guarded m.top a) ≡ false) same guarded)))
+          ]
+      | inr other ↦ sym (not_there m written byte address other)
+    ]
+
+-- What a place that is RAM holds after a write of another processor: the byte, if it was written there and the place isn't guarded.
+at_other : (m : Memory) (written byte address : ℕ) → IsMemory m → IsRam m.top address
+    → at (written_by_other written byte m) address ≡ (if written == address && not (is_guarded m.top address) then byte else at m address)
+at_other m written byte address memory ram =
+    by_test (λ (n : Memory). at n address ≡ (if written == address && not (is_guarded m.top address) then byte else at m address))
+    (is_carried_out m.top written) (with_bytes m written (byte ∷ [])) m (byte_changed m written byte address memory ram)
+    (byte_refused m written byte address ram)
+
+-- guarded places hold the same
+abbrev GuardedStay : ℕ → Memory → Memory → Type 0
+GuardedStay top before after = (address : ℕ) → IsRam top address → is_guarded top address ≡ true → at after address ≡ at before address
+
+-- no processor writes what is guarded
+guarded_stay : (m : Memory) (written byte : ℕ) → IsMemory m → GuardedStay m.top m (written_by_other written byte m)
+guarded_stay m written byte memory address ram guarded =
+    at_other m written byte address memory ram
+    ∙ cond-false (written == address && not (is_guarded m.top address)) byte (at m address)
+    (and_right (written == address) (not (is_guarded m.top address)) (not_from_true (is_guarded m.top address) guarded))
+
+-- a memory has the top and the fill byte of another
+record KeepsTopAndFill (before after : Memory) : Type 0 where
+  top : after.top ≡ before.top
+  fill : after.fill ≡ before.fill
+
+-- and what a processor leaves is a memory still
+other_lawful : (m : Memory) (written byte : ℕ) → IsMemory m
+    → IsMemory (written_by_other written byte m) × KeepsTopAndFill m (written_by_other written byte m)
+other_lawful m written byte memory =
+    by_test (λ (n : Memory). IsMemory n × KeepsTopAndFill m n) (is_carried_out m.top written) (with_bytes m written (byte ∷ [])) m
+    (λ _. (lawful_with m written (byte ∷ []) memory, record { top = refl; fill = refl }))
+    (λ _. (memory, record { top = refl; fill = refl }))
+
+-- ---- where guarded places stay
+
+-- a low address is RAM
+low_is_ram : (top address end : ℕ) → end ≤ 0xA0000 → address < end → IsRam top address
+low_is_ram top address end low below = inl (omega arith, omega arith)
+
+-- the work range is RAM
+work_is_ram : (top address : ℕ) → is_work address ≡ true → IsRam top address
+work_is_ram top address is =
+    elim (or_cases (nat_le descriptor_at address && nat_lt address 0x7010) (nat_le buffer_at address && nat_lt address 0x9000) is)
+    as (λ _. IsRam top address) [
+      | inl word ↦ low_is_ram top address 0x7010 (omega arith)
+          (ltb-true address 0x7010 (and_parts (nat_le descriptor_at address) (nat_lt address 0x7010) word).1)
+      | inr buffer ↦ low_is_ram top address 0x9000 (omega arith)
+          (ltb-true address 0x9000 (and_parts (nat_le buffer_at address) (nat_lt address 0x9000) buffer).1)
+    ]
+
+-- so the work range stays
+work_stays : (top : ℕ) (before after : Memory) (address : ℕ) → GuardedStay top before after → is_work address ≡ true
+    → at after address ≡ at before address
+work_stays top before after address stay is = stay address (work_is_ram top address is) (work_is_guarded top address is)
+
+-- placed files hold what they held
+files_stay : (top : ℕ) (before after : Memory) (placed : List PlacedFile) → before.top ≡ top → ArePlaced top placed
+    → AllByRecursion (IsZoned top) placed → GuardedStay top before after → files_in after placed ≡ files_in before placed
+files_stay top before after placed its_top apart zoned stay =
+    files_same top before after placed its_top apart zoned (λ address ram guarded other. stay address ram guarded)
+
+-- so do those before the last
+front_stays : (top : ℕ) (w : LoadState) (m : Memory) → (memory_of w).top ≡ top → ArePlaced top w.placed → AllByRecursion (IsZoned top) w.placed
+    → GuardedStay top (memory_of w) m → FrontStays w m
+front_stays top w m its_top apart zoned stay = front_outside top w m its_top apart zoned (λ address ram guarded other. stay address ram guarded)
+
+-- ---- what holds at a stage
+
+-- a load that has ended has ended so
+ended_same : (May : Answers) (items : List Item) (answer : Result (Unit {0}) LoadFault) (w : LoadState) (m : Memory)
+    → files_in m w.placed ≡ files_in (memory_of w) w.placed → HasEnded May items answer w → HasEnded May items answer (with_memory w m)
+ended_same May items answer w m same ended = record {
+  idle = ended.idle;
+  unread = ended.unread;
+  ran = subst (λ (files : List Placed). IfOk (script_in items) (λ script.
+      (end : End) × EndsWith May (files_of items) 0 script [] end files × (answer ≡ result_of end))) (sym same) ended.ran;
+}
+
+-- the work range holds the fill byte still
+cleared_same : (top : ℕ) (before after : Memory) → after.fill ≡ before.fill → GuardedStay top before after → IsCleared before → IsCleared after
+cleared_same top before after fill stay cleared address is = work_stays top before after address stay is ∙ cleared address is ∙ sym fill
+
+-- What holds at a stage holds over a memory with the same bytes at the places that are guarded.
+stage_same : (May : Answers) (items : List Item) (top : ℕ) (w : LoadState) (m : Memory) (stage : Stage) → (memory_of w).top ≡ top
+    → KeepsTopAndFill (memory_of w) m → ArePlaced top w.placed → AllByRecursion (IsZoned top) w.placed → GuardedStay top (memory_of w) m
+    → StageKeeps May items w stage → StageKeeps May items (with_memory w m) stage
+stage_same May items top w m (Asks reading) its_top keeps_top apart zoned stay keeps =
+    let next = keeps.1.1 in
+    let still = known_still May items w (record w.attached { memory = m }) w.stage reading (front_stays top w m its_top apart zoned stay) keeps.1.0 in (
+      keeps.0,
+      (
+        still.known,
+        subst (IsNext (with_memory w m)) (sym still.same)
+            (record { idle = record { idle = next.idle.idle; finished = next.idle.finished }; asks = next.asks }),
+      ),
+    )
+stage_same May items top w m (Awaits reading) its_top keeps_top apart zoned stay keeps =
+    let known = keeps.0 in
+    let r = read_by May items w reading known in
+    let still = known_still May items w (record w.attached { memory = m }) w.stage reading (front_stays top w m its_top apart zoned stay) known in (
+      still.known,
+      subst (IsAwaiting items (with_memory w m)) (sym still.same)
+          (awaited_same items r.before descriptor_at r.control r.transfer w.attached m keeps.1 keeps_top.top
+          (λ i within. work_stays top (memory_of w) m (descriptor_at + i) stay (descriptor_is_work i within))
+          (λ i within.
+          let there = read_guarded May items top w reading apart zoned known i within in stay (r.transfer.address + i) there.0 there.1)),
+    )
+stage_same May items top w m (AtCommand index) its_top keeps_top apart zoned stay keeps = (
+  script_still items w (record w.attached { memory = m }) w.stage keeps.0,
+  keeps.1,
+  record { idle = keeps.2.idle; finished = keeps.2.finished },
+  subst (λ (files : List Placed). HasCarriedOut May items index files w)
+      (sym (files_stay top (memory_of w) m w.placed its_top apart zoned stay)) keeps.3,
+)
+stage_same May items top w m Done its_top keeps_top apart zoned stay keeps = (
+  ended_same May items (Ok tt) w m (files_stay top (memory_of w) m w.placed its_top apart zoned stay) keeps.0,
+  keeps.1,
+  cleared_same top (memory_of w) m keeps_top.fill stay keeps.2,
+)
+stage_same May items top w m (Refused why) its_top keeps_top apart zoned stay keeps =
+    ended_same May items (Err why) w m (files_stay top (memory_of w) m w.placed its_top apart zoned stay) keeps
+
+-- ---- the event
+
+-- A write of another processor keeps what the load keeps.
+pub other_keeps : (May : Answers) (items : List Item) (top fill : ℕ) (events : List Event) (w : LoadState) (address byte : ℕ) (answer : Option ℕ)
+    → IsKept May items top fill events w → IsKept May items top fill (events ++ Other address byte ∷ []) (step (Other address byte) answer w)
+other_keeps May items top fill events w address byte answer kept =
+    let m = memory_of w in
+    let after = written_by_other address byte m in
+    let lawful = other_lawful m address byte kept.memory in
+    let stay : GuardedStay top m after = subst (λ t. GuardedStay t m after) kept.top (guarded_stay m address byte kept.memory) in
+    record {
+      lawful = kept.lawful;
+      names = kept.names;
+      items = kept.items;
+      device = kept.device;
+      room = kept.room;
+      memory = lawful.0;
+      top = lawful.1.top ∙ kept.top;
+      fill = lawful.1.fill ∙ kept.fill;
+      loading = kept.loading;
+      zoned = kept.zoned;
+      count = kept.count;
+      others = λ place ram other beside.
+          at_other m address byte place kept.memory (subst (λ t. IsRam t place) (sym kept.top) ram)
+          ∙ ap₂ (λ t held. if address == place && not (is_guarded t place) then byte else held) kept.top (kept.others place ram other beside)
+          ∙ sym (left_other top fill events address byte place);
+      stage = stage_same May items top w after w.stage kept.top lawful.1 kept.loading.apart kept.zoned stay kept.stage;
+    }

@@ -1,0 +1,194 @@
+-- What a load keeps over every event: of its state, the items that it was begun with, and the events so far.
+use Rattle.std.specs.Prelude.{◌≡◌, ℕ, suc, ◌+◌, ◌*◌, ◌/◌, ◌<◌, ◌≤◌, true, false, List, [], ◌∷◌, ◌++◌, length, take, Some, None, Result, Ok, Err, IfOk, IfErr}
+use Rattle.std.specs.List.{AllByRecursion}
+use Rattle.vt_outside.specs.Name.{IsName}
+use Rattle.vt_bytes.specs.Memory.{Memory, IsMemory, IsRam, at}
+use Rattle.cfg_directory.specs.declared.item.Item.{Item}
+use Rattle.cfg_directory.specs.Items.{IsItems, named}
+use Rattle.cfg_directory.specs.Listing.{listed_of}
+use Rattle.cfg_directory.specs.Files.{files_of}
+use Rattle.loader_script.specs.LoaderName.{loader_name}
+use Rattle.loader_script.specs.declared.entry.Entry.{Entry}
+use Rattle.loader_script.specs.Run.{Placed, End, infos_of, Done as AllDone}
+use Rattle.cfg_dma.specs.Device.{IsDevice}
+use Rattle.cfg_dma.specs.Transfers.{room_of}
+use Rattle.cfg_dma.specs.declared.transfer.Finished.{Finished}
+use Rattle.cfg_dma.specs.Reads.{IsAwaited, AsksFor, read_of, selected_read, next_read}
+use Rattle.command_acts.specs.declared.fault.LoadFault.{LoadFault}
+use Rattle.command_acts.specs.declared.placed.PlacedFile.{PlacedFile}
+use Rattle.command_acts.specs.FilesInMemory.{files_in, placed_ranges, IsLoading, IsBeside}
+use Rattle.command_acts.specs.Placing.{count_places, places_in}
+use Rattle.command_acts.specs.Runs.{Answers, EndsWith, IsRun, placed_at, result_of}
+use Rattle.command_acts.specs.Script.{script_in}
+use Rattle.load_states.specs.declared.event.Event.{Event}
+use Rattle.load_states.specs.declared.stage.Stage.{Stage}
+use Rattle.load_states.specs.declared.reading.Reading.{Reading}
+use Rattle.load_states.specs.declared.reading.Reading.TheVariants as read
+use Rattle.load_states.specs.declared.stage.Stage.TheVariants.{Asks, Awaits, AtCommand, Done, Refused}
+use Rattle.load_states.specs.Guarded.{descriptor_at, buffer_size, is_work, is_guarded}
+use Rattle.load_states.specs.LoadState.{LoadState, memory_of, files_now}
+use Rattle.load_states.specs.Steps.{script_control}
+use Rattle.load_states.specs.Moves.{count_read, piece_read, first_reads, directory_reads, moves, most_transfers}
+use Rattle.load_states.specs.Runs.{left_by_others}
+
+-- no transfer is in flight, and these are over
+pub record IsIdle (w : LoadState) (before : List Finished) : Type 0 where
+  pub idle : w.attached.device.flight ≡ None
+  pub finished : w.attached.device.finished ≡ before
+
+-- A read of a load: the transfers that are over before it, its control word, and the transfer that it is.
+pub record LoadRead : Type 0 where
+  pub before : List Finished
+  pub control : ℕ
+  pub transfer : Finished
+
+-- the firmware asks for this read next
+pub record IsNext (w : LoadState) (r : LoadRead) : Type 0 where
+  pub idle : IsIdle w r.before
+  pub asks : AsksFor r.control w.attached.device r.transfer
+
+-- and it awaits it
+abbrev pub IsAwaiting : List Item → LoadState → LoadRead → Type 0
+IsAwaiting items w r = IsAwaited items r.before descriptor_at r.control r.transfer w.attached
+
+-- the firmware has taken nothing and placed nothing
+pub record HasNothing (w : LoadState) : Type 0 where
+  pub listed : w.listed ≡ []
+  pub script : w.script ≡ []
+  pub placed : w.placed ≡ []
+
+-- The firmware has taken some pieces of the directory's entries, and knows the files that those list.
+pub record HasEntries (items : List Item) (size taken : ℕ) (w : LoadState) : Type 0 where
+  pub pieces : ℕ
+  pub taken_is : taken ≡ buffer_size * pieces
+  pub size_is : size ≡ 64 * length items
+  pub some_left : taken < size
+  pub listed : w.listed ≡ take (taken / 64) (listed_of items)
+  pub script : w.script ≡ []
+  pub placed : w.placed ≡ []
+
+-- It knows all files, has taken some pieces of the script, and knows the commands in those.
+pub record HasCommands (items : List Item) (select size taken : ℕ) (w : LoadState) : Type 0 where
+  pub pieces : ℕ
+  pub taken_is : taken ≡ buffer_size * pieces
+  pub some_left : taken < size
+  pub loader : Item
+  pub there : named items loader_name ≡ Some loader
+  pub select_is : select ≡ loader.select
+  pub size_is : size ≡ length loader.bytes
+  pub whole : List Entry
+  pub whole_is : script_in items ≡ Ok whole
+  pub listed : w.listed ≡ listed_of items
+  pub script : w.script ≡ take (taken / 128) whole
+  pub placed : w.placed ≡ []
+
+-- it knows all files and the whole script
+pub record HasScript (items : List Item) (w : LoadState) : Type 0 where
+  pub listed : w.listed ≡ listed_of items
+  pub script : script_in items ≡ Ok w.script
+
+-- the transfers that are over where some pieces of the entries were taken, and where all were and some of the script
+abbrev pub with_entries : ℕ → ℕ → List Finished
+with_entries size pieces = count_read ∷ first_reads 0x19 4 size pieces
+
+abbrev pub with_commands : List Item → ℕ → ℕ → ℕ → List Finished
+with_commands items select size pieces = directory_reads items ++ first_reads select 0 size pieces
+
+-- So many commands of the script are carried out: the run of these on plain lists, with the places that were given, is done, and has made
+-- these files.
+abbrev pub HasCarriedOut : Answers → List Item → ℕ → List Placed → LoadState → Type 0
+HasCarriedOut May items count files w = IsRun May (files_of items) (take count w.script) (placed_ranges w.placed) AllDone files
+
+-- The last file that was placed is still to come: the commands up to its Allocate have made those before it, as they stand in memory, and this
+-- one, as fw_cfg has it.
+pub record IsComing (May : Answers) (items : List Item) (index : ℕ) (w : LoadState) : Type 0 where
+  pub script : HasScript items w
+  pub within : index < length w.script
+  pub before : List PlacedFile
+  pub last : PlacedFile
+  pub file : Item
+  pub placed_are : w.placed ≡ before ++ last ∷ []
+  pub there : named items last.name ≡ Some file
+  pub size : last.size ≡ length file.bytes
+  pub run : HasCarriedOut May items (suc index) (files_in (memory_of w) before ++ placed_at (files_of items) last.name last.place ∷ []) w
+
+-- What is known while something is read.
+abbrev pub Knows : Answers → List Item → LoadState → Reading → Type 0
+Knows May items w read.Count = HasNothing w
+Knows May items w (read.Entries size taken) = HasEntries items size taken w
+Knows May items w (read.Commands select size taken) = HasCommands items select size taken w
+Knows May items w (read.File index) = IsComing May items index w
+
+-- The read by which it is.
+abbrev pub read_by : (May : Answers) (items : List Item) (w : LoadState) (reading : Reading) → Knows May items w reading → LoadRead
+read_by May items w read.Count has = record { before = []; control = selected_read 0x19; transfer = count_read }
+read_by May items w (read.Entries size taken) has =
+    record { before = with_entries size has.pieces; control = next_read; transfer = piece_read 0x19 4 size has.pieces }
+read_by May items w (read.Commands select size taken) has = record {
+  before = with_commands items select size has.pieces;
+  control = script_control select taken;
+  transfer = piece_read select 0 size has.pieces;
+}
+read_by May items w (read.File index) has = record {
+  before = moves items has.before;
+  control = selected_read has.file.select;
+  transfer = read_of has.file.select 0 has.last.size has.last.place;
+}
+
+-- What a firmware asks for next goes through the buffer, and has bytes that are still to come. (A file is asked for in the step that places
+-- it.)
+abbrev pub IsLeft : Reading → Type 0
+IsLeft read.Count = Unit {0}
+IsLeft (read.Entries size taken) = taken < size
+IsLeft (read.Commands select size taken) = taken < size
+IsLeft (read.File index) = ⊥
+
+-- The load has ended so: without a script nothing is placed, and else the run of the script on plain lists ends so, with the files that
+-- stand in memory now.
+pub record HasEnded (May : Answers) (items : List Item) (answer : Result (Unit {0}) LoadFault) (w : LoadState) : Type 0 where
+  pub idle : w.attached.device.flight ≡ None
+  pub unread : IfErr (script_in items) (λ why. (answer ≡ Err why) × (w.placed ≡ []))
+  pub ran : IfOk (script_in items) (λ script.
+      (end : End) × EndsWith May (files_of items) 0 script [] end (files_now w) × (answer ≡ result_of end))
+
+-- the work range holds the fill byte
+abbrev pub IsCleared : Memory → Type 0
+IsCleared m = (address : ℕ) → is_work address ≡ true → at m address ≡ m.fill
+
+-- What holds at each stage.
+abbrev pub StageKeeps : Answers → List Item → LoadState → Stage → Type 0
+StageKeeps May items w (Asks reading) =
+    IsLeft reading × ((known : Knows May items w reading) × IsNext w (read_by May items w reading known))
+StageKeeps May items w (Awaits reading) = (known : Knows May items w reading) × IsAwaiting items w (read_by May items w reading known)
+StageKeeps May items w (AtCommand index) =
+    HasScript items w × (index ≤ length w.script) × IsIdle w (moves items w.placed)
+    × HasCarriedOut May items index (files_now w) w
+StageKeeps May items w Done =
+    HasEnded May items (Ok tt) w × (w.attached.device.finished ≡ moves items w.placed) × IsCleared (memory_of w)
+StageKeeps May items w (Refused why) = HasEnded May items (Err why) w
+
+-- a placed file lies in guarded places, and beside the work range
+abbrev pub IsZoned : ℕ → PlacedFile → Type 0
+IsZoned top p = (i : ℕ) → i < p.size → (is_guarded top (p.place + i) ≡ true) × (is_work (p.place + i) ≡ false)
+
+-- RAM outside of the work range and of the placed files is as the other processors left it
+abbrev pub IsLeftByOthers : ℕ → ℕ → List Event → LoadState → Type 0
+IsLeftByOthers top fill events w = (address : ℕ) → IsRam top address → is_work address ≡ false → AllByRecursion (IsBeside address) w.placed
+    → at (memory_of w) address ≡ left_by_others top fill events address
+
+-- What a load keeps that was begun with these items, below this top and with this fill byte, over these events, where places are answered
+-- as they may be.
+pub record IsKept (May : Answers) (its_items : List Item) (its_top its_fill : ℕ) (events : List Event) (w : LoadState) : Type 0 where
+  pub lawful : IsItems its_items
+  pub names : AllByRecursion (λ (item : Item). IsName item.name) its_items
+  pub items : w.attached.device.items ≡ its_items
+  pub device : IsDevice w.attached.device
+  pub room : most_transfers its_items ≤ room_of w.attached.device
+  pub memory : IsMemory (memory_of w)
+  pub top : (memory_of w).top ≡ its_top
+  pub fill : (memory_of w).fill ≡ its_fill
+  pub loading : IsLoading its_top (files_of its_items) w.placed
+  pub zoned : AllByRecursion (IsZoned its_top) w.placed
+  pub count : length w.placed ≡ count_places (places_in w.placed (infos_of (files_of its_items)))
+  pub others : IsLeftByOthers its_top its_fill events w
+  pub stage : StageKeeps May its_items w w.stage

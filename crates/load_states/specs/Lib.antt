@@ -1,0 +1,7 @@
+pub mod Guarded
+pub mod LoadState
+pub mod Steps
+pub mod Runs
+pub mod Moves
+pub mod Kept
+pub mod Loads

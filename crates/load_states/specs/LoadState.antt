@@ -1,0 +1,41 @@
+-- The state of a load: the firmware, the device that it reads files from, and the memory that both act on.
+use Rattle.std.specs.Prelude.{ℕ, List, [], find, Option}
+use Rattle.std.specs.Str.{bytes_eq}
+use Rattle.vt_bytes.specs.Memory.{Memory}
+use Rattle.cfg_directory.specs.declared.listed.Listed.{Listed}
+use Rattle.loader_script.specs.declared.entry.Entry.{Entry}
+use Rattle.loader_script.specs.Run.{Placed, Progress}
+use Rattle.cfg_directory.specs.Files.{files_of}
+use Rattle.cfg_dma.specs.Transfers.{Attached}
+use Rattle.command_acts.specs.declared.placed.PlacedFile.{PlacedFile}
+use Rattle.command_acts.specs.FilesInMemory.{files_in}
+use Rattle.command_acts.specs.Runs.{at_files}
+use Rattle.load_states.specs.declared.stage.Stage.{Stage}
+
+-- The state of the load: the device with the memory that it is attached to, how far the firmware is, the files of the directory and the
+-- commands of the script that it has taken so far, and the files that are placed, in their order.
+pub record LoadState : Type 0 where
+  pub attached : Attached
+  pub stage : Stage
+  pub listed : List Listed
+  pub script : List Entry
+  pub placed : List PlacedFile
+
+-- the memory of a load, and the load with another one
+abbrev pub memory_of : LoadState → Memory
+memory_of w = w.attached.memory
+
+abbrev pub with_memory : LoadState → Memory → LoadState
+with_memory w m = record w { attached = record w.attached { memory = m } }
+
+-- the listed file of a name
+abbrev pub listed_named : List Listed → List ℕ → Option Listed
+listed_named listed name = find (λ (l : Listed). bytes_eq l.name name) listed
+
+-- the files that are placed, with the bytes that memory holds there
+abbrev pub files_now : LoadState → List Placed
+files_now w = files_in (memory_of w) w.placed
+
+-- how far the run of the script on plain lists is where files stand as they do now, but for the places that are still to be given
+abbrev pub progress_of : LoadState → Progress
+progress_of w = at_files (files_of w.attached.device.items) (files_now w) []

@@ -1,0 +1,97 @@
+-- What a whole load leaves.
+use Rattle.std.specs.Prelude.{◌≡◌, ℕ, ◌+◌, ◌*◌, ◌/◌, List, [], length, None, Result, Ok, Err, IfOk, IfErr}
+use Rattle.std.specs.List.{AllByRecursion}
+use Rattle.std.specs.Option.{option_map_or}
+use Rattle.vt_outside.specs.Name.{IsName}
+use Rattle.vt_outside.specs.Placement.{Range}
+use Rattle.cfg_directory.specs.declared.item.Item.{Item}
+use Rattle.vt_bytes.specs.Memory.{Memory, IsMemory, IsRam, at}
+use Rattle.cfg_directory.specs.Items.{IsItems, named}
+use Rattle.cfg_dma.specs.Device.{DeviceState}
+use Rattle.loader_script.specs.declared.entry.Entry.{Entry}
+use Rattle.loader_script.specs.Run.{End}
+use Rattle.cfg_directory.specs.Files.{files_of}
+use Rattle.loader_script.specs.LoaderName.{loader_name}
+use Rattle.command_acts.specs.declared.fault.LoadFault.{LoadFault}
+use Rattle.command_acts.specs.FilesInMemory.{placed_ranges}
+use Rattle.command_acts.specs.Runs.{Answers, IsRun, result_of}
+use Rattle.command_acts.specs.Script.{script_in}
+use Rattle.load_states.specs.declared.event.Event.{Event}
+use Rattle.load_states.specs.declared.stage.Stage.{Stage}
+use Rattle.load_states.specs.declared.reading.Reading.TheVariants.{Count}
+use Rattle.load_states.specs.declared.stage.Stage.TheVariants.{Asks, Done, Refused}
+use Rattle.load_states.specs.Kept.{HasNothing, IsCleared, IsLeftByOthers}
+use Rattle.load_states.specs.LoadState.{LoadState, memory_of, files_now}
+use Rattle.load_states.specs.Moves.{pieces_of, moves, most_transfers}
+
+-- every RAM byte is the fill byte
+abbrev pub IsBlank : Memory → Type 0
+IsBlank m = (address : ℕ) → IsRam m.top address → at m address ≡ m.fill
+
+-- A device as it is begun: item 0x0000 is selected, at offset 0, the address register is 0, and no transfer is in flight or over. There is
+-- room for as many as a load of its items makes.
+abbrev pub begun_device : List Item → DeviceState
+begun_device its_items = record {
+  items = its_items;
+  select = 0x0000;
+  offset = 0;
+  address = 0;
+  flight = None;
+  finished = [];
+  spare = most_transfers its_items;
+}
+
+-- a firmware as it is begun asks for the number of files
+abbrev pub opening_stage : Stage
+opening_stage = Asks Count
+
+-- A load as it is begun: a device of the items, memory below a top in which every byte is the fill byte, and a firmware that has done
+-- nothing.
+pub record IsBegun (its_items : List Item) (its_top its_fill : ℕ) (w : LoadState) : Type 0 where
+  pub lawful : IsItems its_items
+  pub names : AllByRecursion (λ (item : Item). IsName item.name) its_items
+  pub device : w.attached.device ≡ begun_device its_items
+  pub memory : IsMemory (memory_of w)
+  pub top : (memory_of w).top ≡ its_top
+  pub fill : (memory_of w).fill ≡ its_fill
+  pub blank : IsBlank (memory_of w)
+  pub nothing : HasNothing w
+  pub stage : w.stage ≡ opening_stage
+
+-- how far the firmware is when a load has ended so
+abbrev pub stage_after : Result (Unit {0}) LoadFault → Stage
+stage_after (Ok nothing) = Done
+stage_after (Err why) = Refused why
+
+-- the run of a script on plain lists, with the ranges that were handed out, ends so, and its files stand in memory as it leaves them
+abbrev pub HasRun : Answers → List Item → List Entry → List Range → Result (Unit {0}) LoadFault → LoadState → Type 0
+HasRun May items script handed answer w =
+    (end : End) × IsRun May (files_of items) script handed end (files_now w) × (answer ≡ result_of end)
+
+-- A load is over, with this answer. Nothing was handed out where there was no script; else the script was run. The rest of memory is as the
+-- other processors left it, over the events so far. Where the load is done the work range holds the fill byte, and each transfer is told.
+pub record IsLoadedOver (May : Answers) (its_items : List Item) (its_top its_fill : ℕ) (events : List Event) (handed : List Range)
+    (answer : Result (Unit {0}) LoadFault) (w : LoadState) : Type 0 where
+  pub unread : IfErr (script_in its_items) (λ why. (answer ≡ Err why) × (handed ≡ []))
+  pub ran : IfOk (script_in its_items) (λ script. HasRun May its_items script handed answer w)
+  pub stage : w.stage ≡ stage_after answer
+  pub placed : handed ≡ placed_ranges w.placed
+  pub items : w.attached.device.items ≡ its_items
+  pub idle : w.attached.device.flight ≡ None
+  pub top : (memory_of w).top ≡ its_top
+  pub fill : (memory_of w).fill ≡ its_fill
+  pub others : IsLeftByOthers its_top its_fill events w
+  pub cleared : answer ≡ Ok tt → IsCleared (memory_of w)
+  pub transfers : answer ≡ Ok tt → w.attached.device.finished ≡ moves its_items w.placed
+
+-- The most steps that a firmware takes for a load: two for the number of files, two for each piece of the entries and of the script, as many
+-- as four for each command, and the closing one.
+abbrev pub script_size : List Item → ℕ
+script_size items = option_map_or (λ (item : Item). length item.bytes) (named items loader_name) 0
+
+abbrev pub most_steps : List Item → ℕ
+most_steps items = 3 + 2 * pieces_of (64 * length items) + 2 * pieces_of (script_size items) + 4 * (script_size items / 128)
+
+-- the most events that a load takes once a plan has no more
+abbrev pub most_closing : List Item → ℕ
+most_closing items = 2 * most_steps items + 2

@@ -1,0 +1,17 @@
+//! The states of a load of a guest's tables: of its firmware, of the fw_cfg device that this reads files from, and of the memory that both
+//! and the guest's other processors act on.
+//!
+//! `Event` is one step of the firmware, the device or another processor, `Stage` is how far the firmware is, and `Reading` is what it reads
+//! by one transfer. The definitions stand in `specs/`: the places that the firmware works in (`Guarded`), the state of a load (`LoadState`),
+//! one step for one event (`Steps`), whole runs (`Runs`), the transfers of a load (`Moves`), what a load keeps over every event (`Kept`), and
+//! what a whole load leaves (`Loads`). The laws in `laws` say that a load that is begun keeps that, and that each step does.
+#![tactic(auto)]
+
+mod event;
+pub mod laws;
+mod reading;
+mod stage;
+
+pub use event::Event;
+pub use reading::Reading;
+pub use stage::Stage;

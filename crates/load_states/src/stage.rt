@@ -1,0 +1,17 @@
+use crate::reading::Reading;
+use command_acts::LoadFault;
+
+/// How far the firmware of a load is.
+#[derive(Clone, Copy, Debug, PartialEq, Eq)]
+pub enum Stage {
+    /// It asks for a transfer. The one of a placed file is asked for in the step that places it.
+    Asks(Reading),
+    /// It awaits the transfer that it asked for.
+    Awaits(Reading),
+    /// It comes to the command of an index, or to the script's end.
+    AtCommand(u32),
+    /// It has carried out the whole script.
+    Done,
+    /// It has ended before the script did.
+    Refused(LoadFault),
+}

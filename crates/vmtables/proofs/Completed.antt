@@ -1,0 +1,188 @@
+-- Calls with a lawful input of which nothing outside failed: they are done, or memory ran out.
+use Rattle.std.proofs.Common.{◌≡◌, ◌⊎◌, inl, inr, ℕ, ◌<◌, ◌≤◌, List, [], ◌++◌, length, map, Option, Some, None, IfSome, IfOk, Result, Ok, Err, arith, refl, ap, sym, subst, ◌∙◌, append-nil}
+use Rattle.vt_outside.specs.Placement.{Range}
+use Rattle.vt_outside.specs.Stream.{SourceSeen, SinkSeen, Rose, in_front}
+use Rattle.cfg_directory.specs.declared.item.Item.{Item}
+use Rattle.cfg_directory.specs.Container.{read_so}
+use Rattle.cfg_directory.specs.Items.{total_size}
+use Rattle.cfg_directory.proofs.Containers.{contained_is_read}
+use Rattle.desc_toml.specs.declared.fault.DescFault.{DescFault}
+use Rattle.cfg_directory.specs.declared.container.ImageFault.{ImageFault}
+use Rattle.cfg_directory.specs.Files.{files_of}
+use Rattle.image_files.specs.Items.{image_limit}
+use Rattle.loader_script.specs.Run.{End, Done, Command, NoRoom, Progress, run}
+use Rattle.machine_desc.specs.declared.machine.Machine.{Machine}
+use Rattle.cfg_dma.specs.Device.{DeviceState}
+use Rattle.load_states.specs.Loads.{HasRun}
+use Rattle.command_acts.specs.declared.fault.LoadFault.{LoadFault}
+use Rattle.command_acts.specs.Runs.{result_of}
+use Rattle.command_acts.specs.Script.{script_in}
+use Rattle.vm_image.specs.Image.{image_items}
+use Rattle.vt_words.specs.declared.command.Command.{Command as CommandOf}
+use Rattle.vt_words.specs.declared.command.Command.TheVariants.{Boot, Build, Load}
+use Rattle.vt_words.specs.declared.setting.Setting.{Setting}
+use Rattle.vmtables.specs.Boot.{BootMakes, without_image, without_room, without_memory}
+use Rattle.vmtables.specs.Build.{BuildMakes, not_built}
+use Rattle.vmtables.specs.Load.{LoadMakes, mib, not_read, not_loaded}
+use Rattle.vmtables.specs.Calls.{Answering, Input, Unread, Cut, Whole, Made, ReadsAll, Wrote, WasRead, Seen}
+use Rattle.vmtables.specs.Complete.{Call, IsFed, HasRoom, IsDone, DescribesFew, RunsWhole}
+use Rattle.vmtables.specs.Described.{IsTooLarge}
+use Rattle.vmtables.specs.Loading.{IsImageLoaded, FailsToLoad, ended_early, not_begun}
+use Rattle.vmtables.specs.Outcome.{input_limit, given_count, status_of, status_of_fault}
+use Rattle.vmtables.proofs.Refused.{IsUnbuilt, undescribed, too_large, no_memory, why_unbuilt, IsUnread, not_container, no_room, why_unread}
+use Rattle.vmtables.specs.declared.fault.Fault.{Fault}
+use Rattle.vmtables.specs.declared.fault.Fault.TheVariants as fault
+use Rattle.vmtables.specs.declared.input.InputFault.TheVariants as input
+use Rattle.vmtables.specs.declared.status.Status.TheVariants as status
+
+-- the call ended done, or for want of memory
+abbrev Completed : Result (Unit {0}) Fault → Type 0
+Completed ended = (status_of ended ≡ status.Ok) ⊎ (status_of ended ≡ status.OutOfMemory)
+
+-- the bytes that were read are those that the source had
+same_bytes : (bytes read : List ℕ) (left left_after : Option (List ℕ)) → left ≡ Some bytes → left ≡ in_front read left_after
+    → IfSome left_after (λ rest. rest ≡ []) → bytes ≡ read
+same_bytes bytes read left None had given none_left = absurd (cc)
+same_bytes bytes read left (Some rest) had given none_left =
+    let whole : bytes ≡ read ++ rest = cc in
+    whole ∙ ap (λ (r : List ℕ). read ++ r) none_left ∙ append-nil read
+
+-- no more bytes are given than the source had
+few_given : (bytes : List ℕ) (left left_after : Option (List ℕ)) → left ≡ Some bytes → length bytes ≤ input_limit
+    → IfSome left (λ _. input_limit < given_count left left_after) → ⊥
+few_given bytes None left_after had within long = absurd (cc)
+few_given bytes (Some all) None had within long = absurd (omega arith)
+few_given bytes (Some all) (Some rest) had within long =
+    let same : all ≡ bytes = cc in
+    let size : length all ≡ length bytes = ap length same in
+    absurd (omega arith)
+
+-- What is left of the ways in which a call may have ended that reads its whole input, where nothing outside failed: it is done, memory ran out, or
+-- it made a fault of the bytes that the source had.
+pub whole_call : (Makes : List ℕ → Seen → Seen → Made → Type 0) (before after : Seen) (bytes : List ℕ) (in_all : Input) (made : Made)
+    (ended : Result (Unit {0}) Fault) (source source_after : SourceSeen) (out out_after : SinkSeen)
+    → source.left ≡ Some bytes → length bytes ≤ input_limit → (Rose source.faults source_after.faults → ⊥) → (Rose out.faults out_after.faults → ⊥)
+    → ReadsAll Makes before after in_all made → WasRead in_all source source_after → Wrote made ended out out_after
+    → ((f : Fault) → Makes bytes before after (Err f) → Completed (Err f)) → Completed ended
+whole_call Makes before after bytes in_all made (Ok done) source source_after out out_after had within read written did was wrote own = inl refl
+whole_call Makes before after bytes in_all (Ok text) (Err f) source source_after out out_after had within read written did was wrote own =
+    absurd (written wrote.1.rose)
+whole_call Makes before after bytes (Whole bytes_read) (Err made) (Err f) source source_after out out_after had within read written did was wrote own =
+    let same : bytes ≡ bytes_read = same_bytes bytes bytes_read source.left source_after.left had was.given was.none_left in
+    subst (λ g. Completed (Err g)) (sym wrote.0) (own made (subst (λ b. Makes b before after (Err made)) (sym same) did))
+whole_call Makes before after bytes (Cut input.Failed) (Err made) (Err f) source source_after out out_after had within read written did was wrote own =
+    absurd (read was)
+whole_call Makes before after bytes (Cut input.TooLong) (Err made) (Err f) source source_after out out_after had within read written did was wrote own =
+    absurd (few_given bytes source.left source_after.left had within was)
+whole_call Makes before after bytes (Cut input.OutOfMemory) (Err made) (Err f) source source_after out out_after had within read written did was wrote own =
+    let same : made ≡ fault.OutOfMemory = cc in
+    inr (ap status_of_fault (wrote.0 ∙ same))
+whole_call Makes before after bytes Unread (Err made) (Err f) source source_after out out_after had within read written did was wrote own = absurd did
+
+-- the same of a call as the contract of the top call says it
+call_done : (Gives : Answering) (command : CommandOf) (call : Call Gives command) → Completed call.answered.ended → IsDone call
+call_done Gives command call (inl done) = inl (call.answered.status ∙ done)
+call_done Gives command call (inr memory) = inr (call.answered.status ∙ memory)
+
+abbrev machine_read : Machine → Result Machine DescFault
+machine_read m = Ok m
+
+abbrev items_read : List Item → Result (List Item) ImageFault
+items_read items = Ok items
+
+-- two machines, and two lists of items, that were read of the same bytes
+same_machine : (a b : Machine) → machine_read a ≡ Ok b → a ≡ b
+same_machine a b is = cc
+
+same_items : (a b : List Item) → items_read a ≡ Ok b → a ≡ b
+same_items a b is = cc
+
+-- a description of a machine whose files are few isn't one of a machine whose files are too many
+not_too_large : (bytes : List ℕ) → DescribesFew bytes → IsTooLarge bytes → ⊥
+not_too_large bytes few large =
+    let same : few.0 ≡ large.0 = same_machine few.0 large.0 (sym few.1 ∙ large.1) in
+    let size : total_size (image_items few.0) ≡ total_size (image_items large.0) = ap (λ (m : Machine). total_size (image_items m)) same in
+    let less : image_limit < total_size (image_items few.0) = subst (λ n. image_limit < n) (sym size) large.2 in
+    let more : total_size (image_items few.0) ≤ image_limit = few.2 in
+    absurd (omega arith)
+
+-- bytes of which an image can be made fail for want of memory alone
+unbuilt_fault : (bytes : List ℕ) → DescribesFew bytes → (f : Fault) → IsUnbuilt bytes f → Completed (Err f)
+unbuilt_fault bytes few f (undescribed read) = absurd (cc)
+unbuilt_fault bytes few f (too_large large) = absurd (not_too_large bytes few large)
+unbuilt_fault bytes few f no_memory = inr refl
+
+boot_fault : (Gives : Answering) (setting : Setting) (bytes : List ℕ) (before after : Seen) → DescribesFew bytes
+    → (Rose before.place.refusals after.place.refusals → ⊥) → (f : Fault) → BootMakes Gives setting bytes before after (Err f) → Completed (Err f)
+boot_fault Gives setting bytes before after few room f (without_image cannot same) = unbuilt_fault bytes few f (why_unbuilt bytes f cannot)
+boot_fault Gives setting bytes before after few room f (without_room {index = index} m read loaded refusal) =
+    absurd (room (loaded.no_room index refl).0)
+boot_fault Gives setting bytes before after few room f (without_memory m read unloaded) = inr refl
+
+pub boot_completed : (Gives : Answering) (setting : Setting) (bytes : List ℕ) (call : Call Gives (Boot setting)) → DescribesFew bytes → IsFed bytes call
+    → HasRoom call → IsDone call
+boot_completed Gives setting bytes call few fed room =
+    let ran = call.answered.ran in
+    call_done Gives (Boot setting) call
+    (whole_call (BootMakes Gives setting) call.before call.after bytes ran.input ran.made call.answered.ended call.source call.source_after call.out call.out_after
+    fed.had fed.within fed.read fed.written ran.did ran.read ran.wrote (boot_fault Gives setting bytes call.before call.after few room))
+
+build_fault : (bytes : List ℕ) (before after : Seen) → DescribesFew bytes → (f : Fault) → BuildMakes bytes before after (Err f) → Completed (Err f)
+build_fault bytes before after few f (not_built cannot same) = unbuilt_fault bytes few f (why_unbuilt bytes f cannot)
+
+pub build_completed : (Gives : Answering) (bytes : List ℕ) (call : Call Gives Build) → DescribesFew bytes → IsFed bytes call → IsDone call
+build_completed Gives bytes call few fed =
+    let ran = call.answered.ran in
+    call_done Gives Build call
+    (whole_call BuildMakes call.before call.after bytes ran.input ran.made call.answered.ended call.source call.source_after call.out call.out_after
+    fed.had fed.within fed.read fed.written ran.did ran.read ran.wrote (build_fault bytes call.before call.after few))
+
+abbrev load_ended : LoadFault → Result (Unit {0}) LoadFault
+load_ended why = Err why
+
+-- how a load of items ends whose script's run is done: not with a fault of a command, and for want of room alone
+ended_whole : (why : LoadFault) (end : End) → end ≡ Done → load_ended why ≡ result_of end → ⊥
+ended_whole why Done done is = absurd (cc)
+ended_whole why (Command index cause) done is = absurd (cc)
+ended_whole why (NoRoom index) done is = absurd (cc)
+
+load_fault : (Gives : Answering) (items : List Item) (top : ℕ) (setting : Setting) (before after : Seen) (why : LoadFault)
+    → RunsWhole items (map (λ (r : Range). r.start) after.place.handed) → IsImageLoaded Gives items top setting (Err why) before after → ⊥
+load_fault Gives items top setting before after why whole loaded =
+    let its_items = ap (λ (d : DeviceState). d.items) loaded.was_begun.device in
+    let ran : HasRun (Gives after.place.begun) items whole.0 after.place.handed (Err why) loaded.world =
+    subst (λ read. IfOk read (λ those. HasRun (Gives after.place.begun) items those after.place.handed (Err why) loaded.world)) whole.1
+    (subst (λ those. IfOk (script_in those) (λ script. HasRun (Gives after.place.begun) those script after.place.handed (Err why) loaded.world)) its_items
+    loaded.load.leaves.ran) in
+    let ends : (run (files_of items) whole.0 (map (λ (r : Range). r.start) after.place.handed)).0 ≡ ran.0 = ap (λ (e : End × Progress). e.0) ran.1.ends in
+    ended_whole why ran.0 (sym ends ∙ whole.2) ran.2
+
+-- bytes that are a container aren't read for want of memory alone
+unread_fault : (bytes : List ℕ) (items : List Item) → read_so bytes ≡ Ok items → (f : Fault) → IsUnread bytes f → Completed (Err f)
+unread_fault bytes items read f (not_container refused) = absurd (cc)
+unread_fault bytes items read f no_room = inr refl
+
+failed_load : (Gives : Answering) (items : List Item) (top : ℕ) (setting : Setting) (before after : Seen)
+    → RunsWhole items (map (λ (r : Range). r.start) after.place.handed) → (f : Fault) → FailsToLoad Gives items top setting before after f
+    → Completed (Err f)
+failed_load Gives items top setting before after whole f (ended_early {why = why} loaded) =
+    absurd (load_fault Gives items top setting before after why whole loaded)
+failed_load Gives items top setting before after whole f (not_begun unloaded) = inr refl
+
+load_ends : (Gives : Answering) (top_mib : ℕ) (setting : Setting) (bytes : List ℕ) (items : List Item) (before after : Seen) → read_so bytes ≡ Ok items
+    → RunsWhole items (map (λ (r : Range). r.start) after.place.handed)
+    → (f : Fault) → LoadMakes Gives top_mib setting bytes before after (Err f) → Completed (Err f)
+load_ends Gives top_mib setting bytes items before after read whole f (not_read cannot same) = unread_fault bytes items read f (why_unread bytes f cannot)
+load_ends Gives top_mib setting bytes items before after read whole f (not_loaded others contained failed) =
+    let same : items ≡ others = same_items items others (sym read ∙ contained_is_read bytes others contained) in
+    failed_load Gives items (mib top_mib) setting before after whole f
+    (subst (λ those. FailsToLoad Gives those (mib top_mib) setting before after f) (sym same) failed)
+
+pub load_completed : (Gives : Answering) (top_mib : ℕ) (setting : Setting) (bytes : List ℕ) (items : List Item) (call : Call Gives (Load top_mib setting))
+    → read_so bytes ≡ Ok items → RunsWhole items (map (λ (r : Range). r.start) call.after.place.handed) → IsFed bytes call → HasRoom call → IsDone call
+load_completed Gives top_mib setting bytes items call read whole fed room =
+    let ran = call.answered.ran in
+    call_done Gives (Load top_mib setting) call
+    (whole_call (LoadMakes Gives top_mib setting) call.before call.after bytes ran.input ran.made call.answered.ended call.source call.source_after
+    call.out call.out_after fed.had fed.within fed.read fed.written ran.did ran.read ran.wrote
+    (load_ends Gives top_mib setting bytes items call.before call.after read whole))

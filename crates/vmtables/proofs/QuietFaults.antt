@@ -1,0 +1,61 @@
+-- Faults of a command's own say nothing of its streams.
+use Rattle.std.proofs.Common.{ℕ, List, Err}
+use Rattle.cfg_directory.specs.declared.item.Item.{Item}
+use Rattle.command_acts.specs.declared.fault.LoadFault.{LoadFault}
+use Rattle.command_acts.specs.declared.fault.LoadFault.TheVariants as load
+use Rattle.vt_words.specs.declared.setting.Setting.{Setting}
+use Rattle.vmtables.specs.Boot.{BootMakes, without_image, without_room, without_memory}
+use Rattle.vmtables.specs.Calls.{Answering, Seen}
+use Rattle.vmtables.specs.Load.{LoadMakes, not_read, not_loaded}
+use Rattle.vmtables.specs.Loading.{FailsToLoad, ended_early, not_begun}
+use Rattle.vmtables.specs.Outcome.{status_of_fault, status_of_load}
+use Rattle.vmtables.specs.declared.fault.Fault.{Fault}
+use Rattle.vmtables.specs.declared.status.Status.TheVariants as status
+use Rattle.vmtables.proofs.Endings.{IsQuiet}
+use Rattle.vmtables.proofs.Refused.{IsUnbuilt, undescribed, too_large, no_memory, why_unbuilt, IsUnread, not_container, no_room, why_unread}
+
+quiet_description : IsQuiet status.DescriptionRefused
+quiet_description = record { done = λ is. cc; read = λ is. cc; long = λ is. cc; written = λ is. cc }
+
+quiet_image : IsQuiet status.ImageRefused
+quiet_image = record { done = λ is. cc; read = λ is. cc; long = λ is. cc; written = λ is. cc }
+
+quiet_large : IsQuiet status.ImageTooLarge
+quiet_large = record { done = λ is. cc; read = λ is. cc; long = λ is. cc; written = λ is. cc }
+
+quiet_room : IsQuiet status.NoRoom
+quiet_room = record { done = λ is. cc; read = λ is. cc; long = λ is. cc; written = λ is. cc }
+
+quiet_memory : IsQuiet status.OutOfMemory
+quiet_memory = record { done = λ is. cc; read = λ is. cc; long = λ is. cc; written = λ is. cc }
+
+unbuilt_quiet : (bytes : List ℕ) (f : Fault) → IsUnbuilt bytes f → IsQuiet (status_of_fault f)
+unbuilt_quiet bytes f (undescribed read) = quiet_description
+unbuilt_quiet bytes f (too_large large) = quiet_large
+unbuilt_quiet bytes f no_memory = quiet_memory
+
+unread_quiet : (bytes : List ℕ) (f : Fault) → IsUnread bytes f → IsQuiet (status_of_fault f)
+unread_quiet bytes f (not_container read) = quiet_image
+unread_quiet bytes f no_room = quiet_memory
+
+load_quiet : (why : LoadFault) → IsQuiet (status_of_load why)
+load_quiet load.NoScript = quiet_image
+load_quiet load.ScriptLength = quiet_image
+load_quiet (load.Command index cause) = quiet_image
+load_quiet (load.NoRoom index) = quiet_room
+
+pub boot_quiet : (Gives : Answering) (setting : Setting) (bytes : List ℕ) (before after : Seen) (f : Fault)
+    → BootMakes Gives setting bytes before after (Err f) → IsQuiet (status_of_fault f)
+boot_quiet Gives setting bytes before after f (without_image cannot same) = unbuilt_quiet bytes f (why_unbuilt bytes f cannot)
+boot_quiet Gives setting bytes before after f (without_room m read loaded refusal) = quiet_room
+boot_quiet Gives setting bytes before after f (without_memory m read unloaded) = quiet_memory
+
+failed_quiet : (Gives : Answering) (items : List Item) (top : ℕ) (setting : Setting) (before after : Seen) (f : Fault)
+    → FailsToLoad Gives items top setting before after f → IsQuiet (status_of_fault f)
+failed_quiet Gives items top setting before after f (ended_early {why = why} loaded) = load_quiet why
+failed_quiet Gives items top setting before after f (not_begun unloaded) = quiet_memory
+
+pub container_quiet : (Gives : Answering) (top_mib : ℕ) (setting : Setting) (bytes : List ℕ) (before after : Seen) (f : Fault)
+    → LoadMakes Gives top_mib setting bytes before after (Err f) → IsQuiet (status_of_fault f)
+container_quiet Gives top_mib setting bytes before after f (not_read cannot same) = unread_quiet bytes f (why_unread bytes f cannot)
+container_quiet Gives top_mib setting bytes before after f (not_loaded items contained failed) = failed_quiet Gives items _ setting before after f failed

@@ -1,0 +1,67 @@
+ghost use Rattle.std.specs.Prelude.{◌≡◌, ◌≢◌, ◌↔◌, map, string_bytes, Err, None, Some};
+ghost use Rattle.vt_words.specs.declared.command.Command.TheVariants.{Boot};
+ghost use Rattle.vt_words.specs.declared.setting.Setting.{Setting};
+ghost use Rattle.vt_words.specs.Command.{command_of};
+ghost use Rattle.command_acts.specs.Allocators.{MayAnswer};
+ghost use Rattle.vmtables.specs.Calls.{Ran, Streams, seen_by};
+ghost use Rattle.vmtables.specs.Does.{Does};
+ghost use Rattle.vmtables.specs.Outcome.{status_of};
+ghost use Rattle.vmtables.specs.declared.status.Status.TheVariants.{ImageRefused};
+
+use crate::boot_command::boot;
+use crate::build_command::build;
+use crate::fault::Fault;
+use crate::load_command::load;
+use firmware_load::{Schedule, World};
+use std::alloc::Global;
+use vt_outside::{Sink, Source};
+use vt_words::{Command, read_words};
+use zone_alloc::ZoneAlloc;
+
+/// Carries out the command that `words`, those after the program's name, ask for. `boot` reads a description from `source`, builds
+/// the machine's files, loads them into the memory of `world`, which holds the fill byte of the words at the beginning, writes its dump
+/// to `out` and flushes it. `load` does the same with the files of a container, which it reads from `source`, and a top of memory from
+/// the words. `place` gives the files their places, by the policy of the words. The load takes the events that `plan` has for the seed of
+/// the words, one after the other: steps of the firmware and of its device, and writes of other processors, which come between those.
+/// `build` writes the container of a machine's files, and leaves `world`, `place` and `plan` as they were. All memory comes from `alloc`,
+/// before the load. Nothing is written to `out` before all but the writing is done.
+///
+/// Returns the fault for which the command wasn't carried out whole. `Usage` means that `words` are no command; nothing is then read.
+/// `ReadFault` means that `source` failed, `InputTooLong` that it gave more than 67,108,864 bytes, `Description` that its bytes describe
+/// no accepted machine, `ImageTooLarge` that the machine's files have more than 409,600 bytes, `Container` that its bytes are no
+/// container, `Load` how a load ended before its script did, `OutOfMemory` that memory ran out, and `WriteFault` that `out` failed. With
+/// `Ok` `out` took the whole text, with `WriteFault` a part of it from its front, perhaps all, and with any other fault nothing.
+///
+/// With `Ok` and `WriteFault` of `boot` and `load` the files are loaded in `world`. With `Load` it holds what the commands before left.
+/// After `OutOfMemory` it is as before, idle, or as it was begun. In any other case it is as before.
+pub fn carry_out<S: Source, K: Sink, A: ZoneAlloc, C: Schedule>(
+    alloc: Global,
+    words: &[String],
+    source: &mut S,
+    out: &mut K,
+    place: &mut A,
+    plan: &mut C,
+    world: &mut World,
+) -> Result<(), Fault>
+    // The command that the words are, or the want of one, did what it does: of the source it read so much, it left the world so, and out
+    // took the text that it made or a part of it.
+    ensures ran { Ran (Does (MayAnswer A.state A.gives) (command_of (map string_bytes words.now))
+        (seen_by A.state C.plan world.old place.old plan.old)
+        (seen_by A.state C.plan world.new place.new plan.new)) result
+        (S.seen source.old) (S.seen source.new) (K.seen out.old) (K.seen out.new) }
+
+    // When each fault comes that isn't the command's own, and what each says of the streams. No image of a machine is refused.
+    ensures usage { (result ≡ Err Fault.Usage) ↔ (command_of (map string_bytes words.now) ≡ None) }
+    ensures unread { result ≡ Err Fault.Usage → S.seen source.new ≡ S.seen source.old }
+    ensures streams { Streams (status_of result) (S.seen source.old) (S.seen source.new) (K.seen out.old) (K.seen out.new) }
+    ensures image_kept { (setting : Setting) → command_of (map string_bytes words.now) ≡ Some (Boot setting) → status_of result ≢ ImageRefused }
+{
+    match read_words(words) {
+        Some(Command::Boot(setting)) => boot(alloc, &setting, source, out, place, plan, world),
+        Some(Command::Load { top_mib, setting }) => {
+            load(alloc, top_mib, &setting, source, out, place, plan, world)
+        }
+        Some(Command::Build) => build(alloc, source, out),
+        None => Err(Fault::Usage),
+    }
+}
