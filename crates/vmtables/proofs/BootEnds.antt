@@ -2,6 +2,7 @@
 use Rattle.std.proofs.Common.{◌≡◌, ◌≢◌, ℕ, List, Option, Some, Result, Ok, Err, ap, sym, subst, ◌∙◌}
 use Rattle.vt_outside.specs.Placement.{Range, IsFree}
 use Rattle.vt_outside.specs.Stream.{SinkSeen, SourceSeen}
+use Rattle.zone_alloc.specs.declared.alloc.Request.{Request}
 use Rattle.zone_alloc.specs.Allocators.{Begun}
 use Rattle.zone_alloc.specs.Places.{range_in}
 use Rattle.command_acts.specs.Allocators.{AreZonesOf}
@@ -83,21 +84,22 @@ no_image_refused Gives command before after ended source source_after out out_af
     none_refused Gives setting own.0 before after own.1 own.2 own.3
 
 -- a shelf refuses nothing for which a place is free
-never_refused : (begun : Begun) (top : ℕ) → AreZonesOf top begun.zones → IsRefusedFree (shelf_answers begun) top → ⊥
-never_refused begun top are is =
+never_refused : (begun : Begun) (top : ℕ) (handed : List Range) (asked : Option Request) → AreZonesOf top begun.zones
+    → IsRefusedFree (shelf_answers begun) top handed asked → ⊥
+never_refused begun top handed asked are is =
     let may = is.refusal in
-    let free_in : IsFree (range_in begun.zones is.request.zone) is.handed is.request.size is.request.align is.place =
-    subst (λ (zone : Range). IsFree zone is.handed is.request.size is.request.align is.place) (sym (are is.request.zone)) is.free in
+    let free_in : IsFree (range_in begun.zones is.request.zone) handed is.request.size is.request.align is.place =
+    subst (λ (zone : Range). IsFree zone handed is.request.size is.request.align is.place) (sym (are is.request.zone)) is.free in
     may.given is.place
     (subst (λ (those : Begun). IsFree (range_in those.zones is.request.zone) may.allocator.handed is.request.size is.request.align is.place) (sym may.begun_is)
-    (subst (λ (handed : List Range). IsFree (range_in begun.zones is.request.zone) handed is.request.size is.request.align is.place) (sym may.handed_is) free_in))
+    (subst (λ (there : List Range). IsFree (range_in begun.zones is.request.zone) there is.request.size is.request.align is.place) (sym may.handed_is) free_in))
 
 -- a boot makes no fault for want of room
 none_without_room : (setting : Setting) (bytes : List ℕ) (before after : Seen) (f : Fault) → BootMakes shelf_answers setting bytes before after (Err f)
     → status.NoRoom ≢ status_of_fault f
 none_without_room setting bytes before after f (without_image cannot same) = (unbuilt_status bytes f (why_unbuilt bytes f cannot)).1
 none_without_room setting bytes before after f (without_room m read loaded refusal) =
-    λ is. absurd (never_refused after.place.begun _ loaded.zones refusal)
+    λ is. absurd (never_refused after.place.begun _ after.place.handed after.place.refused loaded.zones refusal)
 none_without_room setting bytes before after f (without_memory m read is_unloaded) = λ is. cc
 
 pub shelf_has_room : (setting : Setting) (before after : Seen) (answer : Status) (source source_after : SourceSeen) (out out_after say say_after : SinkSeen)

@@ -1,12 +1,14 @@
 -- A machine's image that was loaded is a machine that is booted.
-use Rattle.std.proofs.Common.{◌≡◌, ℕ, ◌≤◌, List, [], ◌++◌, map, Some, Result, Ok, Err, IfOk, IfErr, OnOk, inl, inr}
-use Rattle.std.proofs.Common.{refl, ap, sym, subst, ◌∙◌, append-nil}
+use Rattle.std.proofs.Common.{◌≡◌, ℕ, ◌≤◌, ◌+◌, List, [], ◌++◌, map, Some, Result, Ok, Err, IfOk, IfErr, OnOk, inl, inr}
+use Rattle.std.proofs.Common.{refl, ap, sym, subst, ◌∙◌, append-nil, arith}
 use Rattle.std.specs.List.{flat_map}
 use Rattle.vt_outside.specs.Placement.{Range, IsFree}
 use Rattle.vt_bytes.specs.Memory.{Memory}
 use Rattle.machine_desc.specs.declared.machine.Machine.{Machine}
 use Rattle.desc_toml.specs.Reading.{Reads}
 use Rattle.loader_script.specs.declared.entry.Entry.{Entry}
+use Rattle.vt_outside.specs.File.{File}
+use Rattle.loader_script.specs.Left.{range_of}
 use Rattle.loader_script.specs.Run.{Placed, Progress, End, Done, Command, NoRoom, place_of, run}
 use Rattle.cfg_directory.specs.declared.item.Item.{Item}
 use Rattle.cfg_directory.specs.Files.{files_of}
@@ -25,7 +27,7 @@ use Rattle.image_files.specs.Items.{image_limit}
 use Rattle.command_acts.specs.Allocators.{AreZonesOf}
 use Rattle.command_acts.specs.declared.fault.LoadFault.{LoadFault}
 use Rattle.command_acts.specs.declared.fault.LoadFault.TheVariants as load
-use Rattle.command_acts.specs.Runs.{Answers, EndsWith, IsRun, at_files, result_of}
+use Rattle.command_acts.specs.Runs.{Answers, EndsWith, IsRun, at_files, request_at, result_of}
 use Rattle.command_acts.specs.Script.{script_in}
 use Rattle.command_acts.proofs.PlainRuns.{starts}
 use Rattle.cfg_dma.specs.Device.{DeviceState}
@@ -38,7 +40,7 @@ use Rattle.vmtables.specs.Calls.{Answering, Seen}
 use Rattle.vmtables.specs.Loading.{IsImageLoaded, IsRefusedFree, FailsToLoad, ended_early, not_begun}
 use Rattle.vmtables.specs.declared.fault.Fault.{Fault}
 use Rattle.vmtables.specs.declared.fault.Fault.TheVariants as fault
-use Rattle.vmtables.proofs.ImageRuns.{Extends, GivesFree, all_link, extends}
+use Rattle.vmtables.proofs.ImageRuns.{Extends, GivesFree, IsStuck, all_link, extends}
 use Rattle.vmtables.proofs.LeftByOthers.{guarded_stays, bios_guarded, bios_no_work, holds_now, beside_each}
 use Rattle.vmtables.proofs.PlacesMore.{room_from}
 use Rattle.vmtables.proofs.ScriptRead.{script_read}
@@ -50,12 +52,13 @@ ending end p = (end, p)
 its_progress : (a b : End) (p q : Progress) → ending a p ≡ ending b q → p ≡ q
 its_progress a b p q is = ap (λ (e : End × Progress). e.1) is
 
--- the script is that which places the files and links them
-script_split : (m : Machine) {May : Answers} {end : End} {placed : List Placed} → EndsWith May (files_of (image_items m)) 0 (image_script m) [] end placed
-    → EndsWith May (files_of (image_items m)) 0 (flat_map allocation (image_files m) ++ linking (image_files m)) [] end placed
-script_split m {May = May} {end = end} {placed = placed} =
-    subst (λ those. EndsWith May (files_of (image_items m)) 0 those [] end placed)
-    (append-nil (flat_map allocation (image_files m) ++ linking (image_files m)))
+-- the commands that place the files of an image and link them, which are its script
+plain_script : Machine → List Entry
+plain_script m = flat_map allocation (image_files m) ++ linking (image_files m)
+
+script_split : (m : Machine) → image_script m ≡ plain_script m
+unfolding plain_script
+script_split m = append-nil (flat_map allocation (image_files m) ++ linking (image_files m))
 
 -- a run that isn't without room isn't refused, and its places are lawful
 pub record IsLawfulRun (m : Machine) (places : List ℕ) (end : End) (placed : List Placed) : Type 0 where
@@ -65,16 +68,19 @@ pub record IsLawfulRun (m : Machine) (places : List ℕ) (end : End) (placed : L
 
 extended_of : (m : Machine) (items : List Item) (script : List Entry) (built : IsBuilt m items script) (May : Answers) (end : End) (placed : List Placed)
     → GivesFree May (top_of m) → EndsWith May (files_of (image_items m)) 0 (image_script m) [] end placed
-    → Extends May (top_of m) [] (image_files m) [] placed end
+    → Extends May (top_of m) (files_of (image_items m)) (plain_script m) 0 [] (image_files m) [] placed end
+unfolding plain_script
 extended_of m items script built May end placed free ends =
     extends May (top_of m) (files_of (image_items m)) (linking (image_files m)) (all_link (image_files m)) free (image_files m) [] 0 [] end placed
-    (rw built.items_are at built.there) refl (room_from (top_of m) (image_files m) built.room) (script_split m ends)
+    (rw built.items_are at built.there) refl (room_from (top_of m) (image_files m) built.room)
+    (subst (λ those. EndsWith May (files_of (image_items m)) 0 those [] end placed) (script_split m) ends)
 
 lawful_so : (m : Machine) (items : List Item) (script : List Entry) (built : IsBuilt m items script) (May : Answers) (handed : List Range) (end : End)
     (placed : List Placed) → GivesFree May (top_of m) → IsRun May (files_of (image_items m)) (image_script m) handed end placed
     → ((at : ℕ) → end ≡ NoRoom at → ⊥) → IsLawfulRun m (map (λ (r : Range). r.start) handed) end placed
 lawful_so m items script built May handed end placed free ran room =
-    let extended : Extends May (top_of m) [] (image_files m) [] placed end = extended_of m items script built May end placed free ran.answered in
+    let extended : Extends May (top_of m) (files_of (image_items m)) (plain_script m) 0 [] (image_files m) [] placed end =
+    extended_of m items script built May end placed free ran.answered in
     let same : map (λ (r : Range). r.start) handed ≡ extended.given =
     ap (map (λ (r : Range). r.start)) ran.handed_are ∙ starts placed ∙ extended.stand in
     let loaded = built.loaded (extended.given ++ extended.extra) extended.lawful in
@@ -175,9 +181,11 @@ booted Gives setting bytes m items script before after free read built small scr
       shown = built.shown (map (λ (r : Range). r.start) after.place.handed) (files_now world) (memory_of world) is.lawful is.linked leaves.top holds;
     }
 
--- a load that ended with a fault: no command is refused, and there is a script, so that it is for want of room
-pub data EndsSo (May : Answers) (top : ℕ) (why : LoadFault) : Type 0 where
-  room : (index : ℕ) → why ≡ load.NoRoom index → IsRefusedFree May top → EndsSo May top why
+-- A load that ended with a fault: no command is refused, and there is a script, so that it is for want of room at a command, whose request
+-- was refused though a place is free.
+pub data EndsSo (May : Answers) (top : ℕ) (loaded : List File) (script : List Entry) (placed : List Placed) (why : LoadFault) : Type 0 where
+  room : (index : ℕ) → why ≡ load.NoRoom index → IsRefusedFree May top (map range_of placed) (request_at loaded script index)
+      → EndsSo May top loaded script placed why
 
 -- a load that answered with a fault
 abbrev ended_with : LoadFault → Result (Unit {0}) LoadFault
@@ -186,18 +194,24 @@ ended_with why = Err why
 same_fault : (a b : LoadFault) → ended_with a ≡ ended_with b → a ≡ b
 same_fault a b is = cc
 
-room_of : (May : Answers) (top : ℕ) (end : End) (why : LoadFault) → ended_with why ≡ result_of end → (((at : ℕ) → end ≡ NoRoom at → ⊥) → end ≡ Done)
-    → ((at : ℕ) → end ≡ NoRoom at → IsRefusedFree May top) → EndsSo May top why
-room_of May top Done why is lawful refused = absurd (cc)
-room_of May top (Command index cause) why is lawful refused =
+room_of : (May : Answers) (top : ℕ) (loaded : List File) (script : List Entry) (placed : List Placed) (end : End) (why : LoadFault)
+    → ended_with why ≡ result_of end → (((at : ℕ) → end ≡ NoRoom at → ⊥) → end ≡ Done)
+    → ((at : ℕ) → end ≡ NoRoom at → IsStuck May top loaded script 0 placed at) → EndsSo May top loaded script placed why
+room_of May top loaded script placed Done why is lawful stuck = absurd (cc)
+room_of May top loaded script placed (Command index cause) why is lawful stuck =
     let done : Command index cause ≡ Done = lawful (λ at without. absurd (cc)) in
     absurd (cc)
-room_of May top (NoRoom index) why is lawful refused = room index (same_fault why (load.NoRoom index) is) (refused index refl)
+room_of May top loaded script placed (NoRoom index) why is lawful stuck =
+    let at = stuck index refl in
+    let behind : index ≡ 0 + at.behind = at.at_is in
+    let same : at.behind ≡ index = omega arith in
+    room index (same_fault why (load.NoRoom index) is)
+    (subst (λ k. IsRefusedFree May top (map range_of placed) (request_at loaded script k)) same at.refusal)
 
 pub fails_for_room : (Gives : Answering) (setting : Setting) (m : Machine) (items : List Item) (script : List Entry) (why : LoadFault) (before after : Seen)
     → AllFree Gives → IsBuilt m items script → script_in (image_items m) ≡ Ok (image_script m)
-    → IsImageLoaded Gives (image_items m) (top_of m) setting (Err why) before after
-    → EndsSo (Gives after.place.begun) (top_of m) why
+    → (loaded : IsImageLoaded Gives (image_items m) (top_of m) setting (Err why) before after)
+    → EndsSo (Gives after.place.begun) (top_of m) (files_of (image_items m)) (image_script m) (files_now loaded.world) why
 fails_for_room Gives setting m items script why before after free built script_read loaded =
     let May : Answers = Gives after.place.begun in
     let world : Loading = loaded.world in
@@ -206,9 +220,29 @@ fails_for_room Gives setting m items script why before after free built script_r
     let run : HasRun May (image_items m) (image_script m) after.place.handed (Err why) world =
     run_of m May after.place.handed (Err why) world script_read leaves.ran in
     let frees : GivesFree May (top_of m) = gives_free Gives after.place.begun (top_of m) free loaded.zones in
-    room_of May (top_of m) run.0 why run.2
+    subst (λ those. EndsSo May (top_of m) (files_of (image_items m)) those (files_now world) why) (sym (script_split m))
+    (room_of May (top_of m) (files_of (image_items m)) (plain_script m) (files_now world) run.0 why run.2
     (λ room. (lawful_so m items script built May after.place.handed run.0 (files_now world) frees run.1 room).done)
-    (extended_of m items script built May run.0 (files_now world) frees run.1.answered).no_room
+    (extended_of m items script built May run.0 (files_now world) frees run.1.answered).no_room)
+
+-- the last request that an allocator refused is that of the command that found no room
+refused_last : (Gives : Answering) (setting : Setting) (m : Machine) (why : LoadFault) (index : ℕ) (before after : Seen)
+    → script_in (image_items m) ≡ Ok (image_script m) → why ≡ load.NoRoom index
+    → (loaded : IsImageLoaded Gives (image_items m) (top_of m) setting (Err why) before after)
+    → IsRefusedFree (Gives after.place.begun) (top_of m) (map range_of (files_now loaded.world)) (request_at (files_of (image_items m)) (image_script m) index)
+    → IsRefusedFree (Gives after.place.begun) (top_of m) after.place.handed after.place.refused
+refused_last Gives setting m why index before after script_read is loaded refusal =
+    let May : Answers = Gives after.place.begun in
+    let world : Loading = loaded.world in
+    let leaves : IsLoadedOver May (image_items m) (top_of m) setting.fill loaded.load.taken after.place.handed (Err why) world =
+    leaves_of Gives (image_items m) (top_of m) setting (Err why) before after loaded in
+    let run : HasRun May (image_items m) (image_script m) after.place.handed (Err why) world =
+    run_of m May after.place.handed (Err why) world script_read leaves.ran in
+    let asked : after.place.refused ≡ request_at (files_of (image_items m)) (image_script m) index =
+    subst (λ read. IfOk read (λ those. after.place.refused ≡ request_at (files_of (image_items m)) those index)) script_read
+    (loaded.no_room index (ap ended_with is)).1 in
+    subst (λ handed. IsRefusedFree May (top_of m) handed after.place.refused) (sym run.1.handed_are)
+    (subst (IsRefusedFree May (top_of m) (map range_of (files_now world))) (sym asked) refusal)
 
 -- what `boot` makes of a machine whose image failed to load
 pub boot_failed : (Gives : Answering) (setting : Setting) (bytes : List ℕ) (m : Machine) (items : List Item) (script : List Entry) (f : Fault) (before after : Seen)
@@ -219,7 +253,8 @@ boot_failed Gives setting bytes m items script f before after free read built de
     (λ _. BootMakes Gives setting bytes before after (Err (fault.Load why))) [
       | room index is refusal ↦
           subst (λ w. BootMakes Gives setting bytes before after (Err (fault.Load w))) (sym is)
-          (without_room m read (subst (λ w. IsImageLoaded Gives (image_items m) (top_of m) setting (Err w) before after) is loaded) refusal)
+          (without_room m read (subst (λ w. IsImageLoaded Gives (image_items m) (top_of m) setting (Err w) before after) is loaded)
+          (refused_last Gives setting m why index before after decoded is loaded refusal))
     ]
 boot_failed Gives setting bytes m items script f before after free read built decoded (not_begun unloaded) = without_memory m read unloaded
 

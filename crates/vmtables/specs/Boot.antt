@@ -49,14 +49,15 @@ pub record IsBooted (Gives : Answering) (setting : Setting) (bytes : List ℕ) (
 
 -- What `boot` makes, with this setting, of the bytes of its input: it boots the machine that they describe, and makes the dump of the world's
 -- memory. Where no image is made of the bytes the world, the allocator and the plan stay as they were. No command of an image's script is
--- refused; an allocator may give no place for a file, though one is free. Where memory runs out before the load the machine isn't loaded.
+-- refused; an allocator may give no place for a file, and then the last request that it refused is one for which a place is free. Where
+-- memory runs out before the load the machine isn't loaded.
 pub data BootMakes (Gives : Answering) (setting : Setting) (bytes : List ℕ) (before after : Seen) : Made → Type 0 where
   booted : (is : IsBooted Gives setting bytes before after) {text : List ℕ} → text ≡ dump (memory_of is.loaded.world)
       → BootMakes Gives setting bytes before after (Ok text)
   without_image : {why : Fault} → CannotBeBuilt bytes why → after ≡ before → BootMakes Gives setting bytes before after (Err why)
   without_room : {index : ℕ} (machine : Machine) → Reads bytes machine
       → IsImageLoaded Gives (image_items machine) (top_of machine) setting (Err (NoRoom index)) before after
-      → IsRefusedFree (Gives after.place.begun) (top_of machine)
+      → IsRefusedFree (Gives after.place.begun) (top_of machine) after.place.handed after.place.refused
       → BootMakes Gives setting bytes before after (Err (fault.Load (NoRoom index)))
   without_memory : (machine : Machine) → Reads bytes machine → IsUnloaded (image_items machine) (top_of machine) setting.fill before after
       → BootMakes Gives setting bytes before after (Err fault.OutOfMemory)

@@ -1,5 +1,5 @@
 -- Items that are loaded into a world's memory, by the places that an allocator gives, over the events of a plan.
-use Rattle.std.specs.Prelude.{◌≡◌, ◌≢◌, ◌⊎◌, ℕ, List, Some, None, Result, Err, IsSomeAnd}
+use Rattle.std.specs.Prelude.{◌≡◌, ◌≢◌, ◌⊎◌, ℕ, List, Option, Some, None, Result, Err, IsSomeAnd}
 use Rattle.vt_outside.specs.Placement.{Range, IsFree}
 use Rattle.vt_outside.specs.Stream.{Rose}
 use Rattle.cfg_directory.specs.declared.item.Item.{Item}
@@ -35,10 +35,11 @@ pub record IsImageLoaded (Gives : Answering) (items : List Item) (top : ℕ) (se
       → Rose before.place.refusals after.place.refusals × IsAsked items index after.place.refused
   pub sound : ((index : ℕ) → answer ≢ Err (NoRoom index)) → after.place.refusals ≡ before.place.refusals
 
--- A request that an allocator refuses, answering so, though a place below the top is free for it.
-pub record IsRefusedFree (May : Answers) (top : ℕ) : Type 0 where
-  pub handed : List Range
+-- What was asked of an allocator that had handed out these ranges is a request that it refuses, answering so, though a place below the top
+-- is free for it.
+pub record IsRefusedFree (May : Answers) (top : ℕ) (handed : List Range) (asked : Option Request) : Type 0 where
   pub request : Request
+  pub asked_is : asked ≡ Some request
   pub refusal : May handed request None
   pub place : ℕ
   pub free : IsFree (zone_range top request.zone) handed request.size request.align place
