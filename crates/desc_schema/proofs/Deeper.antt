@@ -1,7 +1,7 @@
 -- A walk that may go deeper gives the same, where each table stands before those inside it.
 use Rattle.std.proofs.Common.{◌≡◌, ℕ, zero, suc, ◌+◌, ◌<◌, ◌≤◌, List, [], ◌∷◌, length, Option, Some, None, Result, Ok, Err, refl, ap, ◌∙◌, subst, arith}
 use Rattle.toml.specs.Data.{Data, Members, Items, no_items, item, get_member, as_table, as_array}
-use Rattle.desc_schema.specs.declared.item.Item.TheVariants as items
+use Rattle.desc_schema.specs.declared.value.Value.{Value}
 use Rattle.desc_schema.specs.declared.fault.Place.{Place}
 use Rattle.desc_schema.specs.declared.fault.KeyPlace.{KeyPlace}
 use Rattle.desc_schema.specs.declared.fault.WalkFault.{WalkFault}
@@ -27,40 +27,40 @@ same_joined first second f g is same =
     ∙ same_bound second (λ part. after part.0 (f part.1)) (λ part. after part.0 (g part.1)) (λ part. ap (after part.0) (same part.1))
 
 same_element : (number tables : ℕ) (first second : Inner) → Agree number tables first second → (at : KeyPlace) (inner : ℕ) → number < inner → inner < tables
-    → (value : Data) (positions : List ℕ) → element first at inner value positions ≡ element second at inner value positions
-same_element number tables first second agree at inner later within value positions =
+    → (node : Data) (positions : List ℕ) → element first at inner node positions ≡ element second at inner node positions
+same_element number tables first second agree at inner later within node positions =
     let place : Place = record { table = inner; index = position inner positions } in
-    same_bound (of_kind at (as_table value)) (λ inside. first place inside (advanced inner positions))
+    same_bound (of_kind at (as_table node)) (λ inside. first place inside (advanced inner positions))
     (λ inside. second place inside (advanced inner positions))
     (λ inside. agree place inside (advanced inner positions) later within)
 
 same_elements : (number tables : ℕ) (first second : Inner) → Agree number tables first second → (at : KeyPlace) (inner : ℕ) → number < inner → inner < tables
-    → (values : Items) (positions : List ℕ) → elements first at inner values positions ≡ elements second at inner values positions
+    → (nodes : Items) (positions : List ℕ) → elements first at inner nodes positions ≡ elements second at inner nodes positions
 unfolding elements
 same_elements number tables first second agree at inner later within no_items positions = refl
-same_elements number tables first second agree at inner later within (item value values) positions =
-    same_joined (element first at inner value positions) (element second at inner value positions) (elements first at inner values)
-    (elements second at inner values)
-    (same_element number tables first second agree at inner later within value positions)
-    (λ next. same_elements number tables first second agree at inner later within values next)
+same_elements number tables first second agree at inner later within (item node nodes) positions =
+    same_joined (element first at inner node positions) (element second at inner node positions) (elements first at inner nodes)
+    (elements second at inner nodes)
+    (same_element number tables first second agree at inner later within node positions)
+    (λ next. same_elements number tables first second agree at inner later within nodes next)
 
 same_shaped : (number tables : ℕ) (first second : Inner) → Agree number tables first second → (at : KeyPlace) (shape : Shape) → IsLater number tables shape
-    → (value : Data) (positions : List ℕ) → shaped first at shape value positions ≡ shaped second at shape value positions
-same_shaped number tables first second agree at (forms.One form) later value positions = refl
-same_shaped number tables first second agree at (forms.Values form) later value positions = refl
-same_shaped number tables first second agree at (forms.Table inner) (later, within) value positions =
-    same_bound (of_kind at (as_table value)) (λ inside. after (items.Count 1 ∷ []) (first (alone inner) inside positions))
-    (λ inside. after (items.Count 1 ∷ []) (second (alone inner) inside positions))
-    (λ inside. ap (after (items.Count 1 ∷ [])) (agree (alone inner) inside positions later within))
-same_shaped number tables first second agree at (forms.Tables inner) (later, within) value positions =
-    same_bound (of_kind at (as_array value)) (λ values. after (items.Count (count_of values) ∷ []) (elements first at inner values positions))
-    (λ values. after (items.Count (count_of values) ∷ []) (elements second at inner values positions))
-    (λ values. ap (after (items.Count (count_of values) ∷ [])) (same_elements number tables first second agree at inner later within values positions))
+    → (node : Data) (positions : List ℕ) → shaped first at shape node positions ≡ shaped second at shape node positions
+same_shaped number tables first second agree at (forms.One form) later node positions = refl
+same_shaped number tables first second agree at (forms.Values form) later node positions = refl
+same_shaped number tables first second agree at (forms.Table inner) (later, within) node positions =
+    same_bound (of_kind at (as_table node)) (λ inside. after (Value.Count 1 ∷ []) (first (alone inner) inside positions))
+    (λ inside. after (Value.Count 1 ∷ []) (second (alone inner) inside positions))
+    (λ inside. ap (after (Value.Count 1 ∷ [])) (agree (alone inner) inside positions later within))
+same_shaped number tables first second agree at (forms.Tables inner) (later, within) node positions =
+    same_bound (of_kind at (as_array node)) (λ nodes. after (Value.Count (count_of nodes) ∷ []) (elements first at inner nodes positions))
+    (λ nodes. after (Value.Count (count_of nodes) ∷ []) (elements second at inner nodes positions))
+    (λ nodes. ap (after (Value.Count (count_of nodes) ∷ [])) (same_elements number tables first second agree at inner later within nodes positions))
 
 same_found : (number tables : ℕ) (first second : Inner) → Agree number tables first second → (at : KeyPlace) (field : Field) → IsLater number tables field.shape
-    → (value : Option Data) (positions : List ℕ) → found_or first at field value positions ≡ found_or second at field value positions
+    → (node : Option Data) (positions : List ℕ) → found_or first at field node positions ≡ found_or second at field node positions
 same_found number tables first second agree at field later None positions = refl
-same_found number tables first second agree at field later (Some value) positions = same_shaped number tables first second agree at field.shape later value
+same_found number tables first second agree at field later (Some node) positions = same_shaped number tables first second agree at field.shape later node
     positions
 
 same_fields : (number tables : ℕ) (first second : Inner) → Agree number tables first second → (place : Place) (n : ℕ) (fields : List Field)

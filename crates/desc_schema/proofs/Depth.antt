@@ -1,7 +1,7 @@
 -- The walk of a table, by the depth that is left.
 use Rattle.std.proofs.Common.{◌≡◌, ℕ, zero, suc, ◌<◌, ◌-◌, List, Ok, refl, ◌∙◌, arith}
 use Rattle.toml.specs.Data.{Members}
-use Rattle.desc_schema.specs.declared.item.Item.{Item}
+use Rattle.desc_schema.specs.declared.value.Value.{Value}
 use Rattle.desc_schema.specs.declared.fault.Place.{Place}
 use Rattle.desc_schema.specs.declared.fault.WalkError.{WalkError}
 use Rattle.desc_schema.specs.Form.{Field, fields_at}
@@ -9,7 +9,7 @@ use Rattle.desc_schema.specs.Faults.{◌>>=◌, Fails}
 use Rattle.desc_schema.specs.Walk.{after, all_known, at_fields, table_walked}
 use Rattle.desc_schema.proofs.Parts.{is_done, fails_bound}
 
-pub walked_none : (front : List Item) (schema : List (List Field)) (depth : ℕ) (place : Place) (table : Members) (positions : List ℕ) → depth ≡ 0
+pub walked_none : (front : List Value) (schema : List (List Field)) (depth : ℕ) (place : Place) (table : Members) (positions : List ℕ) → depth ≡ 0
     → after front (table_walked schema depth place table positions) ≡ Ok (front, positions)
 unfolding table_walked
 walked_none front schema depth place table positions is = rw is (is_done front positions _ refl)
@@ -30,7 +30,7 @@ pub walked_known : (schema : List (List Field)) (depth : ℕ) (place : Place) (t
     → table_walked schema depth place table positions ≡ at_fields (table_walked schema (depth - 1)) place 0 fields table positions
 walked_known schema depth place table positions fields known within is all = walked_more schema depth place table positions fields within is ∙ rw all refl
 
-pub walked_unknown : (error : WalkError) (front : List Item) (schema : List (List Field)) (depth : ℕ) (place : Place) (table : Members) (positions : List ℕ)
+pub walked_unknown : (error : WalkError) (front : List Value) (schema : List (List Field)) (depth : ℕ) (place : Place) (table : Members) (positions : List ℕ)
     (fields : List Field) → 0 < depth
     → fields ≡ fields_at schema place.table → Fails error (all_known place fields table)
     → Fails error (after front (table_walked schema depth place table positions))

@@ -11,7 +11,7 @@ use Rattle.std.specs.String.{string_cmp}
 use Rattle.std.specs.Map.{keys_of}
 use Rattle.std.specs.Str.{bytes_eq}
 use Rattle.toml.specs.View.{members_view}
-use Rattle.toml.specs.declared.value.Value.{Value}
+use Rattle.toml.specs.declared.value.Value.{Value as Node}
 use Rattle.desc_schema.specs.declared.schema.Key.{Key}
 use Rattle.desc_schema.specs.declared.schema.TableSchema.{TableSchema}
 use Rattle.desc_schema.specs.declared.fault.Place.{Place}
@@ -41,7 +41,7 @@ le_lesser k name (Some other) less others =
     subst (λ (n : List ℕ). is_le (slice_cmp nat_cmp k n) ≡ true) same (others other refl))
     (cases_Bool (is_le (slice_cmp nat_cmp name other)))
 
-le_all : (fields : List Field) (k : List ℕ) (es : List (String Global × Value)) → AllByRecursion (λ y. slice_cmp nat_cmp k (string_bytes y) ≡ Less) (keys_of es)
+le_all : (fields : List Field) (k : List ℕ) (es : List (String Global × Node)) → AllByRecursion (λ y. slice_cmp nat_cmp k (string_bytes y) ≡ Less) (keys_of es)
     → (other : List ℕ) → least_unknown fields (members_view es) ≡ Some other → is_le (slice_cmp nat_cmp k other) ≡ true
 le_all fields k [] all other is = absurd (none_some other is)
 le_all fields k (e ∷ es) (here, all) other is =
@@ -53,14 +53,14 @@ le_all fields k (e ∷ es) (here, all) other is =
     (cases_Bool (is_known fields (string_bytes e.0)))
 
 -- the least unknown key comes behind a name that all keys come behind
-behind_all : (fields : List Field) (k : List ℕ) (es : List (String Global × Value))
+behind_all : (fields : List Field) (k : List ℕ) (es : List (String Global × Node))
     → AllByRecursion (λ y. slice_cmp nat_cmp k (string_bytes y) ≡ Less) (keys_of es)
     → (found : Option (List ℕ)) → least_unknown fields (members_view es) ≡ found → lesser k found ≡ k
 behind_all fields k es all None is = refl
 behind_all fields k es all (Some other) is = rw (le_all fields k es all other is) refl
 
 -- the first unknown key is the least one, since the keys ascend
-pub names_known-of : (place : Place) (fields : List Field) (es : List (String Global × Value)) → IsStrictlySortedBy string_cmp (keys_of es)
+pub names_known-of : (place : Place) (fields : List Field) (es : List (String Global × Node)) → IsStrictlySortedBy string_cmp (keys_of es)
     → all_known place fields (members_view es) ≡ names_known place fields (keys_of es)
 unfolding IsStrictlySortedBy
 names_known-of place fields [] sorted = refl

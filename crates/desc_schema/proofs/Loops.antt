@@ -3,15 +3,15 @@ use Rattle.std.proofs.Common.{◌≡◌, ℕ, zero, suc, ◌+◌, ◌<◌, ◌�
 use Rattle.std.proofs.lemmas.List.{drop_more}
 use Rattle.toml.specs.Data.{Members}
 use Rattle.toml.specs.View.{view, items_view}
-use Rattle.toml.specs.declared.value.Value.{Value}
+use Rattle.toml.specs.declared.value.Value.{Value as Node}
 use Rattle.desc_schema.specs.declared.schema.Key.{Key}
-use Rattle.desc_schema.specs.declared.item.Item.{Item}
+use Rattle.desc_schema.specs.declared.value.Value.{Value}
 use Rattle.desc_schema.specs.declared.fault.Place.{Place}
 use Rattle.desc_schema.specs.declared.fault.KeyPlace.{KeyPlace}
 use Rattle.desc_schema.specs.declared.fault.WalkError.{WalkError}
 use Rattle.desc_schema.specs.Form.{Form, field_of, fields_of}
 use Rattle.desc_schema.specs.Faults.{Fails, key_at}
-use Rattle.desc_schema.specs.Single.{item_of}
+use Rattle.desc_schema.specs.Single.{value_of}
 use Rattle.desc_schema.specs.Walk.{Part, Inner, after, one, element, elements, singles, at_field, at_fields, count_of}
 use Rattle.desc_schema.proofs.Parts.{goes_on, stops, is_done}
 
@@ -21,7 +21,7 @@ drop_all [] (suc i) le = refl
 drop_all (x ∷ xs) zero le = absurd (omega arith)
 drop_all (x ∷ xs) (suc i) le = drop_all xs i (omega arith)
 
-pub fields_go_on : (front new : List Item) (before next : List ℕ) (inner : Inner) (place : Place) (i : ℕ) (keys : List Key) (key : Key) (table : Members)
+pub fields_go_on : (front new : List Value) (before next : List ℕ) (inner : Inner) (place : Place) (i : ℕ) (keys : List Key) (key : Key) (table : Members)
     (total : Part) → i < length keys
     → after front (at_field inner (key_at place i) (field_of (get_or keys i key)) table before) ≡ Ok (new, next)
     → after front (at_fields inner place i (fields_of (drop i keys)) table before) ≡ total
@@ -32,7 +32,7 @@ fields_go_on front new before next inner place i keys key table total within is 
     (at_fields inner place (i + 1) (fields_of (drop (i + 1) keys)) table) next total is
     (rw (drop_more keys i key within) at so_far)
 
-pub fields_stop : (error : WalkError) (front : List Item) (before : List ℕ) (inner : Inner) (place : Place) (i : ℕ) (keys : List Key) (key : Key)
+pub fields_stop : (error : WalkError) (front : List Value) (before : List ℕ) (inner : Inner) (place : Place) (i : ℕ) (keys : List Key) (key : Key)
     (table : Members) (total : Part) → i < length keys
     → Fails error (after front (at_field inner (key_at place i) (field_of (get_or keys i key)) table before))
     → after front (at_fields inner place i (fields_of (drop i keys)) table before) ≡ total → Fails error total
@@ -42,61 +42,61 @@ fields_stop error front before inner place i keys key table total within fails s
     (at_fields inner place (i + 1) (fields_of (drop (i + 1) keys)) table) total fails
     (rw (drop_more keys i key within) at so_far)
 
-pub fields_done : (front : List Item) (before : List ℕ) (inner : Inner) (place : Place) (i : ℕ) (keys : List Key) (table : Members) (total : Part)
+pub fields_done : (front : List Value) (before : List ℕ) (inner : Inner) (place : Place) (i : ℕ) (keys : List Key) (table : Members) (total : Part)
     → length keys ≤ i
     → after front (at_fields inner place i (fields_of (drop i keys)) table before) ≡ total → total ≡ Ok (front, before)
 unfolding at_fields
 fields_done front before inner place i keys table total le so_far = is_done front before total (rw (drop_all keys i le) at so_far)
 
 -- the same over the tables of an array
-pub elements_go_on : (front new : List Item) (before next : List ℕ) (inner : Inner) (at : KeyPlace) (table i : ℕ) (values : List Value) (value : Value)
-    (total : Part) → i < length values
-    → value ≡ get_or values i value → after front (element inner at table (view value) before) ≡ Ok (new, next)
-    → after front (elements inner at table (items_view (drop i values)) before) ≡ total
-    → after new (elements inner at table (items_view (drop (i + 1) values)) next) ≡ total
+pub elements_go_on : (front new : List Value) (before next : List ℕ) (inner : Inner) (at : KeyPlace) (table i : ℕ) (nodes : List Node) (node : Node)
+    (total : Part) → i < length nodes
+    → node ≡ get_or nodes i node → after front (element inner at table (view node) before) ≡ Ok (new, next)
+    → after front (elements inner at table (items_view (drop i nodes)) before) ≡ total
+    → after new (elements inner at table (items_view (drop (i + 1) nodes)) next) ≡ total
 unfolding elements
-elements_go_on front new before next inner at table i values value total within read is so_far =
-    goes_on front new (element inner at table (view value) before) (elements inner at table (items_view (drop (i + 1) values))) next total is
-    (rw (drop_more values i value within, ← read) at so_far)
+elements_go_on front new before next inner at table i nodes node total within read is so_far =
+    goes_on front new (element inner at table (view node) before) (elements inner at table (items_view (drop (i + 1) nodes))) next total is
+    (rw (drop_more nodes i node within, ← read) at so_far)
 
-pub elements_stop : (error : WalkError) (front : List Item) (before : List ℕ) (inner : Inner) (at : KeyPlace) (table i : ℕ) (values : List Value)
-    (value : Value) (total : Part) → i < length values
-    → value ≡ get_or values i value → Fails error (after front (element inner at table (view value) before))
-    → after front (elements inner at table (items_view (drop i values)) before) ≡ total → Fails error total
+pub elements_stop : (error : WalkError) (front : List Value) (before : List ℕ) (inner : Inner) (at : KeyPlace) (table i : ℕ) (nodes : List Node)
+    (node : Node) (total : Part) → i < length nodes
+    → node ≡ get_or nodes i node → Fails error (after front (element inner at table (view node) before))
+    → after front (elements inner at table (items_view (drop i nodes)) before) ≡ total → Fails error total
 unfolding elements
-elements_stop error front before inner at table i values value total within read fails so_far =
-    stops error front (element inner at table (view value) before) (elements inner at table (items_view (drop (i + 1) values))) total fails
-    (rw (drop_more values i value within, ← read) at so_far)
+elements_stop error front before inner at table i nodes node total within read fails so_far =
+    stops error front (element inner at table (view node) before) (elements inner at table (items_view (drop (i + 1) nodes))) total fails
+    (rw (drop_more nodes i node within, ← read) at so_far)
 
-pub elements_done : (front : List Item) (before : List ℕ) (inner : Inner) (at : KeyPlace) (table i : ℕ) (values : List Value) (total : Part) → length values ≤ i
-    → after front (elements inner at table (items_view (drop i values)) before) ≡ total → total ≡ Ok (front, before)
+pub elements_done : (front : List Value) (before : List ℕ) (inner : Inner) (at : KeyPlace) (table i : ℕ) (nodes : List Node) (total : Part) → length nodes ≤ i
+    → after front (elements inner at table (items_view (drop i nodes)) before) ≡ total → total ≡ Ok (front, before)
 unfolding elements
-elements_done front before inner at table i values total le so_far = is_done front before total (rw (drop_all values i le) at so_far)
+elements_done front before inner at table i nodes total le so_far = is_done front before total (rw (drop_all nodes i le) at so_far)
 
 -- the same over single values
-pub singles_go_on : (front new : List Item) (before next : List ℕ) (at : KeyPlace) (form : Form) (i : ℕ) (values : List Value) (value : Value) (total : Part)
-    → i < length values
-    → value ≡ get_or values i value → after front (one (item_of at form (view value)) before) ≡ Ok (new, next)
-    → after front (singles at form (items_view (drop i values)) before) ≡ total → after new (singles at form (items_view (drop (i + 1) values)) next) ≡ total
+pub singles_go_on : (front new : List Value) (before next : List ℕ) (at : KeyPlace) (form : Form) (i : ℕ) (nodes : List Node) (node : Node) (total : Part)
+    → i < length nodes
+    → node ≡ get_or nodes i node → after front (one (value_of at form (view node)) before) ≡ Ok (new, next)
+    → after front (singles at form (items_view (drop i nodes)) before) ≡ total → after new (singles at form (items_view (drop (i + 1) nodes)) next) ≡ total
 unfolding singles
-singles_go_on front new before next at form i values value total within read is so_far =
-    goes_on front new (one (item_of at form (view value)) before) (singles at form (items_view (drop (i + 1) values))) next total is
-    (rw (drop_more values i value within, ← read) at so_far)
+singles_go_on front new before next at form i nodes node total within read is so_far =
+    goes_on front new (one (value_of at form (view node)) before) (singles at form (items_view (drop (i + 1) nodes))) next total is
+    (rw (drop_more nodes i node within, ← read) at so_far)
 
-pub singles_stop : (error : WalkError) (front : List Item) (before : List ℕ) (at : KeyPlace) (form : Form) (i : ℕ) (values : List Value) (value : Value)
-    (total : Part) → i < length values
-    → value ≡ get_or values i value → Fails error (after front (one (item_of at form (view value)) before))
-    → after front (singles at form (items_view (drop i values)) before) ≡ total → Fails error total
+pub singles_stop : (error : WalkError) (front : List Value) (before : List ℕ) (at : KeyPlace) (form : Form) (i : ℕ) (nodes : List Node) (node : Node)
+    (total : Part) → i < length nodes
+    → node ≡ get_or nodes i node → Fails error (after front (one (value_of at form (view node)) before))
+    → after front (singles at form (items_view (drop i nodes)) before) ≡ total → Fails error total
 unfolding singles
-singles_stop error front before at form i values value total within read fails so_far =
-    stops error front (one (item_of at form (view value)) before) (singles at form (items_view (drop (i + 1) values))) total fails
-    (rw (drop_more values i value within, ← read) at so_far)
+singles_stop error front before at form i nodes node total within read fails so_far =
+    stops error front (one (value_of at form (view node)) before) (singles at form (items_view (drop (i + 1) nodes))) total fails
+    (rw (drop_more nodes i node within, ← read) at so_far)
 
-pub singles_done : (front : List Item) (before : List ℕ) (at : KeyPlace) (form : Form) (i : ℕ) (values : List Value) (total : Part) → length values ≤ i
-    → after front (singles at form (items_view (drop i values)) before) ≡ total → total ≡ Ok (front, before)
+pub singles_done : (front : List Value) (before : List ℕ) (at : KeyPlace) (form : Form) (i : ℕ) (nodes : List Node) (total : Part) → length nodes ≤ i
+    → after front (singles at form (items_view (drop i nodes)) before) ≡ total → total ≡ Ok (front, before)
 unfolding singles
-singles_done front before at form i values total le so_far = is_done front before total (rw (drop_all values i le) at so_far)
+singles_done front before at form i nodes total le so_far = is_done front before total (rw (drop_all nodes i le) at so_far)
 
-pub count_of-view : (values : List Value) → count_of (items_view values) ≡ length values
+pub count_of-view : (nodes : List Node) → count_of (items_view nodes) ≡ length nodes
 count_of-view [] = refl
-count_of-view (value ∷ values) = ap suc (count_of-view values)
+count_of-view (node ∷ nodes) = ap suc (count_of-view nodes)

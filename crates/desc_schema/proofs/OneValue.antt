@@ -4,8 +4,7 @@ use Rattle.std.proofs.Common.{Ok, Err, refl, sym, arith}
 use Rattle.std.proofs.lemmas.List.{drop_more}
 use Rattle.std.specs.Borrow.{Bor}
 use Rattle.std.specs.Str.{bytes_eq}
-use Rattle.desc_schema.specs.declared.item.Item.{Item}
-use Rattle.desc_schema.specs.declared.item.Item.TheVariants as items
+use Rattle.desc_schema.specs.declared.value.Value.{Value}
 use Rattle.desc_schema.specs.declared.fault.KeyPlace.{KeyPlace}
 use Rattle.desc_schema.specs.declared.fault.WalkFault.{WalkFault}
 use Rattle.desc_schema.specs.declared.fault.WalkFault.TheVariants.{OutOfRange}
@@ -17,13 +16,13 @@ no_uuid at None none = refl
 no_uuid at (Some bytes) none = absurd (none bytes refl)
 
 -- the next word is the text, or isn't it
-pub word_found : (at : KeyPlace) (i : ℕ) (words : List (Bor (List ℕ))) (word : Bor (List ℕ)) (text : List ℕ) (total : Result Item WalkFault) → i < length words
-    → bytes_eq (get_or words i word).now text ≡ true → word_from at i (texts_of (drop i words)) text ≡ total → total ≡ Ok (items.Word i)
+pub word_found : (at : KeyPlace) (i : ℕ) (words : List (Bor (List ℕ))) (word : Bor (List ℕ)) (text : List ℕ) (total : Result Value WalkFault) → i < length words
+    → bytes_eq (get_or words i word).now text ≡ true → word_from at i (texts_of (drop i words)) text ≡ total → total ≡ Ok (Value.Word i)
 unfolding word_from
 word_found at i words word text total within same so_far = sym (rw (drop_more words i word within, same) at so_far)
 
-pub word_passed : (at : KeyPlace) (i : ℕ) (words : List (Bor (List ℕ))) (word : Bor (List ℕ)) (text : List ℕ) (total : Result Item WalkFault) → i < length words
-    → bytes_eq (get_or words i word).now text ≡ false → word_from at i (texts_of (drop i words)) text ≡ total
+pub word_passed : (at : KeyPlace) (i : ℕ) (words : List (Bor (List ℕ))) (word : Bor (List ℕ)) (text : List ℕ) (total : Result Value WalkFault)
+    → i < length words → bytes_eq (get_or words i word).now text ≡ false → word_from at i (texts_of (drop i words)) text ≡ total
     → word_from at (i + 1) (texts_of (drop (i + 1) words)) text ≡ total
 unfolding word_from
 word_passed at i words word text total within other so_far = rw (drop_more words i word within, other) at so_far
@@ -34,7 +33,7 @@ drop_all [] (suc i) le = refl
 drop_all (x ∷ xs) zero le = absurd (omega arith)
 drop_all (x ∷ xs) (suc i) le = drop_all xs i (omega arith)
 
-pub no_word : (at : KeyPlace) (i : ℕ) (words : List (Bor (List ℕ))) (text : List ℕ) (total : Result Item WalkFault) → length words ≤ i
+pub no_word : (at : KeyPlace) (i : ℕ) (words : List (Bor (List ℕ))) (text : List ℕ) (total : Result Value WalkFault) → length words ≤ i
     → word_from at i (texts_of (drop i words)) text ≡ total → total ≡ Err (OutOfRange at)
 unfolding word_from
 no_word at i words text total past so_far = sym (rw (drop_all words i past) at so_far)

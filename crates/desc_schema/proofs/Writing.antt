@@ -12,19 +12,18 @@ use Rattle.std.specs.List.{list_any}
 use Rattle.std.specs.Ordering.{is_eq, match_ordering}
 use Rattle.std.specs.Str.{bytes_eq}
 use Rattle.toml.specs.Data.{Data, string, integer, boolean, array, table, Items, no_items, item, Members, no_members, get_member}
-use Rattle.desc_schema.specs.declared.item.Item.{Item}
-use Rattle.desc_schema.specs.declared.item.Item.TheVariants as items
+use Rattle.desc_schema.specs.declared.value.Value.{Value}
 use Rattle.desc_schema.specs.declared.fault.Place.{Place}
 use Rattle.desc_schema.specs.declared.fault.KeyPlace.{KeyPlace}
 use Rattle.desc_schema.specs.Form.{Form, Shape, Field, fields_at}
 use Rattle.desc_schema.specs.Form as forms
 use Rattle.desc_schema.specs.Faults.{key_at, alone}
-use Rattle.desc_schema.specs.Single.{item_of, uuid_from, word_from}
+use Rattle.desc_schema.specs.Single.{value_of, uuid_from, word_from}
 use Rattle.desc_schema.specs.Taken.{first, rest}
 use Rattle.desc_schema.specs.Walk.{Inner, one, elements, singles, shaped, found_or, at_fields, least_unknown, is_known}
 use Rattle.desc_schema.specs.Walk.{table_walked, walked, position, advanced, count_of}
 use Rattle.desc_schema.specs.Fits.{FitsForm, IsOne, AreParts, FitsShape, FitsField, FitsFields, FitsTable, Fits}
-use Rattle.desc_schema.specs.Written.{Spelling, IsReadBack, word_data, data_of, Write, tables_written, singles_written, shape_written}
+use Rattle.desc_schema.specs.Written.{Spelling, IsReadBack, word_node, node_of, Write, tables_written, singles_written, shape_written}
 use Rattle.desc_schema.specs.Written.{with_member, fields_written, written_to, written, words_differ, names_differ, IsSoundForm, IsSoundDefault}
 use Rattle.desc_schema.specs.Written.{IsSoundShape, AreSoundFields, IsSound}
 
@@ -46,7 +45,7 @@ other_way k l differ =
 -- single values
 
 word_back : (n : ℕ) (words : List (List ℕ)) → n < length words → words_differ words ≡ true
-    → (word : List ℕ) × (word_data n words ≡ Some (string word)) × ((at : KeyPlace) (k : ℕ) → word_from at k words word ≡ Ok (items.Word (k + n)))
+    → (word : List ℕ) × (word_node n words ≡ Some (string word)) × ((at : KeyPlace) (k : ℕ) → word_from at k words word ≡ Ok (Value.Word (k + n)))
     × ((test : List ℕ → Bool) → list_any test words ≡ false → test word ≡ false)
 unfolding word_from
 word_back n [] within differ = absurd (omega arith)
@@ -68,11 +67,11 @@ word_back (suc n) (front ∷ words) within differ =
     )
 
 uuid_back : (at : KeyPlace) (n : ℕ) (read : Option (List ℕ)) (again : List ℕ) → read ≡ Some again → from_be_bytes w128 again ≡ n
-    → uuid_from at read ≡ Ok (items.Uuid n)
+    → uuid_from at read ≡ Ok (Value.Uuid n)
 uuid_back at n read again is same = rw (is, same) refl
 
-form_back : (spell : Spelling) (reads : IsReadBack spell) (form : Form) (found : Item) → FitsForm form found → IsSoundForm form
-    → (value : Data) × (data_of spell form found ≡ Some value) × ((at : KeyPlace) → item_of at form value ≡ Ok found)
+form_back : (spell : Spelling) (reads : IsReadBack spell) (form : Form) (found : Value) → FitsForm form found → IsSoundForm form
+    → (node : Data) × (node_of spell form found ≡ Some node) × ((at : KeyPlace) → value_of at form node ≡ Ok found)
 form_back spell reads forms.Text found (text, is) sound = (string text, rw is refl, λ at. rw is refl)
 form_back spell reads (forms.Number least most) found (n, is, low, high) sound =
     let lows : nat_le least n ≡ true = le-leb least n low in
@@ -85,30 +84,30 @@ form_back spell reads forms.Uuid found (text, bytes, from, is) sound =
 form_back spell reads (forms.Word words) found (n, is, within) sound =
     let (word, written, back, _) = word_back n words within sound in
     let here : 0 + n ≡ n = omega arith in
-    (string word, rw is written, λ at. rw is (back at 0 ∙ ap (λ (k : ℕ). Ok (items.Word k)) here))
+    (string word, rw is written, λ at. rw is (back at 0 ∙ ap (λ (k : ℕ). Ok (Value.Word k)) here))
 
-one_back : (spell : Spelling) (reads : IsReadBack spell) (form : Form) (values : List Item) → IsOne form values → IsSoundForm form → (more : List Item)
-    → (value : Data) × (data_of spell form (first (values ++ more)) ≡ Some value) × (rest (values ++ more) ≡ more)
-    × ((at : KeyPlace) (positions : List ℕ) → one (item_of at form value) positions ≡ Ok (values, positions))
+one_back : (spell : Spelling) (reads : IsReadBack spell) (form : Form) (values : List Value) → IsOne form values → IsSoundForm form → (more : List Value)
+    → (node : Data) × (node_of spell form (first (values ++ more)) ≡ Some node) × (rest (values ++ more) ≡ more)
+    × ((at : KeyPlace) (positions : List ℕ) → one (value_of at form node) positions ≡ Ok (values, positions))
 one_back spell reads form values (found, is, fits) sound more =
-    let (value, written, back) = form_back spell reads form found fits sound in
-    (value, rw is written, rw is refl, λ at positions. rw (back at, is) refl)
+    let (node, written, back) = form_back spell reads form found fits sound in
+    (node, rw is written, rw is refl, λ at positions. rw (back at, is) refl)
 
 -- tables and arrays
 
 -- the table of a number is written of values, with others behind them, and the walk of it gives them again
-abbrev WalksBack : Inner → Write → ℕ → List Item → Type 0
-WalksBack inner write number values = (more : List Item) → (entries : Members) × (write number (values ++ more) ≡ (entries, more))
+abbrev WalksBack : Inner → Write → ℕ → List Value → Type 0
+WalksBack inner write number values = (more : List Value) → (entries : Members) × (write number (values ++ more) ≡ (entries, more))
     × ((index : ℕ) (positions : List ℕ) → (next : List ℕ) × (inner (record { table = number; index = index }) entries positions ≡ Ok (values, next)))
 
-abbrev AllWalkBack : Inner → Write → (ℕ → List Item → Type 0) → Type 0
-AllWalkBack inner write Inside = (number : ℕ) (values : List Item) → Inside number values → WalksBack inner write number values
+abbrev AllWalkBack : Inner → Write → (ℕ → List Value → Type 0) → Type 0
+AllWalkBack inner write Inside = (number : ℕ) (values : List Value) → Inside number values → WalksBack inner write number values
 
-behind : (values part rest more : List Item) → values ≡ part ++ rest → values ++ more ≡ part ++ (rest ++ more)
+behind : (values part rest more : List Value) → values ≡ part ++ rest → values ++ more ≡ part ++ (rest ++ more)
 behind values part rest more is = rw is (simp append_assoc)
 
-elements_back : (inner : Inner) (write : Write) (Inside : ℕ → List Item → Type 0) (all : AllWalkBack inner write Inside) (number n : ℕ) (values : List Item)
-    → AreParts (Inside number) n values → (more : List Item)
+elements_back : (inner : Inner) (write : Write) (Inside : ℕ → List Value → Type 0) (all : AllWalkBack inner write Inside) (number n : ℕ) (values : List Value)
+    → AreParts (Inside number) n values → (more : List Value)
     → (made : Items) × (tables_written write number n (values ++ more) ≡ (made, more)) × (count_of made ≡ n)
     × ((at : KeyPlace) (positions : List ℕ) → (next : List ℕ) × (elements inner at number made positions ≡ Ok (values, next)))
 unfolding elements
@@ -126,35 +125,35 @@ elements_back inner write Inside all number (suc n) values (part, others, is, fi
           (last, rw (walks, walk, is) refl),
     )
 
-singles_back : (spell : Spelling) (reads : IsReadBack spell) (form : Form) (sound : IsSoundForm form) (n : ℕ) (values : List Item)
+singles_back : (spell : Spelling) (reads : IsReadBack spell) (form : Form) (sound : IsSoundForm form) (n : ℕ) (values : List Value)
     → AreParts (IsOne form) n values
-    → (more : List Item) → (made : Items) × (singles_written spell form n (values ++ more) ≡ (made, more)) × (count_of made ≡ n)
+    → (more : List Value) → (made : Items) × (singles_written spell form n (values ++ more) ≡ (made, more)) × (count_of made ≡ n)
     × ((at : KeyPlace) (positions : List ℕ) → singles at form made positions ≡ Ok (values, positions))
 unfolding singles
 singles_back spell reads form sound zero values is more = (no_items, rw is refl, refl, λ at positions. rw is refl)
 singles_back spell reads form sound (suc n) values (part, others, is, fits, fit) more =
-    let (value, written, left, back) = one_back spell reads form part fits sound (others ++ more) in
+    let (node, written, left, back) = one_back spell reads form part fits sound (others ++ more) in
     let (made, writes, count, backs) = singles_back spell reads form sound n others fit more in
     let all_of : values ++ more ≡ part ++ (others ++ more) = behind values part others more is in
-    (item value made, rw (all_of, written, left, writes) refl, ap suc count, λ at positions. rw (back at positions, backs at positions, is) refl)
+    (item node made, rw (all_of, written, left, writes) refl, ap suc count, λ at positions. rw (back at positions, backs at positions, is) refl)
 
--- the value at a key, or none
-abbrev FieldBack : Spelling → Inner → Write → Field → List Item → Type 0
-FieldBack spell inner write field values = (more : List Item)
-    → (value : Option Data) × (shape_written spell write field.shape (values ++ more) ≡ (value, more))
-    × ((at : KeyPlace) (positions : List ℕ) → (next : List ℕ) × (found_or inner at field value positions ≡ Ok (values, next)))
+-- the node at a key, or none
+abbrev FieldBack : Spelling → Inner → Write → Field → List Value → Type 0
+FieldBack spell inner write field values = (more : List Value)
+    → (node : Option Data) × (shape_written spell write field.shape (values ++ more) ≡ (node, more))
+    × ((at : KeyPlace) (positions : List ℕ) → (next : List ℕ) × (found_or inner at field node positions ≡ Ok (values, next)))
 
-abbrev ShapeBack : Spelling → Inner → Write → Shape → List Item → Type 0
-ShapeBack spell inner write shape values = (more : List Item)
-    → (value : Data) × (shape_written spell write shape (values ++ more) ≡ (Some value, more))
-    × ((at : KeyPlace) (positions : List ℕ) → (next : List ℕ) × (shaped inner at shape value positions ≡ Ok (values, next)))
+abbrev ShapeBack : Spelling → Inner → Write → Shape → List Value → Type 0
+ShapeBack spell inner write shape values = (more : List Value)
+    → (node : Data) × (shape_written spell write shape (values ++ more) ≡ (Some node, more))
+    × ((at : KeyPlace) (positions : List ℕ) → (next : List ℕ) × (shaped inner at shape node positions ≡ Ok (values, next)))
 
-shape_back : (spell : Spelling) (reads : IsReadBack spell) (inner : Inner) (write : Write) (Inside : ℕ → List Item → Type 0)
+shape_back : (spell : Spelling) (reads : IsReadBack spell) (inner : Inner) (write : Write) (Inside : ℕ → List Value → Type 0)
     (all : AllWalkBack inner write Inside)
-    (shape : Shape) (values : List Item) → FitsShape Inside shape values → IsSoundShape shape → ShapeBack spell inner write shape values
+    (shape : Shape) (values : List Value) → FitsShape Inside shape values → IsSoundShape shape → ShapeBack spell inner write shape values
 shape_back spell reads inner write Inside all (forms.One form) values fits sound more =
-    let (value, written, left, back) = one_back spell reads form values fits sound more in
-    (value, rw (written, left) refl, λ at positions. (positions, back at positions))
+    let (node, written, left, back) = one_back spell reads form values fits sound more in
+    (node, rw (written, left) refl, λ at positions. (positions, back at positions))
 shape_back spell reads inner write Inside all (forms.Table number) values (inside, is, fits) sound more =
     let (entries, written, back) = all number inside fits more in (
       table entries,
@@ -175,31 +174,31 @@ shape_back spell reads inner write Inside all (forms.Values form) values (n, ins
     let (made, written, count, back) = singles_back spell reads form sound n inside fits more in
     (array made, rw (is, written) refl, λ at positions. (positions, rw (back at positions, is, count) refl))
 
-found_back : (spell : Spelling) (inner : Inner) (write : Write) (field : Field) (values : List Item) → ShapeBack spell inner write field.shape values
+found_back : (spell : Spelling) (inner : Inner) (write : Write) (field : Field) (values : List Value) → ShapeBack spell inner write field.shape values
     → FieldBack spell inner write field values
-found_back spell inner write field values back more = let (value, written, walks) = back more in (Some value, written, walks)
+found_back spell inner write field values back more = let (node, written, walks) = back more in (Some node, written, walks)
 
 -- a key that is left out
-default_back : (inner : Inner) (field : Field) (default : Item) (values : List Item) → field.default ≡ Some default → values ≡ default ∷ []
+default_back : (inner : Inner) (field : Field) (default : Value) (values : List Value) → field.default ≡ Some default → values ≡ default ∷ []
     → (at : KeyPlace) (positions : List ℕ) → (next : List ℕ) × (found_or inner at field None positions ≡ Ok (values, next))
 default_back inner field default values stands is at positions = (positions, rw (stands, is) refl)
 
 -- a default of a single value: one that is written, or one that isn't
-one_left_out : (spell : Spelling) (reads : IsReadBack spell) (inner : Inner) (write : Write) (field : Field) (form : Form) (default : Item) (values : List Item)
-    → field.shape ≡ forms.One form → field.default ≡ Some default → values ≡ default ∷ [] → IsSoundForm form
-    → FitsForm form default ⊎ (data_of spell form default ≡ None) → FieldBack spell inner write field values
+one_left_out : (spell : Spelling) (reads : IsReadBack spell) (inner : Inner) (write : Write) (field : Field) (form : Form) (default : Value)
+    (values : List Value) → field.shape ≡ forms.One form → field.default ≡ Some default → values ≡ default ∷ [] → IsSoundForm form
+    → FitsForm form default ⊎ (node_of spell form default ≡ None) → FieldBack spell inner write field values
 one_left_out spell reads inner write field form default values shape stands is sound either more =
     ⊎_elim
     (λ fits.
-    let (value, written, left, back) = one_back spell reads form values (default, is, fits) sound more in
-    (Some value, rw (shape, written, left) refl, λ at positions. (positions, rw shape (back at positions))))
+    let (node, written, left, back) = one_back spell reads form values (default, is, fits) sound more in
+    (Some node, rw (shape, written, left) refl, λ at positions. (positions, rw shape (back at positions))))
     (λ none. (None, rw (shape, is) (ap (λ (o : Option Data). (o, more)) none), default_back inner field default values stands is))
     either
 
-field_back : (spell : Spelling) (reads : IsReadBack spell) (inner : Inner) (write : Write) (Inside : ℕ → List Item → Type 0)
+field_back : (spell : Spelling) (reads : IsReadBack spell) (inner : Inner) (write : Write) (Inside : ℕ → List Value → Type 0)
     (all : AllWalkBack inner write Inside)
-    (field : Field) (shape : Shape) (values : List Item) → field.shape ≡ shape → FitsField Inside field values → IsSoundShape shape
-    → ((default : Item) → field.default ≡ Some default → IsSoundDefault spell shape default) → FieldBack spell inner write field values
+    (field : Field) (shape : Shape) (values : List Value) → field.shape ≡ shape → FitsField Inside field values → IsSoundShape shape
+    → ((default : Value) → field.default ≡ Some default → IsSoundDefault spell shape default) → FieldBack spell inner write field values
 field_back spell reads inner write Inside all field (forms.One form) values shape fits sound defaults =
     ⊎_elim
     (λ out. one_left_out spell reads inner write field form out.0 values shape out.1 out.2 sound (defaults out.0 out.1))
@@ -239,16 +238,16 @@ get_at Less before here same = absurd (false≢true same)
 get_at Equal before here same = refl
 get_at Greater before here same = absurd (false≢true same)
 
-get_other : (name other : List ℕ) (value : Option Data) (entries : Members) → bytes_eq other name ≡ false
-    → get_member name (with_member other value entries) ≡ get_member name entries
+get_other : (name other : List ℕ) (node : Option Data) (entries : Members) → bytes_eq other name ≡ false
+    → get_member name (with_member other node entries) ≡ get_member name entries
 get_other name other None entries differ = refl
-get_other name other (Some value) entries differ =
-    get_by (slice_cmp nat_cmp name other) (get_member name entries) (Some value) (is_eq-slice_cmp name other ∙ other_way other name differ)
+get_other name other (Some node) entries differ =
+    get_by (slice_cmp nat_cmp name other) (get_member name entries) (Some node) (is_eq-slice_cmp name other ∙ other_way other name differ)
 
-get_here : (name : List ℕ) (value : Option Data) (entries : Members) → get_member name entries ≡ None → get_member name (with_member name value entries) ≡ value
+get_here : (name : List ℕ) (node : Option Data) (entries : Members) → get_member name entries ≡ None → get_member name (with_member name node entries) ≡ node
 get_here name None entries none = none
-get_here name (Some value) entries none =
-    get_at (slice_cmp nat_cmp name name) (get_member name entries) (Some value) (is_eq-slice_cmp name name ∙ same_bytes name)
+get_here name (Some node) entries none =
+    get_at (slice_cmp nat_cmp name name) (get_member name entries) (Some node) (is_eq-slice_cmp name name ∙ same_bytes name)
 
 -- a known name isn't an unknown one
 differs_from : (fields : List Field) (name known : List ℕ) → is_known fields name ≡ false → is_known fields known ≡ true → bytes_eq name known ≡ false
@@ -261,7 +260,7 @@ differs_from fields name known unknown is =
     (cases_Bool (bytes_eq name known))
 
 -- what is kept of the entries that are written for keys
-abbrev MembersOf : Spelling → Inner → Write → List Field → List Item → List Item → Type 0
+abbrev MembersOf : Spelling → Inner → Write → List Field → List Value → List Value → Type 0
 MembersOf spell inner write fields values more = (entries : Members) × (fields_written spell write fields (values ++ more) ≡ (entries, more))
     × ((name : List ℕ) → is_known fields name ≡ false → get_member name entries ≡ None)
     × ((every : List Field) → ((name : List ℕ) → is_known fields name ≡ true → is_known every name ≡ true) → least_unknown every entries ≡ None)
@@ -269,38 +268,38 @@ MembersOf spell inner write fields values more = (entries : Members) × (fields_
     → ((name : List ℕ) → is_known fields name ≡ true → get_member name whole ≡ get_member name entries)
     → (next : List ℕ) × (at_fields inner place number fields whole positions ≡ Ok (values, next)))
 
-none_unknown-with : (every : List Field) (name : List ℕ) (value : Option Data) (entries : Members) → is_known every name ≡ true
-    → least_unknown every entries ≡ None → least_unknown every (with_member name value entries) ≡ None
+none_unknown-with : (every : List Field) (name : List ℕ) (node : Option Data) (entries : Members) → is_known every name ≡ true
+    → least_unknown every entries ≡ None → least_unknown every (with_member name node entries) ≡ None
 none_unknown-with every name None entries known others = others
-none_unknown-with every name (Some value) entries known others = rw (known, others) refl
+none_unknown-with every name (Some node) entries known others = rw (known, others) refl
 
-fields_back : (spell : Spelling) (reads : IsReadBack spell) (inner : Inner) (write : Write) (Inside : ℕ → List Item → Type 0)
+fields_back : (spell : Spelling) (reads : IsReadBack spell) (inner : Inner) (write : Write) (Inside : ℕ → List Value → Type 0)
     (all : AllWalkBack inner write Inside)
-    (fields : List Field) (values : List Item) → FitsFields Inside fields values → AreSoundFields spell fields → names_differ fields ≡ true → (more : List Item)
-    → MembersOf spell inner write fields values more
+    (fields : List Field) (values : List Value) → FitsFields Inside fields values → AreSoundFields spell fields → names_differ fields ≡ true
+    → (more : List Value) → MembersOf spell inner write fields values more
 unfolding at_fields
 fields_back spell reads inner write Inside all [] values is sound differ more =
     (no_members, rw is refl, λ name unknown. refl, λ every known. refl, λ place number whole positions agree. (positions, rw is refl))
 fields_back spell reads inner write Inside all (field ∷ fields) values (part, others, is, fits, fit) (shape, defaults, sound) differ more =
     let (alone, differs) = and_parts (not (is_known fields field.name)) (names_differ fields) differ in
     let away : is_known fields field.name ≡ false = not_true _ alone in
-    let (value, written, walks) = field_back spell reads inner write Inside all field field.shape part refl fits shape defaults (others ++ more) in
+    let (node, written, walks) = field_back spell reads inner write Inside all field field.shape part refl fits shape defaults (others ++ more) in
     let (entries, writes, only, known, walk) = fields_back spell reads inner write Inside all fields others fit sound differs more in
     let all_of : values ++ more ≡ part ++ (others ++ more) = behind values part others more is in (
-      with_member field.name value entries,
+      with_member field.name node entries,
       rw (all_of, written, writes) refl,
       λ name unknown.
           let (here, there) = or_parts (bytes_eq field.name name) (is_known fields name) unknown in
-          get_other name field.name value entries here ∙ only name there,
+          get_other name field.name node entries here ∙ only name there,
       λ every is_in.
-          none_unknown-with every field.name value entries (is_in field.name (or_left _ _ (same_bytes field.name)))
+          none_unknown-with every field.name node entries (is_in field.name (or_left _ _ (same_bytes field.name)))
           (known every (λ name there. is_in name (or_right (bytes_eq field.name name) (is_known fields name) there))),
       λ place number whole positions agree.
-          let found : get_member field.name whole ≡ value =
-          agree field.name (or_left _ _ (same_bytes field.name)) ∙ get_here field.name value entries (only field.name away) in
+          let found : get_member field.name whole ≡ node =
+          agree field.name (or_left _ _ (same_bytes field.name)) ∙ get_here field.name node entries (only field.name away) in
           let (next, here) = walks (key_at place number) positions in
           let (last, there) = walk place (number + 1) whole next (λ name there.
-          agree name (or_right (bytes_eq field.name name) (is_known fields name) there) ∙ get_other name field.name value entries
+          agree name (or_right (bytes_eq field.name name) (is_known fields name) there) ∙ get_other name field.name node entries
           (differs_from fields field.name name away there)) in
           (last, rw (found, here, there, is) refl),
     )
@@ -328,12 +327,12 @@ tables_back spell reads schema sound (suc depth) number values fits more =
           (next, rw (known (fields_at schema number) (λ name is. is)) walks),
     )
 
-pub written_walked : (spell : Spelling) (schema : List (List Field)) (values : List Item) → IsReadBack spell → IsSound spell schema → Fits schema values
+pub written_walked : (spell : Spelling) (schema : List (List Field)) (values : List Value) → IsReadBack spell → IsSound spell schema → Fits schema values
     → walked schema (written spell schema values) ≡ Ok values
 written_walked spell schema values reads sound fits =
     let (entries, is, back) = tables_back spell reads schema sound (length schema) 0 values fits [] in
     let (next, walks) = back 0 (replicate (length schema) 0) in
     let made : written spell schema values ≡ entries =
-    ap (λ (vs : List Item). (written_to spell schema (length schema) 0 vs).0) (sym (append-nil values))
-    ∙ ap (λ (p : Members × List Item). p.0) is in
+    ap (λ (vs : List Value). (written_to spell schema (length schema) 0 vs).0) (sym (append-nil values))
+    ∙ ap (λ (p : Members × List Value). p.0) is in
     rw (made, walks) refl

@@ -21,7 +21,7 @@ abbrev pub ◌>>=◌ : {A B : Type 0} → Result A WalkFault → (A → Result B
 (Ok x) >>= f = f x
 (Err fault) >>= f = Err fault
 
--- a value of the wanted kind, or WrongKind
+-- what is of the wanted kind, or WrongKind
 abbrev pub of_kind : {A : Type 0} → KeyPlace → Option A → Result A WalkFault
 of_kind at None = Err (WrongKind at)
 of_kind at (Some x) = Ok x

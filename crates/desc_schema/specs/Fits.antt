@@ -3,58 +3,57 @@ use Rattle.std.specs.Prelude.{◌≡◌, ◌⊎◌, ℕ, zero, suc, ◌<◌, ◌
 use Rattle.std.specs.Int.{w128, from_be_bytes}
 use Rattle.toml.specs.Data.{Members}
 use Rattle.uuid.specs.Text.{parsed}
-use Rattle.desc_schema.specs.declared.item.Item.{Item}
-use Rattle.desc_schema.specs.declared.item.Item.TheVariants as items
+use Rattle.desc_schema.specs.declared.value.Value.{Value}
 use Rattle.desc_schema.specs.Form.{Form, Shape, Field, fields_at}
 use Rattle.desc_schema.specs.Form as forms
 use Rattle.desc_schema.specs.Walk.{walked}
 
 -- a single value is of its kind; a UUID is that of some text
-abbrev pub FitsForm : Form → Item → Type 0
-FitsForm forms.Text item = (text : List ℕ) × (item ≡ items.Text text)
-FitsForm (forms.Number least most) item = (n : ℕ) × (item ≡ items.Number n) × (least ≤ n) × (n ≤ most)
-FitsForm forms.Flag item = (flag : Bool) × (item ≡ items.Flag flag)
-FitsForm forms.Uuid item = (text bytes : List ℕ) × (parsed text ≡ Some bytes) × (item ≡ items.Uuid (from_be_bytes w128 bytes))
-FitsForm (forms.Word words) item = (n : ℕ) × (item ≡ items.Word n) × (n < length words)
+abbrev pub FitsForm : Form → Value → Type 0
+FitsForm forms.Text value = (text : List ℕ) × (value ≡ Value.Text text)
+FitsForm (forms.Number least most) value = (n : ℕ) × (value ≡ Value.Number n) × (least ≤ n) × (n ≤ most)
+FitsForm forms.Flag value = (flag : Bool) × (value ≡ Value.Flag flag)
+FitsForm forms.Uuid value = (text bytes : List ℕ) × (parsed text ≡ Some bytes) × (value ≡ Value.Uuid (from_be_bytes w128 bytes))
+FitsForm (forms.Word words) value = (n : ℕ) × (value ≡ Value.Word n) × (n < length words)
 
 -- the values are one, of its kind
-abbrev pub IsOne : Form → List Item → Type 0
-IsOne form values = (item : Item) × (values ≡ item ∷ []) × FitsForm form item
+abbrev pub IsOne : Form → List Value → Type 0
+IsOne form values = (value : Value) × (values ≡ value ∷ []) × FitsForm form value
 
 -- the values are so many parts, one after the other, and each part is as it should be
-abbrev pub AreParts : (List Item → Type 0) → ℕ → List Item → Type 0
+abbrev pub AreParts : (List Value → Type 0) → ℕ → List Value → Type 0
 AreParts IsPart zero values = values ≡ []
-AreParts IsPart (suc n) values = (part : List Item) × (rest : List Item) × (values ≡ part ++ rest) × IsPart part × AreParts IsPart n rest
+AreParts IsPart (suc n) values = (part : List Value) × (rest : List Value) × (values ≡ part ++ rest) × IsPart part × AreParts IsPart n rest
 
 -- the values are a count, and then those of so many parts
-abbrev pub IsCounted : (List Item → Type 0) → List Item → Type 0
-IsCounted IsPart values = (n : ℕ) × (rest : List Item) × (values ≡ items.Count n ∷ rest) × AreParts IsPart n rest
+abbrev pub IsCounted : (List Value → Type 0) → List Value → Type 0
+IsCounted IsPart values = (n : ℕ) × (rest : List Value) × (values ≡ Value.Count n ∷ rest) × AreParts IsPart n rest
 
 -- the values are those of a kind; `Inside` says which are those of the table of a number
-abbrev pub FitsShape : (ℕ → List Item → Type 0) → Shape → List Item → Type 0
+abbrev pub FitsShape : (ℕ → List Value → Type 0) → Shape → List Value → Type 0
 FitsShape Inside (forms.One form) values = IsOne form values
-FitsShape Inside (forms.Table table) values = (rest : List Item) × (values ≡ items.Count 1 ∷ rest) × Inside table rest
+FitsShape Inside (forms.Table table) values = (rest : List Value) × (values ≡ Value.Count 1 ∷ rest) × Inside table rest
 FitsShape Inside (forms.Tables table) values = IsCounted (Inside table) values
 FitsShape Inside (forms.Values form) values = IsCounted (IsOne form) values
 
 -- the values at a key: what stands where it is left out, or those of its kind
-abbrev pub FitsField : (ℕ → List Item → Type 0) → Field → List Item → Type 0
-FitsField Inside field values = ((default : Item) × (field.default ≡ Some default) × (values ≡ default ∷ [])) ⊎ FitsShape Inside field.shape values
+abbrev pub FitsField : (ℕ → List Value → Type 0) → Field → List Value → Type 0
+FitsField Inside field values = ((default : Value) × (field.default ≡ Some default) × (values ≡ default ∷ [])) ⊎ FitsShape Inside field.shape values
 
 -- the values at the keys of a table, in their order
-abbrev pub FitsFields : (ℕ → List Item → Type 0) → List Field → List Item → Type 0
+abbrev pub FitsFields : (ℕ → List Value → Type 0) → List Field → List Value → Type 0
 FitsFields Inside [] values = values ≡ []
 FitsFields Inside (field ∷ fields) values =
-    (part : List Item) × (rest : List Item) × (values ≡ part ++ rest) × FitsField Inside field part × FitsFields Inside fields rest
+    (part : List Value) × (rest : List Value) × (values ≡ part ++ rest) × FitsField Inside field part × FitsFields Inside fields rest
 
 -- the values of the table of a number, whose tables inside one another are no more than a depth
-abbrev pub FitsTable : List (List Field) → ℕ → ℕ → List Item → Type 0
+abbrev pub FitsTable : List (List Field) → ℕ → ℕ → List Value → Type 0
 FitsTable schema zero table values = values ≡ []
 FitsTable schema (suc depth) table values = FitsFields (FitsTable schema depth) (fields_at schema table) values
 
-abbrev pub Fits : List (List Field) → List Item → Type 0
+abbrev pub Fits : List (List Field) → List Value → Type 0
 Fits schema values = FitsTable schema (length schema) 0 values
 
 -- the values that a walk gives fit the schema
 abbrev pub WalkedValuesFit : Type 0
-WalkedValuesFit = (schema : List (List Field)) (root : Members) (values : List Item) → walked schema root ≡ Ok values → Fits schema values
+WalkedValuesFit = (schema : List (List Field)) (root : Members) (values : List Value) → walked schema root ≡ Ok values → Fits schema values

@@ -9,8 +9,7 @@ use Rattle.desc_schema.specs.declared.schema.Scalar.{Scalar}
 use Rattle.desc_schema.specs.declared.schema.Scalar.TheVariants as scalars
 use Rattle.desc_schema.specs.declared.schema.Otherwise.{Otherwise}
 use Rattle.desc_schema.specs.declared.schema.Otherwise.TheVariants as others
-use Rattle.desc_schema.specs.declared.item.Item.{Item}
-use Rattle.desc_schema.specs.declared.item.Item.TheVariants as items
+use Rattle.desc_schema.specs.declared.value.Value.{Value}
 
 -- what a single value is to be: a text, an integer from the least to the most, a boolean, the text of a UUID, one of these words
 pub data Form : Type 0 where
@@ -31,7 +30,7 @@ pub data Shape : Type 0 where
 pub record Field : Type 0 where
   pub name : List ℕ
   pub shape : Shape
-  pub default : Option Item
+  pub default : Option Value
 
 -- what the code's schema says, without where its texts lie in memory
 
@@ -51,14 +50,14 @@ shape_of (kinds.Table table) = Table table
 shape_of (kinds.Tables table) = Tables table
 shape_of (kinds.Values scalar) = Values (form_of scalar)
 
-abbrev pub default_of : Otherwise → Option Item
+abbrev pub default_of : Otherwise → Option Value
 default_of others.Required = None
-default_of (others.Text text) = Some (items.Text text.now)
-default_of (others.Number n) = Some (items.Number n)
-default_of (others.Flag flag) = Some (items.Flag flag)
-default_of (others.Word n) = Some (items.Word n)
-default_of others.Nothing = Some items.Nothing
-default_of others.Empty = Some (items.Count 0)
+default_of (others.Text text) = Some (Value.Text text.now)
+default_of (others.Number n) = Some (Value.Number n)
+default_of (others.Flag flag) = Some (Value.Flag flag)
+default_of (others.Word n) = Some (Value.Word n)
+default_of others.Nothing = Some Value.Nothing
+default_of others.Empty = Some (Value.Count 0)
 
 abbrev pub field_of : Key → Field
 field_of key = record { name = key.name.now; shape = shape_of key.kind; default = default_of key.otherwise }

@@ -4,8 +4,7 @@ use Rattle.std.specs.Int.{w128, from_be_bytes}
 use Rattle.std.specs.Str.{bytes_eq}
 use Rattle.toml.specs.Data.{Data, as_str, as_integer, as_bool}
 use Rattle.uuid.specs.Text.{parsed}
-use Rattle.desc_schema.specs.declared.item.Item.{Item}
-use Rattle.desc_schema.specs.declared.item.Item.TheVariants as items
+use Rattle.desc_schema.specs.declared.value.Value.{Value}
 use Rattle.desc_schema.specs.declared.fault.KeyPlace.{KeyPlace}
 use Rattle.desc_schema.specs.declared.fault.WalkFault.{WalkFault}
 use Rattle.desc_schema.specs.declared.fault.WalkFault.TheVariants.{MissingKey, OutOfRange}
@@ -14,31 +13,31 @@ use Rattle.desc_schema.specs.Form as forms
 use Rattle.desc_schema.specs.Faults.{◌>>=◌, of_kind}
 
 -- an integer (TOML 1.1, "Integer") from the least to the most
-abbrev pub number_of : KeyPlace → ℕ → ℕ → ℤ → Result Item WalkFault
-number_of at least most (pos n) = if nat_le least n && nat_le n most then Ok (items.Number n) else Err (OutOfRange at)
+abbrev pub number_of : KeyPlace → ℕ → ℕ → ℤ → Result Value WalkFault
+number_of at least most (pos n) = if nat_le least n && nat_le n most then Ok (Value.Number n) else Err (OutOfRange at)
 number_of at least most (negsuc n) = Err (OutOfRange at)
 
 -- the 16 bytes of a text's UUID (RFC 9562, section 4) as one number, the first byte the highest
-abbrev pub uuid_from : KeyPlace → Option (List ℕ) → Result Item WalkFault
+abbrev pub uuid_from : KeyPlace → Option (List ℕ) → Result Value WalkFault
 uuid_from at None = Err (OutOfRange at)
-uuid_from at (Some bytes) = Ok (items.Uuid (from_be_bytes w128 bytes))
+uuid_from at (Some bytes) = Ok (Value.Uuid (from_be_bytes w128 bytes))
 
-abbrev pub uuid_of : KeyPlace → List ℕ → Result Item WalkFault
+abbrev pub uuid_of : KeyPlace → List ℕ → Result Value WalkFault
 uuid_of at text = uuid_from at (parsed text)
 
 -- the place of the first word that is the text, where the words count from a number
-unfoldable pub word_from : KeyPlace → ℕ → List (List ℕ) → List ℕ → Result Item WalkFault
+unfoldable pub word_from : KeyPlace → ℕ → List (List ℕ) → List ℕ → Result Value WalkFault
 word_from at n [] text = Err (OutOfRange at)
-word_from at n (word ∷ words) text = if bytes_eq word text then Ok (items.Word n) else word_from at (n + 1) words text
+word_from at n (word ∷ words) text = if bytes_eq word text then Ok (Value.Word n) else word_from at (n + 1) words text
 
-abbrev pub item_of : KeyPlace → Form → Data → Result Item WalkFault
-item_of at forms.Text value = of_kind at (as_str value) >>= λ text. Ok (items.Text text)
-item_of at (forms.Number least most) value = of_kind at (as_integer value) >>= number_of at least most
-item_of at forms.Flag value = of_kind at (as_bool value) >>= λ flag. Ok (items.Flag flag)
-item_of at forms.Uuid value = of_kind at (as_str value) >>= uuid_of at
-item_of at (forms.Word words) value = of_kind at (as_str value) >>= word_from at 0 words
+abbrev pub value_of : KeyPlace → Form → Data → Result Value WalkFault
+value_of at forms.Text node = of_kind at (as_str node) >>= λ text. Ok (Value.Text text)
+value_of at (forms.Number least most) node = of_kind at (as_integer node) >>= number_of at least most
+value_of at forms.Flag node = of_kind at (as_bool node) >>= λ flag. Ok (Value.Flag flag)
+value_of at forms.Uuid node = of_kind at (as_str node) >>= uuid_of at
+value_of at (forms.Word words) node = of_kind at (as_str node) >>= word_from at 0 words
 
 -- what stands for a key that is left out
-abbrev pub otherwise_of : KeyPlace → Option Item → Result Item WalkFault
+abbrev pub otherwise_of : KeyPlace → Option Value → Result Value WalkFault
 otherwise_of at None = Err (MissingKey at)
 otherwise_of at (Some default) = Ok default

@@ -6,8 +6,7 @@ use Rattle.std.specs.List.{list_any}
 use Rattle.std.specs.Ordering.{nat_cmp, is_le}
 use Rattle.std.specs.Str.{bytes_eq}
 use Rattle.toml.specs.Data.{Data, Members, no_members, member, Items, no_items, item, get_member, as_table, as_array}
-use Rattle.desc_schema.specs.declared.item.Item.{Item}
-use Rattle.desc_schema.specs.declared.item.Item.TheVariants as items
+use Rattle.desc_schema.specs.declared.value.Value.{Value}
 use Rattle.desc_schema.specs.declared.fault.Place.{Place}
 use Rattle.desc_schema.specs.declared.fault.KeyPlace.{KeyPlace}
 use Rattle.desc_schema.specs.declared.fault.WalkFault.{WalkFault}
@@ -15,7 +14,7 @@ use Rattle.desc_schema.specs.declared.fault.WalkFault.TheVariants.{UnknownKey}
 use Rattle.desc_schema.specs.Form.{Form, Shape, Field, fields_at}
 use Rattle.desc_schema.specs.Form as forms
 use Rattle.desc_schema.specs.Faults.{◌>>=◌, key_at, alone, of_kind}
-use Rattle.desc_schema.specs.Single.{item_of, otherwise_of}
+use Rattle.desc_schema.specs.Single.{value_of, otherwise_of}
 
 -- Positions: for each number of a table, how many elements of its arrays were met before. So a position counts through all the
 -- tables that hold such arrays, in their order. It stays at the last value of a u32.
@@ -31,7 +30,7 @@ advanced table positions = slice_set positions table (next_position (position ta
 
 -- The values of a part of the document, and the positions after it; or the first fault. It goes by the positions before it.
 abbrev pub Part : Type 0
-Part = Result (List Item × List ℕ) WalkFault
+Part = Result (List Value × List ℕ) WalkFault
 
 abbrev pub Walk : Type 0
 Walk = List ℕ → Part
@@ -41,7 +40,7 @@ abbrev pub Inner : Type 0
 Inner = Place → Members → Walk
 
 -- values, and those that are given after them
-abbrev pub after : List Item → Part → Part
+abbrev pub after : List Value → Part → Part
 after front given = given >>= λ part. Ok (front ++ part.0, part.1)
 
 -- two parts, one after the other
@@ -49,42 +48,42 @@ abbrev pub joined : Part → Walk → Part
 joined given others = given >>= λ part. after part.0 (others part.1)
 
 -- one value alone
-abbrev pub one : Result Item WalkFault → Walk
+abbrev pub one : Result Value WalkFault → Walk
 one given positions = given >>= λ found. Ok (found ∷ [], positions)
 
--- how many values an array has
+-- how many nodes an array has
 abbrev pub count_of : Items → ℕ
 count_of no_items = 0
-count_of (item value values) = suc (count_of values)
+count_of (item node nodes) = suc (count_of nodes)
 
 -- an element of an array of tables
 abbrev pub element : Inner → KeyPlace → ℕ → Data → Walk
-element inner at table value positions =
-    of_kind at (as_table value) >>= λ inside. inner (record { table = table; index = position table positions }) inside (advanced table positions)
+element inner at table node positions =
+    of_kind at (as_table node) >>= λ inside. inner (record { table = table; index = position table positions }) inside (advanced table positions)
 
 -- the elements of an array of tables: each one is tested and walked whole before the next
 unfoldable pub elements : Inner → KeyPlace → ℕ → Items → Walk
 elements inner at table no_items positions = Ok ([], positions)
-elements inner at table (item value values) positions = joined (element inner at table value positions) (elements inner at table values)
+elements inner at table (item node nodes) positions = joined (element inner at table node positions) (elements inner at table nodes)
 
 -- the values of an array of single values
 unfoldable pub singles : KeyPlace → Form → Items → Walk
 singles at form no_items positions = Ok ([], positions)
-singles at form (item value values) positions = joined (one (item_of at form value) positions) (singles at form values)
+singles at form (item node nodes) positions = joined (one (value_of at form node) positions) (singles at form nodes)
 
 -- what stands at a key: of a table and of an array first how many there are, a table being one
 abbrev pub shaped : Inner → KeyPlace → Shape → Data → Walk
-shaped inner at (forms.One form) value positions = one (item_of at form value) positions
-shaped inner at (forms.Table table) value positions =
-    of_kind at (as_table value) >>= λ inside. after (items.Count 1 ∷ []) (inner (alone table) inside positions)
-shaped inner at (forms.Tables table) value positions =
-    of_kind at (as_array value) >>= λ values. after (items.Count (count_of values) ∷ []) (elements inner at table values positions)
-shaped inner at (forms.Values form) value positions =
-    of_kind at (as_array value) >>= λ values. after (items.Count (count_of values) ∷ []) (singles at form values positions)
+shaped inner at (forms.One form) node positions = one (value_of at form node) positions
+shaped inner at (forms.Table table) node positions =
+    of_kind at (as_table node) >>= λ inside. after (Value.Count 1 ∷ []) (inner (alone table) inside positions)
+shaped inner at (forms.Tables table) node positions =
+    of_kind at (as_array node) >>= λ nodes. after (Value.Count (count_of nodes) ∷ []) (elements inner at table nodes positions)
+shaped inner at (forms.Values form) node positions =
+    of_kind at (as_array node) >>= λ nodes. after (Value.Count (count_of nodes) ∷ []) (singles at form nodes positions)
 
 abbrev pub found_or : Inner → KeyPlace → Field → Option Data → Walk
 found_or inner at field None positions = one (otherwise_of at field.default) positions
-found_or inner at field (Some value) positions = shaped inner at field.shape value positions
+found_or inner at field (Some node) positions = shaped inner at field.shape node positions
 
 -- the values at a key of a table
 abbrev pub at_field : Inner → KeyPlace → Field → Members → Walk
@@ -107,7 +106,7 @@ lesser name (Some other) = if is_le (slice_cmp nat_cmp name other) then name els
 -- the least key of the table that isn't the schema's, if there is one
 abbrev pub least_unknown : List Field → Members → Option (List ℕ)
 least_unknown fields no_members = None
-least_unknown fields (member name value others) =
+least_unknown fields (member name node others) =
     if is_known fields name then least_unknown fields others else Some (lesser name (least_unknown fields others))
 
 abbrev pub known_or : Place → Option (List ℕ) → Result (Unit {0}) WalkFault
@@ -121,12 +120,12 @@ all_known place fields table = known_or place (least_unknown fields table)
 -- each key of the table that isn't the schema's is this one, or comes after it by its bytes
 abbrev pub IsAtMost : List Field → List ℕ → Members → Type 0
 IsAtMost fields name no_members = Unit {0}
-IsAtMost fields name (member other value others) = (is_known fields other ≡ false → is_le (slice_cmp nat_cmp name other) ≡ true) × IsAtMost fields name others
+IsAtMost fields name (member other node others) = (is_known fields other ≡ false → is_le (slice_cmp nat_cmp name other) ≡ true) × IsAtMost fields name others
 
 -- this key is one of the table's
 abbrev pub IsKey : List ℕ → Members → Type 0
 IsKey name no_members = ⊥
-IsKey name (member other value others) = (name ≡ other) ⊎ IsKey name others
+IsKey name (member other node others) = (name ≡ other) ⊎ IsKey name others
 
 -- this key is the least of the table's that aren't the schema's
 abbrev pub IsLeastUnknown : List Field → List ℕ → Members → Type 0
@@ -141,5 +140,5 @@ table_walked schema (suc depth) place table positions =
 
 -- The walk of a document: its root is table 0. Where no table stands inside itself, no more tables are inside one another than the
 -- schema has.
-abbrev pub walked : List (List Field) → Members → Result (List Item) WalkFault
+abbrev pub walked : List (List Field) → Members → Result (List Value) WalkFault
 walked schema root = table_walked schema (length schema) (alone 0) root (replicate (length schema) 0) >>= λ part. Ok part.0

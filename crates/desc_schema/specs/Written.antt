@@ -6,8 +6,7 @@ use Rattle.std.specs.List.{list_any}
 use Rattle.std.specs.Str.{bytes_eq}
 use Rattle.toml.specs.Data.{Data, string, integer, boolean, array, table, Items, no_items, item, Members, no_members, member}
 use Rattle.uuid.specs.Text.{parsed, lower, hyphenated_text}
-use Rattle.desc_schema.specs.declared.item.Item.{Item}
-use Rattle.desc_schema.specs.declared.item.Item.TheVariants as items
+use Rattle.desc_schema.specs.declared.value.Value.{Value}
 use Rattle.desc_schema.specs.Form.{Form, Shape, Field, fields_at}
 use Rattle.desc_schema.specs.Form as forms
 use Rattle.desc_schema.specs.Taken.{first, rest}
@@ -28,31 +27,31 @@ abbrev pub hyphenated : Spelling
 hyphenated n = hyphenated_text lower (to_be_bytes w128 n)
 
 -- the word at a place
-abbrev pub word_data : ℕ → List (List ℕ) → Option Data
-word_data n [] = None
-word_data zero (word ∷ words) = Some (string word)
-word_data (suc n) (word ∷ words) = word_data n words
+abbrev pub word_node : ℕ → List (List ℕ) → Option Data
+word_node n [] = None
+word_node zero (word ∷ words) = Some (string word)
+word_node (suc n) (word ∷ words) = word_node n words
 
 -- what is written for a single value; nothing for one of another kind, which stands where its key is left out
-abbrev pub data_of : Spelling → Form → Item → Option Data
-data_of spell forms.Text (items.Text text) = Some (string text)
-data_of spell (forms.Number least most) (items.Number n) = if nat_le least n && nat_le n most then Some (integer (pos n)) else None
-data_of spell forms.Flag (items.Flag flag) = Some (boolean flag)
-data_of spell forms.Uuid (items.Uuid n) = Some (string (spell n))
-data_of spell (forms.Word words) (items.Word n) = word_data n words
-data_of spell _ _ = None
+abbrev pub node_of : Spelling → Form → Value → Option Data
+node_of spell forms.Text (Value.Text text) = Some (string text)
+node_of spell (forms.Number least most) (Value.Number n) = if nat_le least n && nat_le n most then Some (integer (pos n)) else None
+node_of spell forms.Flag (Value.Flag flag) = Some (boolean flag)
+node_of spell forms.Uuid (Value.Uuid n) = Some (string (spell n))
+node_of spell (forms.Word words) (Value.Word n) = word_node n words
+node_of spell _ _ = None
 
--- what is written for a value of an array
+-- what is written for a single value of an array
 abbrev pub single_or_empty : Option Data → Data
 single_or_empty None = string []
-single_or_empty (Some value) = value
+single_or_empty (Some node) = node
 
 -- How the table of a number is written, and the values that are left.
 abbrev pub Write : Type 0
-Write = ℕ → List Item → Members × List Item
+Write = ℕ → List Value → Members × List Value
 
 -- so many tables of an array, and the values that are left
-abbrev pub tables_written : Write → ℕ → ℕ → List Item → Items × List Item
+abbrev pub tables_written : Write → ℕ → ℕ → List Value → Items × List Value
 tables_written write number zero values = (no_items, values)
 tables_written write number (suc n) values =
     let one = write number values in
@@ -60,34 +59,34 @@ tables_written write number (suc n) values =
     (item (table one.0) others.0, others.1)
 
 -- so many single values of an array, and the values that are left
-abbrev pub singles_written : Spelling → Form → ℕ → List Item → Items × List Item
+abbrev pub singles_written : Spelling → Form → ℕ → List Value → Items × List Value
 singles_written spell form zero values = (no_items, values)
 singles_written spell form (suc n) values =
     let others = singles_written spell form n (rest values) in
-    (item (single_or_empty (data_of spell form (first values))) others.0, others.1)
+    (item (single_or_empty (node_of spell form (first values))) others.0, others.1)
 
 -- an array of so many parts; nothing where there is no count
-abbrev pub array_written : (ℕ → List Item → Items × List Item) → Item → List Item → Option Data × List Item
-array_written parts (items.Count n) left = let made = parts n left in (Some (array made.0), made.1)
+abbrev pub array_written : (ℕ → List Value → Items × List Value) → Value → List Value → Option Data × List Value
+array_written parts (Value.Count n) left = let made = parts n left in (Some (array made.0), made.1)
 array_written parts other left = (None, left)
 
 -- a table, where there is one
-abbrev pub table_written : (List Item → Members × List Item) → Item → List Item → Option Data × List Item
-table_written inner (items.Count (suc n)) left = let made = inner left in (Some (table made.0), made.1)
+abbrev pub table_written : (List Value → Members × List Value) → Value → List Value → Option Data × List Value
+table_written inner (Value.Count (suc n)) left = let made = inner left in (Some (table made.0), made.1)
 table_written inner other left = (None, left)
 
 -- what is written at a key, if it isn't left out, and the values that are left
-abbrev pub shape_written : Spelling → Write → Shape → List Item → Option Data × List Item
-shape_written spell write (forms.One form) values = (data_of spell form (first values), rest values)
+abbrev pub shape_written : Spelling → Write → Shape → List Value → Option Data × List Value
+shape_written spell write (forms.One form) values = (node_of spell form (first values), rest values)
 shape_written spell write (forms.Table number) values = table_written (write number) (first values) (rest values)
 shape_written spell write (forms.Tables number) values = array_written (tables_written write number) (first values) (rest values)
 shape_written spell write (forms.Values form) values = array_written (singles_written spell form) (first values) (rest values)
 
 abbrev pub with_member : List ℕ → Option Data → Members → Members
 with_member name None members = members
-with_member name (Some value) members = member name value members
+with_member name (Some node) members = member name node members
 
-abbrev pub fields_written : Spelling → Write → List Field → List Item → Members × List Item
+abbrev pub fields_written : Spelling → Write → List Field → List Value → Members × List Value
 fields_written spell write [] values = (no_members, values)
 fields_written spell write (field ∷ fields) values =
     let here = shape_written spell write field.shape values in
@@ -100,7 +99,7 @@ written_to spell schema zero number values = (no_members, values)
 written_to spell schema (suc depth) number values = fields_written spell (written_to spell schema depth) (fields_at schema number) values
 
 -- the document that is written of values; a key stands in it unless it is left out, in the schema's order
-abbrev pub written : Spelling → List (List Field) → List Item → Members
+abbrev pub written : Spelling → List (List Field) → List Value → Members
 written spell schema values = (written_to spell schema (length schema) 0 values).0
 
 -- A schema from whose values a document can be written: in each table the names differ, in each key the words differ, and what stands
@@ -118,9 +117,9 @@ abbrev pub IsSoundForm : Form → Type 0
 IsSoundForm (forms.Word words) = words_differ words ≡ true
 IsSoundForm form = Unit {0}
 
-abbrev pub IsSoundDefault : Spelling → Shape → Item → Type 0
-IsSoundDefault spell (forms.One form) default = FitsForm form default ⊎ (data_of spell form default ≡ None)
-IsSoundDefault spell shape default = default ≡ items.Count 0
+abbrev pub IsSoundDefault : Spelling → Shape → Value → Type 0
+IsSoundDefault spell (forms.One form) default = FitsForm form default ⊎ (node_of spell form default ≡ None)
+IsSoundDefault spell shape default = default ≡ Value.Count 0
 
 abbrev pub IsSoundShape : Shape → Type 0
 IsSoundShape (forms.One form) = IsSoundForm form
@@ -130,7 +129,7 @@ IsSoundShape shape = Unit {0}
 abbrev pub AreSoundFields : Spelling → List Field → Type 0
 AreSoundFields spell [] = Unit {0}
 AreSoundFields spell (field ∷ fields) =
-    IsSoundShape field.shape × ((default : Item) → field.default ≡ Some default → IsSoundDefault spell field.shape default) × AreSoundFields spell fields
+    IsSoundShape field.shape × ((default : Value) → field.default ≡ Some default → IsSoundDefault spell field.shape default) × AreSoundFields spell fields
 
 abbrev pub IsSound : Spelling → List (List Field) → Type 0
 IsSound spell [] = Unit {0}
@@ -138,5 +137,5 @@ IsSound spell (fields ∷ schema) = (names_differ fields ≡ true) × AreSoundFi
 
 -- the walk of the document that is written of values gives them again
 abbrev pub WrittenValuesAreWalked : Type 0
-WrittenValuesAreWalked = (spell : Spelling) (schema : List (List Field)) (values : List Item) → IsReadBack spell → IsSound spell schema → Fits schema values
+WrittenValuesAreWalked = (spell : Spelling) (schema : List (List Field)) (values : List Value) → IsReadBack spell → IsSound spell schema → Fits schema values
     → walked schema (written spell schema values) ≡ Ok values

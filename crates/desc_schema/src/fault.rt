@@ -45,7 +45,7 @@ pub enum WalkFault {
     UnknownKey(Place, Text),
     /// A key that must be there is left out.
     MissingKey(KeyPlace),
-    /// The value at a key, or an element of its array, is of another kind than the schema's.
+    /// What stands at a key, or an element of its array, is of another kind than the schema's.
     WrongKind(KeyPlace),
     /// An integer isn't within the key's limits, a text is no UUID, or it is none of the key's words.
     OutOfRange(KeyPlace),

@@ -6,7 +6,7 @@ pub struct TableSchema {
     pub keys: &'static [Key],
 }
 
-/// Describes a key of a table: its name, the kind of its value, and what stands where it is left out.
+/// Describes a key of a table: its name, the kind of what stands there, and what stands for it where it is left out.
 #[derive(Clone, Copy, Debug)]
 pub struct Key {
     /// Gives the key as it stands in a document.

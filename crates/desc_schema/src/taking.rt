@@ -4,18 +4,18 @@
 ghost use Rattle.std.specs.Prelude.{◌≡◌, ◌≤◌, IfSome};
 ghost use Rattle.desc_schema.specs.Taken.{first, rest, text_of, number_to, number_if, flag_of, uuid_if, word_of, count_of};
 
-use crate::item::{Item, Items};
+use crate::value::{Value, Values};
 use std::alloc::Global;
 use vt_outside::Text;
 
-impl Items {
+impl Values {
     /// Takes the first value out as a text. `alloc` is kept by an empty text, which takes no memory.
     pub fn take_text(&mut self, alloc: Global) -> Text
         ensures value { result ≡ text_of (first self.old) }
         ensures rest { self.new ≡ rest self.old }
     {
         match self.take_first() {
-            Item::Text(text) => text,
+            Value::Text(text) => text,
             _ => Text::new(alloc),
         }
     }
@@ -27,7 +27,7 @@ impl Items {
         ensures rest { self.new ≡ rest self.old }
     {
         match self.take_first() {
-            Item::Number(number) if number <= most => number,
+            Value::Number(number) if number <= most => number,
             _ => 0,
         }
     }
@@ -40,7 +40,7 @@ impl Items {
         ensures rest { self.new ≡ rest self.old }
     {
         match self.take_first() {
-            Item::Number(number) if number <= most => Some(number),
+            Value::Number(number) if number <= most => Some(number),
             _ => None,
         }
     }
@@ -51,7 +51,7 @@ impl Items {
         ensures rest { self.new ≡ rest self.old }
     {
         match self.take_first() {
-            Item::Flag(flag) => flag,
+            Value::Flag(flag) => flag,
             _ => false,
         }
     }
@@ -62,7 +62,7 @@ impl Items {
         ensures rest { self.new ≡ rest self.old }
     {
         match self.take_first() {
-            Item::Uuid(uuid) => Some(uuid),
+            Value::Uuid(uuid) => Some(uuid),
             _ => None,
         }
     }
@@ -73,7 +73,7 @@ impl Items {
         ensures rest { self.new ≡ rest self.old }
     {
         match self.take_first() {
-            Item::Word(place) => place,
+            Value::Word(place) => place,
             _ => 0,
         }
     }
@@ -84,7 +84,7 @@ impl Items {
         ensures rest { self.new ≡ rest self.old }
     {
         match self.take_first() {
-            Item::Count(count) => count,
+            Value::Count(count) => count,
             _ => 0,
         }
     }

@@ -5,22 +5,22 @@ ghost use Rattle.toml.specs.Data.{get_member, as_table, as_array};
 ghost use Rattle.toml.specs.View.{view, table_view, items_view};
 ghost use Rattle.desc_schema.specs.Form.{form_of, shape_of, default_of, field_of, fields_of, schema_of, fields_at};
 ghost use Rattle.desc_schema.specs.Faults.{Gives, of_kind};
-ghost use Rattle.desc_schema.specs.Single.{item_of, otherwise_of};
+ghost use Rattle.desc_schema.specs.Single.{value_of, otherwise_of};
 ghost use Rattle.desc_schema.specs.Walk.{after, one, element, elements, singles, shaped, at_field, all_known, table_walked, walked};
 
 use crate::fault::{KeyPlace, Place, WalkError, WalkFault};
-use crate::item::{Item, Items};
 use crate::positions::{first_positions, take_position};
 use crate::schema::{Key, Kind, Otherwise, Scalar, TableSchema};
-use crate::single::{item_of, otherwise_of, text_of};
+use crate::single::{otherwise_of, text_of, value_of};
+use crate::value::{Value, Values};
 use std::alloc::Global;
-use toml::{Table, Value};
+use toml::Table;
 use vt_outside::List;
 
 // How far a walk is: the values so far, and how many elements of each table were met.
 #[derive(Drop)]
 struct Progress {
-    items: Items,
+    values: Values,
     positions: List<u32>,
 }
 
@@ -32,16 +32,16 @@ pub fn walk_document(
     alloc: Global,
     schema: &[TableSchema],
     root: &Table,
-) -> Result<Items, WalkError>
-    ensures { Gives (λ items. items) result (walked (schema_of schema.now) (table_view root.now)) }
+) -> Result<Values, WalkError>
+    ensures { Gives (λ values. values) result (walked (schema_of schema.now) (table_view root.now)) }
 {
     let mut progress = Progress {
-        items: Items::new(alloc),
+        values: Values::new(alloc),
         positions: first_positions(alloc, schema.len())?,
     };
     let place = Place { table: 0, index: 0 };
     push_table(alloc, schema, schema.len(), place, root, &mut progress)?;
-    Ok(progress.items)
+    Ok(progress.values)
 }
 
 // The values of a table.
@@ -54,8 +54,8 @@ fn push_table(
     table: &Table,
     progress: &mut Progress,
 ) -> Result<(), WalkError>
-    ensures { Gives (λ _. (progress.new.items, progress.new.positions)) result
-        (after progress.old.items (table_walked (schema_of schema.now) depth place (table_view table.now) progress.old.positions)) }
+    ensures { Gives (λ _. (progress.new.values, progress.new.positions)) result
+        (after progress.old.values (table_walked (schema_of schema.now) depth place (table_view table.now) progress.old.positions)) }
 {
     if depth == 0 {
         return Ok(());
@@ -83,46 +83,46 @@ fn push_key(
     table: &Table,
     progress: &mut Progress,
 ) -> Result<(), WalkError>
-    ensures { Gives (λ _. (progress.new.items, progress.new.positions)) result
-        (after progress.old.items (at_field (table_walked (schema_of schema.now) depth) at (field_of key) (table_view table.now) progress.old.positions)) }
+    ensures { Gives (λ _. (progress.new.values, progress.new.positions)) result
+        (after progress.old.values (at_field (table_walked (schema_of schema.now) depth) at (field_of key) (table_view table.now) progress.old.positions)) }
 {
-    match value_at(table, key.name) {
-        Some(value) => push_value(alloc, schema, depth, at, key.kind, value, progress),
+    match node_at(table, key.name) {
+        Some(node) => push_node(alloc, schema, depth, at, key.kind, node, progress),
         None => push_default(alloc, at, key.otherwise, progress),
     }
 }
 
-// The values of what stands at a key.
+// The values of the node at a key.
 #[cycle(walking)]
-fn push_value(
+fn push_node(
     alloc: Global,
     schema: &[TableSchema],
     depth: usize,
     at: KeyPlace,
     kind: Kind,
-    value: &Value,
+    node: &toml::Value,
     progress: &mut Progress,
 ) -> Result<(), WalkError>
-    ensures { Gives (λ _. (progress.new.items, progress.new.positions)) result
-        (after progress.old.items (shaped (table_walked (schema_of schema.now) depth) at (shape_of kind) (view value.now) progress.old.positions)) }
+    ensures { Gives (λ _. (progress.new.values, progress.new.positions)) result
+        (after progress.old.values (shaped (table_walked (schema_of schema.now) depth) at (shape_of kind) (view node.now) progress.old.positions)) }
 {
     match kind {
-        Kind::One(scalar) => push_one(alloc, at, scalar, value, progress),
+        Kind::One(scalar) => push_one(alloc, at, scalar, node, progress),
         Kind::Table(table) => {
-            let inside = table_of(at, value)?;
-            progress.items.push(Item::Count(1))?;
+            let inside = table_of(at, node)?;
+            progress.values.push(Value::Count(1))?;
             let place = Place { table, index: 0 };
             push_table(alloc, schema, depth, place, inside, progress)
         }
         Kind::Tables(table) => {
-            let values = values_of(at, value)?;
-            progress.items.push(Item::Count(values.len()))?;
-            push_elements(alloc, schema, depth, at, table, values, progress)
+            let nodes = nodes_of(at, node)?;
+            progress.values.push(Value::Count(nodes.len()))?;
+            push_elements(alloc, schema, depth, at, table, nodes, progress)
         }
         Kind::Values(scalar) => {
-            let values = values_of(at, value)?;
-            progress.items.push(Item::Count(values.len()))?;
-            push_singles(alloc, at, scalar, values, progress)
+            let nodes = nodes_of(at, node)?;
+            progress.values.push(Value::Count(nodes.len()))?;
+            push_singles(alloc, at, scalar, nodes, progress)
         }
     }
 }
@@ -135,15 +135,15 @@ fn push_elements(
     depth: usize,
     at: KeyPlace,
     table: u8,
-    values: &[Value],
+    nodes: &[toml::Value],
     progress: &mut Progress,
 ) -> Result<(), WalkError>
-    ensures { Gives (λ _. (progress.new.items, progress.new.positions)) result
-        (after progress.old.items (elements (table_walked (schema_of schema.now) depth) at table (items_view values.now) progress.old.positions)) }
+    ensures { Gives (λ _. (progress.new.values, progress.new.positions)) result
+        (after progress.old.values (elements (table_walked (schema_of schema.now) depth) at table (items_view nodes.now) progress.old.positions)) }
 {
     let mut index = 0;
-    while index < values.len() {
-        push_element(alloc, schema, depth, at, table, &values[index], progress)?;
+    while index < nodes.len() {
+        push_element(alloc, schema, depth, at, table, &nodes[index], progress)?;
         index += 1;
     }
     Ok(())
@@ -157,13 +157,13 @@ fn push_element(
     depth: usize,
     at: KeyPlace,
     table: u8,
-    value: &Value,
+    node: &toml::Value,
     progress: &mut Progress,
 ) -> Result<(), WalkError>
-    ensures { Gives (λ _. (progress.new.items, progress.new.positions)) result
-        (after progress.old.items (element (table_walked (schema_of schema.now) depth) at table (view value.now) progress.old.positions)) }
+    ensures { Gives (λ _. (progress.new.values, progress.new.positions)) result
+        (after progress.old.values (element (table_walked (schema_of schema.now) depth) at table (view node.now) progress.old.positions)) }
 {
-    let inside = table_of(at, value)?;
+    let inside = table_of(at, node)?;
     let index = take_position(&mut progress.positions, table);
     let place = Place { table, index };
     push_table(alloc, schema, depth, place, inside, progress)
@@ -174,15 +174,15 @@ fn push_singles(
     alloc: Global,
     at: KeyPlace,
     scalar: Scalar,
-    values: &[Value],
+    nodes: &[toml::Value],
     progress: &mut Progress,
 ) -> Result<(), WalkError>
-    ensures { Gives (λ _. (progress.new.items, progress.new.positions)) result
-        (after progress.old.items (singles at (form_of scalar) (items_view values.now) progress.old.positions)) }
+    ensures { Gives (λ _. (progress.new.values, progress.new.positions)) result
+        (after progress.old.values (singles at (form_of scalar) (items_view nodes.now) progress.old.positions)) }
 {
     let mut index = 0;
-    while index < values.len() {
-        push_one(alloc, at, scalar, &values[index], progress)?;
+    while index < nodes.len() {
+        push_one(alloc, at, scalar, &nodes[index], progress)?;
         index += 1;
     }
     Ok(())
@@ -193,14 +193,14 @@ fn push_one(
     alloc: Global,
     at: KeyPlace,
     scalar: Scalar,
-    value: &Value,
+    node: &toml::Value,
     progress: &mut Progress,
 ) -> Result<(), WalkError>
-    ensures { Gives (λ _. (progress.new.items, progress.new.positions)) result
-        (after progress.old.items (one (item_of at (form_of scalar) (view value.now)) progress.old.positions)) }
+    ensures { Gives (λ _. (progress.new.values, progress.new.positions)) result
+        (after progress.old.values (one (value_of at (form_of scalar) (view node.now)) progress.old.positions)) }
 {
-    let item = item_of(alloc, at, scalar, value)?;
-    progress.items.push(item)?;
+    let value = value_of(alloc, at, scalar, node)?;
+    progress.values.push(value)?;
     Ok(())
 }
 
@@ -211,11 +211,11 @@ fn push_default(
     otherwise: Otherwise,
     progress: &mut Progress,
 ) -> Result<(), WalkError>
-    ensures { Gives (λ _. (progress.new.items, progress.new.positions)) result
-        (after progress.old.items (one (otherwise_of at (default_of otherwise)) progress.old.positions)) }
+    ensures { Gives (λ _. (progress.new.values, progress.new.positions)) result
+        (after progress.old.values (one (otherwise_of at (default_of otherwise)) progress.old.positions)) }
 {
-    let item = otherwise_of(alloc, at, otherwise)?;
-    progress.items.push(item)?;
+    let value = otherwise_of(alloc, at, otherwise)?;
+    progress.values.push(value)?;
     Ok(())
 }
 
@@ -229,20 +229,20 @@ fn keys_at(schema: &[TableSchema], table: u8) -> &'static [Key]
     }
 }
 
-fn table_of<'a>(at: KeyPlace, value: &'a Value) -> Result<&'a Table, WalkError>
-    ensures { Gives (λ inside. table_view inside.now) result (of_kind at (as_table (view value.now))) }
+fn table_of<'a>(at: KeyPlace, node: &'a toml::Value) -> Result<&'a Table, WalkError>
+    ensures { Gives (λ inside. table_view inside.now) result (of_kind at (as_table (view node.now))) }
 {
-    match value.as_table() {
+    match node.as_table() {
         Some(inside) => Ok(inside),
         None => Err(WalkError::Fault(WalkFault::WrongKind(at))),
     }
 }
 
-fn values_of<'a>(at: KeyPlace, value: &'a Value) -> Result<&'a [Value], WalkError>
-    ensures { Gives (λ values. items_view values.now) result (of_kind at (as_array (view value.now))) }
+fn nodes_of<'a>(at: KeyPlace, node: &'a toml::Value) -> Result<&'a [toml::Value], WalkError>
+    ensures { Gives (λ nodes. items_view nodes.now) result (of_kind at (as_array (view node.now))) }
 {
-    match value.as_array() {
-        Some(values) => Ok(values.as_slice()),
+    match node.as_array() {
+        Some(nodes) => Ok(nodes.as_slice()),
         None => Err(WalkError::Fault(WalkFault::WrongKind(at))),
     }
 }
@@ -266,8 +266,8 @@ fn is_named(keys: &[Key], name: &str) -> bool
     keys.iter().any(|key| *key.name == *name)
 }
 
-fn value_at<'a>(table: &'a Table, key: &str) -> Option<&'a Value>
-    ensures { option_map (λ value. view value.now) result ≡ get_member key.now (table_view table.now) }
+fn node_at<'a>(table: &'a Table, key: &str) -> Option<&'a toml::Value>
+    ensures { option_map (λ node. view node.now) result ≡ get_member key.now (table_view table.now) }
 {
     table.get(key)
 }

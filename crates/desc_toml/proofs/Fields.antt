@@ -5,11 +5,10 @@ use Rattle.std.specs.Prelude.{IfSome}
 use Rattle.std.specs.List.{list_all, AllByRecursion}
 use Rattle.std.specs.Option.{option_map_or}
 use Rattle.std.proofs.lemmas.Bool.{and_parts, leb-true}
-use Rattle.desc_schema.specs.declared.item.Item.{Item}
-use Rattle.desc_schema.specs.declared.item.Item.TheVariants as items
+use Rattle.desc_schema.specs.declared.value.Value.{Value}
 use Rattle.desc_schema.specs.Form.{Form, Shape, Field, fields_at}
 use Rattle.desc_schema.specs.Form as forms
-use Rattle.desc_schema.specs.Taken.{first, rest, skip, item_at, number_to, uuid_if, count_of}
+use Rattle.desc_schema.specs.Taken.{first, rest, skip, value_at, number_to, uuid_if, count_of}
 use Rattle.desc_schema.specs.Fits.{FitsForm, IsOne, AreParts, FitsShape, FitsField, FitsFields, FitsTable, Fits}
 use Rattle.desc_schema.proofs.Fitting.{walked_fit}
 use Rattle.desc_schema.proofs.UuidText.{small_parsed}
@@ -22,21 +21,21 @@ use Rattle.desc_toml.specs.Reading.{Reads}
 use Rattle.desc_toml.proofs.Says.{values_walked}
 
 -- a UUID has 128 bits
-abbrev IsFittingItem : Item → Type 0
-IsFittingItem (items.Uuid n) = n < 2 ^ 128
-IsFittingItem item = Unit {0}
+abbrev IsFittingValue : Value → Type 0
+IsFittingValue (Value.Uuid n) = n < 2 ^ 128
+IsFittingValue value = Unit {0}
 
-abbrev AreFitting : List Item → Type 0
-AreFitting values = AllByRecursion IsFittingItem values
+abbrev AreFitting : List Value → Type 0
+AreFitting values = AllByRecursion IsFittingValue values
 
-fitting_append : (values more : List Item) → AreFitting values → AreFitting more → AreFitting (values ++ more)
+fitting_append : (values more : List Value) → AreFitting values → AreFitting more → AreFitting (values ++ more)
 fitting_append [] more fit others = others
-fitting_append (item ∷ values) more fit others = (fit.0, fitting_append values more fit.1 others)
+fitting_append (value ∷ values) more fit others = (fit.0, fitting_append values more fit.1 others)
 
 -- a default is no UUID
-abbrev is_no_uuid : Item → Bool
-is_no_uuid (items.Uuid n) = false
-is_no_uuid item = true
+abbrev is_no_uuid : Value → Bool
+is_no_uuid (Value.Uuid n) = false
+is_no_uuid value = true
 
 abbrev has_no_uuid : Field → Bool
 has_no_uuid field = option_map_or is_no_uuid field.default true
@@ -44,30 +43,30 @@ has_no_uuid field = option_map_or is_no_uuid field.default true
 abbrev have_no_uuid : List (List Field) → Bool
 have_no_uuid tables = list_all (λ fields. list_all has_no_uuid fields) tables
 
-plain_fits : (item : Item) → is_no_uuid item ≡ true → IsFittingItem item
-plain_fits (items.Uuid n) is = absurd (cc)
-plain_fits item is = tt
+plain_fits : (value : Value) → is_no_uuid value ≡ true → IsFittingValue value
+plain_fits (Value.Uuid n) is = absurd (cc)
+plain_fits value is = tt
 
 -- values that fit a schema without such defaults are fitting: one value, parts, those of a kind, those at a key, and those of a table
 
-form_fits : (form : Form) (item : Item) → FitsForm form item → IsFittingItem item
-form_fits forms.Text item (text, is) = subst IsFittingItem (sym is) tt
-form_fits (forms.Number least most) item (n, is, _, _) = subst IsFittingItem (sym is) tt
-form_fits forms.Flag item (flag, is) = subst IsFittingItem (sym is) tt
-form_fits forms.Uuid item (text, bytes, read, is) = subst IsFittingItem (sym is) (small_parsed text bytes read)
-form_fits (forms.Word words) item (n, is, _) = subst IsFittingItem (sym is) tt
+form_fits : (form : Form) (value : Value) → FitsForm form value → IsFittingValue value
+form_fits forms.Text value (text, is) = subst IsFittingValue (sym is) tt
+form_fits (forms.Number least most) value (n, is, _, _) = subst IsFittingValue (sym is) tt
+form_fits forms.Flag value (flag, is) = subst IsFittingValue (sym is) tt
+form_fits forms.Uuid value (text, bytes, read, is) = subst IsFittingValue (sym is) (small_parsed text bytes read)
+form_fits (forms.Word words) value (n, is, _) = subst IsFittingValue (sym is) tt
 
-one_fits : (form : Form) (values : List Item) → IsOne form values → AreFitting values
-one_fits form values (item, is, fits) = subst AreFitting (sym is) (form_fits form item fits, tt)
+one_fits : (form : Form) (values : List Value) → IsOne form values → AreFitting values
+one_fits form values (value, is, fits) = subst AreFitting (sym is) (form_fits form value fits, tt)
 
-parts_fit : (IsPart : List Item → Type 0) → ((part : List Item) → IsPart part → AreFitting part) → (n : ℕ) (values : List Item)
+parts_fit : (IsPart : List Value → Type 0) → ((part : List Value) → IsPart part → AreFitting part) → (n : ℕ) (values : List Value)
     → AreParts IsPart n values → AreFitting values
 parts_fit IsPart fit zero values is = subst AreFitting (sym is) tt
 parts_fit IsPart fit (suc n) values (part, others, is, first_is, are) =
     subst AreFitting (sym is) (fitting_append part others (fit part first_is) (parts_fit IsPart fit n others are))
 
-shape_fits : (Inside : ℕ → List Item → Type 0) → ((table : ℕ) (values : List Item) → Inside table values → AreFitting values) → (shape : Shape)
-    (values : List Item) → FitsShape Inside shape values → AreFitting values
+shape_fits : (Inside : ℕ → List Value → Type 0) → ((table : ℕ) (values : List Value) → Inside table values → AreFitting values) → (shape : Shape)
+    (values : List Value) → FitsShape Inside shape values → AreFitting values
 shape_fits Inside fit (forms.One form) values fits = one_fits form values fits
 shape_fits Inside fit (forms.Table table) values (others, is, inside) = subst AreFitting (sym is) (tt, fit table others inside)
 shape_fits Inside fit (forms.Tables table) values (n, others, is, are) =
@@ -75,19 +74,19 @@ shape_fits Inside fit (forms.Tables table) values (n, others, is, are) =
 shape_fits Inside fit (forms.Values form) values (n, others, is, are) =
     subst AreFitting (sym is) (tt, parts_fit (IsOne form) (one_fits form) n others are)
 
-default_fits : (default : Option Item) (item : Item) → option_map_or is_no_uuid default true ≡ true → default ≡ Some item → IsFittingItem item
-default_fits None item plain is = absurd (cc)
-default_fits (Some other) item plain is = let same : other ≡ item = cc in subst IsFittingItem same (plain_fits other plain)
+default_fits : (default : Option Value) (value : Value) → option_map_or is_no_uuid default true ≡ true → default ≡ Some value → IsFittingValue value
+default_fits None value plain is = absurd (cc)
+default_fits (Some other) value plain is = let same : other ≡ value = cc in subst IsFittingValue same (plain_fits other plain)
 
-field_fits : (Inside : ℕ → List Item → Type 0) → ((table : ℕ) (values : List Item) → Inside table values → AreFitting values) → (field : Field)
-    (values : List Item) → has_no_uuid field ≡ true → FitsField Inside field values → AreFitting values
+field_fits : (Inside : ℕ → List Value → Type 0) → ((table : ℕ) (values : List Value) → Inside table values → AreFitting values) → (field : Field)
+    (values : List Value) → has_no_uuid field ≡ true → FitsField Inside field values → AreFitting values
 field_fits Inside fit field values plain fits = elim fits as (λ _. AreFitting values) [
   | inl left_out ↦ subst AreFitting (sym left_out.2) (default_fits field.default left_out.0 plain left_out.1, tt)
   | inr given ↦ shape_fits Inside fit field.shape values given
 ]
 
-fields_fit : (Inside : ℕ → List Item → Type 0) → ((table : ℕ) (values : List Item) → Inside table values → AreFitting values) → (fields : List Field)
-    (values : List Item) → list_all has_no_uuid fields ≡ true → FitsFields Inside fields values → AreFitting values
+fields_fit : (Inside : ℕ → List Value → Type 0) → ((table : ℕ) (values : List Value) → Inside table values → AreFitting values) → (fields : List Field)
+    (values : List Value) → list_all has_no_uuid fields ≡ true → FitsFields Inside fields values → AreFitting values
 fields_fit Inside fit [] values plain is = subst AreFitting (sym is) tt
 fields_fit Inside fit (field ∷ fields) values plain (part, others, is, here, there) =
     let both = and_parts (has_no_uuid field) (list_all has_no_uuid fields) plain in
@@ -100,7 +99,7 @@ plain_at [] table plain = refl
 plain_at (fields ∷ tables) zero plain = (and_parts (list_all has_no_uuid fields) (have_no_uuid tables) plain).0
 plain_at (fields ∷ tables) (suc table) plain = plain_at tables table (and_parts (list_all has_no_uuid fields) (have_no_uuid tables) plain).1
 
-table_fits : (tables : List (List Field)) → have_no_uuid tables ≡ true → (depth table : ℕ) (values : List Item) → FitsTable tables depth table values
+table_fits : (tables : List (List Field)) → have_no_uuid tables ≡ true → (depth table : ℕ) (values : List Value) → FitsTable tables depth table values
     → AreFitting values
 table_fits tables plain zero table values is = subst AreFitting (sym is) tt
 table_fits tables plain (suc depth) table values fits =
@@ -108,29 +107,29 @@ table_fits tables plain (suc depth) table values fits =
 
 -- what is left of fitting values is fitting, and so is the value at a place
 
-rest_fits : (values : List Item) → AreFitting values → AreFitting (rest values)
+rest_fits : (values : List Value) → AreFitting values → AreFitting (rest values)
 rest_fits [] fit = tt
-rest_fits (item ∷ values) fit = fit.1
+rest_fits (value ∷ values) fit = fit.1
 
-skip_fits : (n : ℕ) (values : List Item) → AreFitting values → AreFitting (skip n values)
+skip_fits : (n : ℕ) (values : List Value) → AreFitting values → AreFitting (skip n values)
 skip_fits zero values fit = fit
 skip_fits (suc n) values fit = skip_fits n (rest values) (rest_fits values fit)
 
-first_fits : (values : List Item) → AreFitting values → IsFittingItem (first values)
+first_fits : (values : List Value) → AreFitting values → IsFittingValue (first values)
 first_fits [] fit = tt
-first_fits (item ∷ values) fit = fit.0
+first_fits (value ∷ values) fit = fit.0
 
-each_left : {V : Type 0} (make : List Item → V) (size n : ℕ) (values : List Item) → AreFitting values → AreFitting (each_of make size n values).1
+each_left : {V : Type 0} (make : List Value → V) (size n : ℕ) (values : List Value) → AreFitting values → AreFitting (each_of make size n values).1
 each_left make size zero values fit = fit
 each_left make size (suc n) values fit = each_left make size n (skip size values) (skip_fits size values fit)
 
-list_left : {V : Type 0} (make : List Item → V) (size : ℕ) (values : List Item) → AreFitting values → AreFitting (list_of make size values).1
+list_left : {V : Type 0} (make : List Value → V) (size : ℕ) (values : List Value) → AreFitting values → AreFitting (list_of make size values).1
 unfolding list_of
 list_left make size values fit = each_left make size (count_of (first values)) (rest values) (rest_fits values fit)
 
-uuid_fits : (item : Item) → IsFittingItem item → IfSome (uuid_if item) (λ uuid. uuid < 2 ^ 128)
-uuid_fits (items.Uuid n) fits = fits
-uuid_fits item fits = tt
+uuid_fits : (value : Value) → IsFittingValue value → IfSome (uuid_if value) (λ uuid. uuid < 2 ^ 128)
+uuid_fits (Value.Uuid n) fits = fits
+uuid_fits value fits = tt
 
 -- a number up to the most is within it, whatever the value is
 
@@ -138,56 +137,56 @@ within : (test : Bool) (n most : ℕ) → nat_le n most ≡ test → (if test th
 within true n most is = leb-true n most is
 within false n most is = omega arith
 
-number_within : (most : ℕ) (item : Item) → number_to most item ≤ most
-number_within most (items.Number n) = within (nat_le n most) n most refl
-number_within most item = omega arith
+number_within : (most : ℕ) (value : Value) → number_to most value ≤ most
+number_within most (Value.Number n) = within (nat_le n most) n most refl
+number_within most value = omega arith
 
 -- what holds of a part of any values holds of one that may be left out, and of each in a list
 
-part_has : {V : Type 0} (P : V → Type 0) (make : List Item → V) (size : ℕ) → ((values : List Item) → P (make values)) → (values : List Item)
+part_has : {V : Type 0} (P : V → Type 0) (make : List Value → V) (size : ℕ) → ((values : List Value) → P (make values)) → (values : List Value)
     → IfSome (part_of make size values).0 P
 unfolding part_of
 part_has {V} P make size has values =
-    elim (count_of (first values) == 0) as (λ test. IfSome (if◌then◌else◌ {A = Option V × List Item} test (None, rest values)
+    elim (count_of (first values) == 0) as (λ test. IfSome (if◌then◌else◌ {A = Option V × List Value} test (None, rest values)
     (Some (make (rest values)), skip size (rest values))).0 P) [ true ↦ tt | false ↦ has (rest values) ]
 
-each_has : {V : Type 0} (P : V → Type 0) (make : List Item → V) (size : ℕ) → ((values : List Item) → P (make values)) → (n : ℕ) (values : List Item)
+each_has : {V : Type 0} (P : V → Type 0) (make : List Value → V) (size : ℕ) → ((values : List Value) → P (make values)) → (n : ℕ) (values : List Value)
     → AllByRecursion P (each_of make size n values).0
 each_has P make size has zero values = tt
 each_has P make size has (suc n) values = (has values, each_has P make size has n (skip size values))
 
-list_has : {V : Type 0} (P : V → Type 0) (make : List Item → V) (size : ℕ) → ((values : List Item) → P (make values)) → (values : List Item)
+list_has : {V : Type 0} (P : V → Type 0) (make : List Value → V) (size : ℕ) → ((values : List Value) → P (make values)) → (values : List Value)
     → AllByRecursion P (list_of make size values).0
 unfolding list_of
 list_has P make size has values = each_has P make size has (count_of (first values)) (rest values)
 
-firmware_fits : (values : List Item) → IsFittingFirmware (firmware_of values)
+firmware_fits : (values : List Value) → IsFittingFirmware (firmware_of values)
 firmware_fits values = record {
-  major = omega (arith, number_within 0xFF (item_at 3 values));
-  minor = omega (arith, number_within 0xFF (item_at 4 values));
+  major = omega (arith, number_within 0xFF (value_at 3 values));
+  minor = omega (arith, number_within 0xFF (value_at 4 values));
 }
 
-socket_fits : (values : List Item) → IsFittingSocket (socket_of values)
-socket_fits values = omega (arith, number_within 0xFFFF (item_at 8 values))
+socket_fits : (values : List Value) → IsFittingSocket (socket_of values)
+socket_fits values = omega (arith, number_within 0xFFFF (value_at 8 values))
 
-slot_fits : (values : List Item) → IsFittingSlot (slot_of values)
+slot_fits : (values : List Value) → IsFittingSlot (slot_of values)
 slot_fits values = record {
-  kind = omega (arith, number_within 0xFF (item_at 1 values));
-  width = omega (arith, number_within 0xFF (item_at 2 values));
-  id = omega (arith, number_within 0xFFFF (item_at 4 values));
-  bus = omega (arith, number_within 0xFF (item_at 5 values));
+  kind = omega (arith, number_within 0xFF (value_at 1 values));
+  width = omega (arith, number_within 0xFF (value_at 2 values));
+  id = omega (arith, number_within 0xFFFF (value_at 4 values));
+  bus = omega (arith, number_within 0xFF (value_at 5 values));
 }
 
-hpet_fits : (values : List Item) → IsFittingHpet (hpet_of values)
+hpet_fits : (values : List Value) → IsFittingHpet (hpet_of values)
 hpet_fits values = record {
-  address = omega (arith, number_within 0xFFFFFFFF (item_at 0 values));
-  block_id = omega (arith, number_within 0xFFFFFFFF (item_at 1 values));
-  number = omega (arith, number_within 0xFF (item_at 2 values));
-  min_tick = omega (arith, number_within 0xFFFF (item_at 3 values));
+  address = omega (arith, number_within 0xFFFFFFFF (value_at 0 values));
+  block_id = omega (arith, number_within 0xFFFFFFFF (value_at 1 values));
+  number = omega (arith, number_within 0xFF (value_at 2 values));
+  min_tick = omega (arith, number_within 0xFFFF (value_at 3 values));
 }
 
 -- the machine of fitting values
-machine_fits : (values : List Item) → AreFitting values → HasFittingFields (machine_of values)
+machine_fits : (values : List Value) → AreFitting values → HasFittingFields (machine_of values)
 unfolding front_of arrays_of machine_of
 machine_fits values fit =
     let strings = list_of one_text 1 (skip 2 values) in
@@ -199,7 +198,7 @@ machine_fits values fit =
     let slots = list_of slot_of 8 ranges.1 in
     let acpi = part_of acpi_of 2 slots.1 in
     record {
-      uuid = uuid_fits (item_at 6 (skip 1 strings.1))
+      uuid = uuid_fits (value_at 6 (skip 1 strings.1))
           (first_fits (skip 6 (skip 1 strings.1)) (skip_fits 6 (skip 1 strings.1) (skip_fits 1 strings.1
           (list_left one_text 1 (skip 2 values) (skip_fits 2 values fit)))));
       firmware = part_has IsFittingFirmware firmware_of 5 firmware_fits (skip 8 strings.1);

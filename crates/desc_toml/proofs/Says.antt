@@ -7,7 +7,7 @@ use Rattle.toml.specs.Data.{Members}
 use Rattle.toml.specs.Parse.{parse_document}
 use Rattle.machine_desc.specs.declared.machine.Machine.{Machine}
 use Rattle.machine_desc.specs.Rules.{broken_rule}
-use Rattle.desc_schema.specs.declared.item.Item.{Item}
+use Rattle.desc_schema.specs.declared.value.Value.{Value}
 use Rattle.desc_schema.specs.declared.fault.WalkFault.{WalkFault}
 use Rattle.desc_schema.specs.Walk.{walked}
 use Rattle.desc_schema.specs.Says.{Says}
@@ -23,7 +23,7 @@ use Rattle.desc_toml.proofs.OneMachine.{before, kept, read_accepted}
 
 -- from what the tables say
 
-described_in : (text : List ℕ) (root : Members) (values : List Item) (m : Machine) → parse_document text ≡ Some root → Says schema root values
+described_in : (text : List ℕ) (root : Members) (values : List Value) (m : Machine) → parse_document text ≡ Some root → Says schema root values
     → m ≡ machine_of values → machine_in text ≡ Ok m
 unfolding values_in
 described_in text root values m parsed says made = rw (parsed, (walked_says schema root values).1 says) (ap Ok (sym made))
@@ -51,7 +51,7 @@ root_read : (found : Option Members) (root : Members) → root_found found ≡ O
 root_read None root is = absurd (cc)
 root_read (Some other) root is = cc
 
-values_read : (found : Result (List Item) WalkFault) (values : List Item) → values_found found ≡ Ok values → found ≡ Ok values
+values_read : (found : Result (List Value) WalkFault) (values : List Value) → values_found found ≡ Ok values → found ≡ Ok values
 values_read (Ok other) values is = cc
 values_read (Err fault) values is = absurd (cc)
 
@@ -72,7 +72,7 @@ described_reads bytes m is =
 
 -- the values of a machine that is read are those of a walk
 pub values_walked : (bytes : List ℕ) (m : Machine) → Reads bytes m
-    → (root : Members) × (values : List Item) × (walked schema root ≡ Ok values) × (m ≡ machine_of values)
+    → (root : Members) × (values : List Value) × (walked schema root ≡ Ok values) × (m ≡ machine_of values)
 values_walked bytes m is =
     let (root, values, parsed, says, made) = (described_reads bytes m is).tables in
     (root, values, (walked_says schema root values).1 says, made)

@@ -7,7 +7,7 @@ use Rattle.desc_schema.specs.declared.fault.WalkFault.{WalkFault}
 use Rattle.desc_schema.specs.declared.fault.WalkFault.TheVariants as walk
 use Rattle.desc_schema.specs.declared.fault.WalkError.{WalkError}
 use Rattle.desc_schema.specs.declared.fault.WalkError.TheVariants as errors
-use Rattle.desc_schema.specs.declared.item.Item.{Item}
+use Rattle.desc_schema.specs.declared.value.Value.{Value}
 use Rattle.desc_schema.specs.Faults.{Fails as WalkFails}
 use Rattle.desc_toml.specs.declared.fault.DescFault.{DescFault}
 use Rattle.desc_toml.specs.declared.fault.DescFault.TheVariants.{NotToml, UnknownKey, MissingKey, WrongKind, OutOfRange, Broken, OutOfMemory}
@@ -31,7 +31,7 @@ told_fails (walk.MissingKey at) read is = is
 told_fails (walk.WrongKind at) read is = is
 told_fails (walk.OutOfRange at) read is = is
 
-pub walk_fails : (error : WalkError) (fault : WalkFault) (given : Result (List Item) WalkFault) → error ≡ errors.Fault fault → WalkFails error given
+pub walk_fails : (error : WalkError) (fault : WalkFault) (given : Result (List Value) WalkFault) → error ≡ errors.Fault fault → WalkFails error given
     → Fails (told fault) (values_found given)
 walk_fails error fault given is fails =
     let same : given ≡ Err fault = rw is at fails in

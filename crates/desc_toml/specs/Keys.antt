@@ -1,15 +1,14 @@
 -- The keys of a machine's description, table by table, in the order in which they are walked.
 use Rattle.std.specs.Prelude.{codes, ℕ, false, List, [], ◌∷◌, Option, Some, None}
-use Rattle.desc_schema.specs.declared.item.Item.{Item}
-use Rattle.desc_schema.specs.declared.item.Item.TheVariants as items
+use Rattle.desc_schema.specs.declared.value.Value.{Value}
 use Rattle.desc_schema.specs.Form.{Field, Shape, One, Table, Tables, Values, Text, Number, Flag, Uuid}
 
-abbrev pub key : List ℕ → Shape → Option Item → Field
+abbrev pub key : List ℕ → Shape → Option Value → Field
 key name shape default = record { name = name; shape = shape; default = default }
 
 -- a text, and the text that stands where it is left out
 abbrev pub text : List ℕ → List ℕ → Field
-text name default = key name (One Text) (Some (items.Text default))
+text name default = key name (One Text) (Some (Value.Text default))
 
 -- a text that is empty where it is left out
 abbrev pub text_or_none : List ℕ → Field
@@ -17,7 +16,7 @@ text_or_none name = text name []
 
 -- a number up to the most, and the number that stands where it is left out
 abbrev pub number : List ℕ → ℕ → ℕ → Field
-number name most default = key name (One (Number 0 most)) (Some (items.Number default))
+number name most default = key name (One (Number 0 most)) (Some (Value.Number default))
 
 -- a number up to the most that must be there
 abbrev pub number_given : List ℕ → ℕ → Field
@@ -25,17 +24,17 @@ number_given name most = key name (One (Number 0 most)) None
 
 -- a table that may be left out
 abbrev pub part : List ℕ → ℕ → Field
-part name table = key name (Table table) (Some (items.Count 0))
+part name table = key name (Table table) (Some (Value.Count 0))
 
 -- an array of tables, which is empty where it is left out
 abbrev pub parts : List ℕ → ℕ → Field
-parts name table = key name (Tables table) (Some (items.Count 0))
+parts name table = key name (Tables table) (Some (Value.Count 0))
 
 -- table 0: the description's version, which is 1; the top of memory, in MiB; the texts of the maker; and the tables
 abbrev pub root_keys : List Field
 root_keys =
     key (codes "version") (One (Number 1 1)) None ∷ number_given (codes "top_mib") 0xFFFFFFFF
-    ∷ key (codes "oem_strings") (Values Text) (Some (items.Count 0)) ∷ key (codes "system") (Table 1) None ∷ part (codes "firmware") 2
+    ∷ key (codes "oem_strings") (Values Text) (Some (Value.Count 0)) ∷ key (codes "system") (Table 1) None ∷ part (codes "firmware") 2
     ∷ part (codes "chassis") 3 ∷ parts (codes "socket") 4 ∷ parts (codes "dimm") 5 ∷ parts (codes "range") 6 ∷ parts (codes "slot") 7
     ∷ part (codes "acpi") 8 ∷ part (codes "hpet") 10 ∷ []
 
@@ -43,7 +42,7 @@ root_keys =
 abbrev pub system_keys : List Field
 system_keys =
     text_or_none (codes "manufacturer") ∷ text_or_none (codes "product") ∷ text_or_none (codes "version") ∷ text_or_none (codes "serial")
-    ∷ text_or_none (codes "sku") ∷ text_or_none (codes "family") ∷ key (codes "uuid") (One Uuid) (Some items.Nothing) ∷ []
+    ∷ text_or_none (codes "sku") ∷ text_or_none (codes "family") ∷ key (codes "uuid") (One Uuid) (Some Value.Nothing) ∷ []
 
 -- table 2: numbers of 8 bits
 abbrev pub firmware_keys : List Field
@@ -78,7 +77,7 @@ range_keys = number_given (codes "base_mib") 0xFFFFFFFF ∷ number_given (codes 
 abbrev pub slot_keys : List Field
 slot_keys =
     text_or_none (codes "designation") ∷ number (codes "kind") 0xFF 1 ∷ number (codes "width") 0xFF 1
-    ∷ key (codes "used") (One Flag) (Some (items.Flag false)) ∷ number (codes "id") 0xFFFF 0 ∷ number (codes "bus") 0xFF 0
+    ∷ key (codes "used") (One Flag) (Some (Value.Flag false)) ∷ number (codes "id") 0xFFFF 0 ∷ number (codes "bus") 0xFF 0
     ∷ number (codes "device") 0xFF 0 ∷ number (codes "function") 0xFF 0 ∷ []
 
 -- table 8, whose defaults are those of QEMU's tables

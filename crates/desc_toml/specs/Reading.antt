@@ -3,7 +3,7 @@ use Rattle.std.specs.Prelude.{◌≡◌, ℕ, List, Option, Some, None, Result, 
 use Rattle.std.specs.Str.{is_utf8}
 use Rattle.toml.specs.Data.{Members}
 use Rattle.toml.specs.Parse.{parse_document}
-use Rattle.desc_schema.specs.declared.item.Item.{Item}
+use Rattle.desc_schema.specs.declared.value.Value.{Value}
 use Rattle.desc_schema.specs.declared.fault.WalkFault.{WalkFault}
 use Rattle.desc_schema.specs.declared.fault.WalkFault.TheVariants as walk
 use Rattle.desc_schema.specs.Walk.{walked}
@@ -41,11 +41,11 @@ told (walk.WrongKind at) = WrongKind at.table at.index at.key
 told (walk.OutOfRange at) = OutOfRange at.table at.index at.key
 
 -- the values that a walk gives
-abbrev pub values_found : Result (List Item) WalkFault → Result (List Item) DescFault
+abbrev pub values_found : Result (List Value) WalkFault → Result (List Value) DescFault
 values_found (Ok values) = Ok values
 values_found (Err fault) = Err (told fault)
 
-unfoldable pub values_in : Members → Result (List Item) DescFault
+unfoldable pub values_in : Members → Result (List Value) DescFault
 values_in root = values_found (walked schema root)
 
 -- a machine that breaks no rule; else the first rule that it breaks, with the least index at which it does

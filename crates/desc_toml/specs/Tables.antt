@@ -3,7 +3,7 @@ use Rattle.std.specs.Prelude.{◌≡◌, ℕ, List, Some}
 use Rattle.std.specs.Str.{IsUtf8}
 use Rattle.toml.specs.Data.{Members}
 use Rattle.toml.specs.Parse.{parse_document}
-use Rattle.desc_schema.specs.declared.item.Item.{Item}
+use Rattle.desc_schema.specs.declared.value.Value.{Value}
 use Rattle.desc_schema.specs.Says.{Says}
 use Rattle.machine_desc.specs.Rules.{IsAccepted}
 use Rattle.machine_desc.specs.declared.machine.Machine.{Machine}
@@ -14,5 +14,5 @@ use Rattle.desc_toml.specs.Values.{machine_of}
 -- values, and it keeps the rules.
 pub record Describes (bytes : List ℕ) (m : Machine) : Type 0 where
   pub text : IsUtf8 bytes
-  pub tables : (root : Members) × (values : List Item) × (parse_document bytes ≡ Some root) × Says schema root values × (m ≡ machine_of values)
+  pub tables : (root : Members) × (values : List Value) × (parse_document bytes ≡ Some root) × Says schema root values × (m ≡ machine_of values)
   pub accepted : IsAccepted m

@@ -17,7 +17,7 @@ pub enum DescFault {
     UnknownKey { table: u8, index: u32, key: Text },
     /// A key that must be there is left out.
     MissingKey { table: u8, index: u32, key: u8 },
-    /// The value at a key, or an element of its array, is of another kind than the key's.
+    /// What stands at a key, or an element of its array, is of another kind than the key's.
     WrongKind { table: u8, index: u32, key: u8 },
     /// An integer isn't within the key's limits, or a text is no UUID.
     OutOfRange { table: u8, index: u32, key: u8 },

@@ -1,11 +1,11 @@
 //! The parts of a machine, each of so many values.
 
 ghost use Rattle.std.specs.Prelude.{◌≡◌, ℕ, List as ListOf};
-ghost use Rattle.desc_schema.specs.declared.item.Item.{Item};
+ghost use Rattle.desc_schema.specs.declared.value.Value.{Value};
 ghost use Rattle.desc_schema.specs.Taken.{skip};
 ghost use Rattle.desc_toml.specs.Values.{one_text, system_of, firmware_of, chassis_of, socket_of, dimm_of, range_of, slot_of, acpi_of, hpet_of};
 
-use desc_schema::Items;
+use desc_schema::Values;
 use machine_desc::{Acpi, Chassis, Dimm, Firmware, Hpet, MemRange, Slot, Socket, System};
 use std::alloc::Global;
 use vt_outside::Text;
@@ -14,38 +14,38 @@ use vt_outside::Text;
 pub(crate) trait Part: Drop {
     ghost size: { ℕ };
 
-    ghost value: { ListOf Item → Self };
+    ghost make: { ListOf Value → Self };
 
     // Takes the values of the part out. `alloc` is kept by its texts.
-    fn take(alloc: Global, items: &mut Items) -> Self
-        ensures part { result ≡ value items.old }
-        ensures left { items.new ≡ skip size items.old };
+    fn take(alloc: Global, values: &mut Values) -> Self
+        ensures part { result ≡ make values.old }
+        ensures left { values.new ≡ skip size values.old };
 }
 
 impl Part for Text {
     ghost size = { 1 };
 
-    ghost value = { one_text };
+    ghost make = { one_text };
 
-    fn take(alloc: Global, items: &mut Items) -> Text {
-        items.take_text(alloc)
+    fn take(alloc: Global, values: &mut Values) -> Text {
+        values.take_text(alloc)
     }
 }
 
 impl Part for System {
     ghost size = { 7 };
 
-    ghost value = { system_of };
+    ghost make = { system_of };
 
-    fn take(alloc: Global, items: &mut Items) -> System {
+    fn take(alloc: Global, values: &mut Values) -> System {
         System {
-            manufacturer: items.take_text(alloc),
-            product: items.take_text(alloc),
-            version: items.take_text(alloc),
-            serial: items.take_text(alloc),
-            sku: items.take_text(alloc),
-            family: items.take_text(alloc),
-            uuid: items.take_uuid(),
+            manufacturer: values.take_text(alloc),
+            product: values.take_text(alloc),
+            version: values.take_text(alloc),
+            serial: values.take_text(alloc),
+            sku: values.take_text(alloc),
+            family: values.take_text(alloc),
+            uuid: values.take_uuid(),
         }
     }
 }
@@ -53,15 +53,15 @@ impl Part for System {
 impl Part for Firmware {
     ghost size = { 5 };
 
-    ghost value = { firmware_of };
+    ghost make = { firmware_of };
 
-    fn take(alloc: Global, items: &mut Items) -> Firmware {
+    fn take(alloc: Global, values: &mut Values) -> Firmware {
         Firmware {
-            vendor: items.take_text(alloc),
-            version: items.take_text(alloc),
-            date: items.take_text(alloc),
-            major: items.take_number(u8::MAX as u64) as u8,
-            minor: items.take_number(u8::MAX as u64) as u8,
+            vendor: values.take_text(alloc),
+            version: values.take_text(alloc),
+            date: values.take_text(alloc),
+            major: values.take_number(u8::MAX as u64) as u8,
+            minor: values.take_number(u8::MAX as u64) as u8,
         }
     }
 }
@@ -69,16 +69,16 @@ impl Part for Firmware {
 impl Part for Chassis {
     ghost size = { 6 };
 
-    ghost value = { chassis_of };
+    ghost make = { chassis_of };
 
-    fn take(alloc: Global, items: &mut Items) -> Chassis {
+    fn take(alloc: Global, values: &mut Values) -> Chassis {
         Chassis {
-            manufacturer: items.take_text(alloc),
-            version: items.take_text(alloc),
-            serial: items.take_text(alloc),
-            asset: items.take_text(alloc),
-            sku: items.take_text(alloc),
-            kind: items.take_number(u8::MAX as u64) as u8,
+            manufacturer: values.take_text(alloc),
+            version: values.take_text(alloc),
+            serial: values.take_text(alloc),
+            asset: values.take_text(alloc),
+            sku: values.take_text(alloc),
+            kind: values.take_number(u8::MAX as u64) as u8,
         }
     }
 }
@@ -86,19 +86,19 @@ impl Part for Chassis {
 impl Part for Socket {
     ghost size = { 9 };
 
-    ghost value = { socket_of };
+    ghost make = { socket_of };
 
-    fn take(alloc: Global, items: &mut Items) -> Socket {
+    fn take(alloc: Global, values: &mut Values) -> Socket {
         Socket {
-            designation: items.take_text(alloc),
-            manufacturer: items.take_text(alloc),
-            version: items.take_text(alloc),
-            serial: items.take_text(alloc),
-            asset: items.take_text(alloc),
-            part: items.take_text(alloc),
-            cores: items.take_number(u16::MAX as u64) as u16,
-            threads: items.take_number(u16::MAX as u64) as u16,
-            mhz: items.take_number(u16::MAX as u64) as u16,
+            designation: values.take_text(alloc),
+            manufacturer: values.take_text(alloc),
+            version: values.take_text(alloc),
+            serial: values.take_text(alloc),
+            asset: values.take_text(alloc),
+            part: values.take_text(alloc),
+            cores: values.take_number(u16::MAX as u64) as u16,
+            threads: values.take_number(u16::MAX as u64) as u16,
+            mhz: values.take_number(u16::MAX as u64) as u16,
         }
     }
 }
@@ -106,18 +106,18 @@ impl Part for Socket {
 impl Part for Dimm {
     ghost size = { 8 };
 
-    ghost value = { dimm_of };
+    ghost make = { dimm_of };
 
-    fn take(alloc: Global, items: &mut Items) -> Dimm {
+    fn take(alloc: Global, values: &mut Values) -> Dimm {
         Dimm {
-            locator: items.take_text(alloc),
-            bank: items.take_text(alloc),
-            manufacturer: items.take_text(alloc),
-            serial: items.take_text(alloc),
-            asset: items.take_text(alloc),
-            part: items.take_text(alloc),
-            size_mib: items.take_number(u32::MAX as u64) as u32,
-            speed: items.take_number(u16::MAX as u64) as u16,
+            locator: values.take_text(alloc),
+            bank: values.take_text(alloc),
+            manufacturer: values.take_text(alloc),
+            serial: values.take_text(alloc),
+            asset: values.take_text(alloc),
+            part: values.take_text(alloc),
+            size_mib: values.take_number(u32::MAX as u64) as u32,
+            speed: values.take_number(u16::MAX as u64) as u16,
         }
     }
 }
@@ -125,13 +125,13 @@ impl Part for Dimm {
 impl Part for MemRange {
     ghost size = { 3 };
 
-    ghost value = { range_of };
+    ghost make = { range_of };
 
-    fn take(_alloc: Global, items: &mut Items) -> MemRange {
+    fn take(_alloc: Global, values: &mut Values) -> MemRange {
         MemRange {
-            base_mib: items.take_number(u32::MAX as u64) as u32,
-            size_mib: items.take_number(u32::MAX as u64) as u32,
-            node: items.take_number(u8::MAX as u64) as u8,
+            base_mib: values.take_number(u32::MAX as u64) as u32,
+            size_mib: values.take_number(u32::MAX as u64) as u32,
+            node: values.take_number(u8::MAX as u64) as u8,
         }
     }
 }
@@ -139,18 +139,18 @@ impl Part for MemRange {
 impl Part for Slot {
     ghost size = { 8 };
 
-    ghost value = { slot_of };
+    ghost make = { slot_of };
 
-    fn take(alloc: Global, items: &mut Items) -> Slot {
+    fn take(alloc: Global, values: &mut Values) -> Slot {
         Slot {
-            designation: items.take_text(alloc),
-            kind: items.take_number(u8::MAX as u64) as u8,
-            width: items.take_number(u8::MAX as u64) as u8,
-            used: items.take_flag(),
-            id: items.take_number(u16::MAX as u64) as u16,
-            bus: items.take_number(u8::MAX as u64) as u8,
-            device: items.take_number(u8::MAX as u64) as u8,
-            function: items.take_number(u8::MAX as u64) as u8,
+            designation: values.take_text(alloc),
+            kind: values.take_number(u8::MAX as u64) as u8,
+            width: values.take_number(u8::MAX as u64) as u8,
+            used: values.take_flag(),
+            id: values.take_number(u16::MAX as u64) as u16,
+            bus: values.take_number(u8::MAX as u64) as u8,
+            device: values.take_number(u8::MAX as u64) as u8,
+            function: values.take_number(u8::MAX as u64) as u8,
         }
     }
 }
@@ -158,12 +158,12 @@ impl Part for Slot {
 impl Part for Acpi {
     ghost size = { 2 };
 
-    ghost value = { acpi_of };
+    ghost make = { acpi_of };
 
-    fn take(alloc: Global, items: &mut Items) -> Acpi {
+    fn take(alloc: Global, values: &mut Values) -> Acpi {
         Acpi {
-            oem_id: items.take_text(alloc),
-            oem_table_id: items.take_text(alloc),
+            oem_id: values.take_text(alloc),
+            oem_table_id: values.take_text(alloc),
         }
     }
 }
@@ -171,14 +171,14 @@ impl Part for Acpi {
 impl Part for Hpet {
     ghost size = { 4 };
 
-    ghost value = { hpet_of };
+    ghost make = { hpet_of };
 
-    fn take(_alloc: Global, items: &mut Items) -> Hpet {
+    fn take(_alloc: Global, values: &mut Values) -> Hpet {
         Hpet {
-            address: items.take_number(u32::MAX as u64) as u32,
-            block_id: items.take_number(u32::MAX as u64) as u32,
-            number: items.take_number(u8::MAX as u64) as u8,
-            min_tick: items.take_number(u16::MAX as u64) as u16,
+            address: values.take_number(u32::MAX as u64) as u32,
+            block_id: values.take_number(u32::MAX as u64) as u32,
+            number: values.take_number(u8::MAX as u64) as u8,
+            min_tick: values.take_number(u16::MAX as u64) as u16,
         }
     }
 }

@@ -6,7 +6,7 @@ ghost use Rattle.desc_toml.specs.Reading.{Gives, root_in, values_in, machine_in,
 use crate::fault::{DescFault, told};
 use crate::machine::machine_of;
 use crate::schema::SCHEMA;
-use desc_schema::{Items, WalkError, walk_document};
+use desc_schema::{Values, WalkError, walk_document};
 use machine_desc::Machine;
 use std::alloc::Global;
 use std::str;
@@ -50,8 +50,8 @@ fn machine_in(alloc: Global, text: &str) -> Result<Machine, DescFault>
     ensures { Gives (λ machine. machine) result (machine_in text.now) }
 {
     let root = root_in(alloc, text)?;
-    let mut items = values_in(alloc, &root)?;
-    Ok(machine_of(alloc, &mut items)?)
+    let mut values = values_in(alloc, &root)?;
+    Ok(machine_of(alloc, &mut values)?)
 }
 
 // The root table of a document.
@@ -66,11 +66,11 @@ fn root_in(alloc: Global, text: &str) -> Result<Table, DescFault>
 }
 
 // The values of a document, in the schema's order.
-fn values_in(alloc: Global, root: &Table) -> Result<Items, DescFault>
-    ensures { Gives (λ items. items) result (values_in (table_view root.now)) }
+fn values_in(alloc: Global, root: &Table) -> Result<Values, DescFault>
+    ensures { Gives (λ values. values) result (values_in (table_view root.now)) }
 {
     match walk_document(alloc, &SCHEMA, root) {
-        Ok(items) => Ok(items),
+        Ok(values) => Ok(values),
         Err(WalkError::Fault(fault)) => Err(told(fault)),
         Err(WalkError::OutOfMemory) => Err(DescFault::OutOfMemory),
     }

@@ -1,7 +1,7 @@
 //! What a walk of a document gives, in words.
 
 use crate::schema::SCHEMA;
-use desc_schema::{Item, Items, KeyPlace, Place, WalkError, WalkFault, walk_document};
+use desc_schema::{KeyPlace, Place, Value, Values, WalkError, WalkFault, walk_document};
 use std::alloc::Global;
 use std::process::Abort;
 use std::test::Fail;
@@ -30,7 +30,7 @@ fn are_words(rt: &impl Abort, told: &str, wanted: &str, text: &str) {
 // What a walk gives of a text, in words: its values, or its fault.
 fn told(alloc: Global, text: &str) -> Result<String, Fail> {
     match walked(alloc, text)? {
-        Ok(mut items) => told_items(alloc, &mut items),
+        Ok(mut values) => told_values(alloc, &mut values),
         Err(WalkError::Fault(fault)) => told_fault(alloc, &fault),
         Err(WalkError::OutOfMemory) => told_words(alloc, "no memory"),
     }
@@ -41,40 +41,40 @@ fn told_words(alloc: Global, words: &str) -> Result<String, Fail> {
 }
 
 /// What a walk gives of a text.
-pub(crate) fn walked(alloc: Global, text: &str) -> Result<Result<Items, WalkError>, Fail> {
+pub(crate) fn walked(alloc: Global, text: &str) -> Result<Result<Values, WalkError>, Fail> {
     let root = table_from_str(alloc, text)?;
     Ok(walk_document(alloc, &SCHEMA, &root))
 }
 
-fn told_items(alloc: Global, items: &mut Items) -> Result<String, Fail> {
+fn told_values(alloc: Global, values: &mut Values) -> Result<String, Fail> {
     let mut told = String::new(alloc);
-    push_items(alloc, &mut told, items)?;
+    push_values(alloc, &mut told, values)?;
     Ok(told)
 }
 
-fn push_items(alloc: Global, told: &mut String, items: &mut Items) -> Result<(), Fail> {
-    for _ in 0..items.len() {
-        push_item(alloc, told, &items.take_first())?;
+fn push_values(alloc: Global, told: &mut String, values: &mut Values) -> Result<(), Fail> {
+    for _ in 0..values.len() {
+        push_value(alloc, told, &values.take_first())?;
     }
     Ok(())
 }
 
-fn push_item(alloc: Global, told: &mut String, item: &Item) -> Result<(), Fail> {
-    let item = told_item(alloc, item)?;
-    told.push_str(item.as_str())?;
+fn push_value(alloc: Global, told: &mut String, value: &Value) -> Result<(), Fail> {
+    let value = told_value(alloc, value)?;
+    told.push_str(value.as_str())?;
     told.push_str(";")?;
     Ok(())
 }
 
-fn told_item(alloc: Global, item: &Item) -> Result<String, Fail> {
-    match item {
-        Item::Text(text) => told_text(alloc, text.as_slice()),
-        Item::Number(number) => Ok(format!(in alloc; "{number}")?),
-        Item::Flag(flag) => told_words(alloc, if *flag { "true" } else { "false" }),
-        Item::Uuid(uuid) => told_uuid(alloc, *uuid),
-        Item::Word(place) => told_count(alloc, "word", *place),
-        Item::Nothing => told_words(alloc, "nothing"),
-        Item::Count(count) => told_count(alloc, "count", *count),
+fn told_value(alloc: Global, value: &Value) -> Result<String, Fail> {
+    match value {
+        Value::Text(text) => told_text(alloc, text.as_slice()),
+        Value::Number(number) => Ok(format!(in alloc; "{number}")?),
+        Value::Flag(flag) => told_words(alloc, if *flag { "true" } else { "false" }),
+        Value::Uuid(uuid) => told_uuid(alloc, *uuid),
+        Value::Word(place) => told_count(alloc, "word", *place),
+        Value::Nothing => told_words(alloc, "nothing"),
+        Value::Count(count) => told_count(alloc, "count", *count),
     }
 }
 

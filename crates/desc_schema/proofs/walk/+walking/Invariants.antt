@@ -7,8 +7,8 @@ use Rattle.desc_schema.proofs.walk.+walking.Given as goal
 abbrev pub invariant-push_table-loop-number : goal.invariant-push_table-loop-number
 invariant-push_table-loop-number l =
     let inner = table_walked (schema_of l.schema) l.inner in
-    after l.progress.items (at_fields inner l.place l.number (fields_of (drop l.number l.keys)) (table_view l.table) l.progress.positions)
-    ≡ after l.fn.progress.items (at_fields inner l.place 0 (fields_of l.keys) (table_view l.table) l.fn.progress.positions)
+    after l.progress.values (at_fields inner l.place l.number (fields_of (drop l.number l.keys)) (table_view l.table) l.progress.positions)
+    ≡ after l.fn.progress.values (at_fields inner l.place 0 (fields_of l.keys) (table_view l.table) l.fn.progress.positions)
 
 abbrev pub decreases-push_table-loop-number : goal.decreases-push_table-loop-number
 decreases-push_table-loop-number l = length l.keys - l.number
@@ -16,11 +16,11 @@ decreases-push_table-loop-number l = length l.keys - l.number
 abbrev pub invariant-push_elements-loop-index : goal.invariant-push_elements-loop-index
 invariant-push_elements-loop-index l =
     let inner = table_walked (schema_of l.schema) l.depth in
-    after l.progress.items (elements inner l.at l.table (items_view (drop l.index l.values)) l.progress.positions)
-    ≡ after l.fn.progress.items (elements inner l.at l.table (items_view l.values) l.fn.progress.positions)
+    after l.progress.values (elements inner l.at l.table (items_view (drop l.index l.nodes)) l.progress.positions)
+    ≡ after l.fn.progress.values (elements inner l.at l.table (items_view l.nodes) l.fn.progress.positions)
 
 abbrev pub decreases-push_elements-loop-index : goal.decreases-push_elements-loop-index
-decreases-push_elements-loop-index l = length l.values - l.index
+decreases-push_elements-loop-index l = length l.nodes - l.index
 
 abbrev pub decreases-push_table : goal.decreases-push_table
 decreases-push_table l = 5 * l.depth
@@ -28,8 +28,8 @@ decreases-push_table l = 5 * l.depth
 abbrev pub decreases-push_key : goal.decreases-push_key
 decreases-push_key l = 5 * l.depth + 4
 
-abbrev pub decreases-push_value : goal.decreases-push_value
-decreases-push_value l = 5 * l.depth + 3
+abbrev pub decreases-push_node : goal.decreases-push_node
+decreases-push_node l = 5 * l.depth + 3
 
 abbrev pub decreases-push_elements : goal.decreases-push_elements
 decreases-push_elements l = 5 * l.depth + 2

@@ -7,9 +7,9 @@ pub returns : goal.returns
 unfolding list_of
 returns g c =
     rw (← c.take_count-count.ensures.value, ← c.take_count-count.ensures.rest)
-    (all_taken g.T.Part.value g.T.Part.size _ c.loop.list c.loop.items _ c.loop.invariant (omega arith))
+    (all_taken g.T.Part.make g.T.Part.size _ c.loop.list c.loop.values _ c.loop.invariant (omega arith))
 
 pub loop-preserved : goal.loop-preserved
 loop-preserved g c =
     rw (c.in_ok-push.ensures.ok, c.take.ensures.part, c.take.ensures.left)
-    (next_part g.T.Part.value g.T.Part.size c.take_count-count.result c.loop.counter c.loop.list c.loop.items c.loop-test.true ∙ c.loop.invariant)
+    (next_part g.T.Part.make g.T.Part.size c.take_count-count.result c.loop.counter c.loop.list c.loop.values c.loop-test.true ∙ c.loop.invariant)

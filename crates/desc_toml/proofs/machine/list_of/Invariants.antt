@@ -5,4 +5,4 @@ use Rattle.desc_toml.proofs.machine.list_of.Given as goal
 
 abbrev pub invariant-loop : goal.invariant-loop
 invariant-loop g l =
-    with_left g.T.Part.value g.T.Part.size (l.count - l.counter) l.list l.items ≡ each_of g.T.Part.value g.T.Part.size l.count l.initial.items
+    with_left g.T.Part.make g.T.Part.size (l.count - l.counter) l.list l.values ≡ each_of g.T.Part.make g.T.Part.size l.count l.initial.values

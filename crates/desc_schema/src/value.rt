@@ -8,7 +8,7 @@ use vt_outside::{OutOfMemory, Text};
 
 /// Holds one of the values that a walk gives.
 #[derive(Debug, Drop)]
-pub enum Item {
+pub enum Value {
     /// A text's bytes.
     Text(Text),
     /// An integer.
@@ -27,35 +27,35 @@ pub enum Item {
 
 /// Holds values in order, of which the first is taken out. Contracts see the list of them.
 #[derive(Debug, Drop)]
-pub struct Items {
-    items: VecDeque<Item>,
+pub struct Values {
+    values: VecDeque<Value>,
 }
 
-impl Model for Items {
+impl Model for Values {
     ghost use Rattle.std.specs.Prelude.{List};
-    ghost use Rattle.desc_schema.specs.declared.item.Item.{Item as AnItem};
+    ghost use Rattle.desc_schema.specs.declared.value.Value.{Value as AValue};
 
-    ghost Value = { List AnItem };
+    ghost Value = { List AValue };
 
-    ghost view = { λ i. i.items.items };
+    ghost view = { λ v. v.values.items };
 }
 
-impl Items {
+impl Values {
     /// Makes an empty list, which will take its memory from `alloc`. It takes none yet, so it can't fail.
-    pub fn new(alloc: Global) -> Items
+    pub fn new(alloc: Global) -> Values
         ensures { result ≡ [] }
     {
-        Items {
-            items: VecDeque::new(alloc),
+        Values {
+            values: VecDeque::new(alloc),
         }
     }
 
-    /// Adds `item` at the end. On `OutOfMemory` it isn't added, and the list is what it was.
-    pub fn push(&mut self, item: Item) -> Result<(), OutOfMemory>
-        ensures ok { OnOk result (self.new ≡ self.old ++ item ∷ []) }
+    /// Adds `value` at the end. On `OutOfMemory` it isn't added, and the list is what it was.
+    pub fn push(&mut self, value: Value) -> Result<(), OutOfMemory>
+        ensures ok { OnOk result (self.new ≡ self.old ++ value ∷ []) }
         ensures err { OnErr result (self.new ≡ self.old) }
     {
-        self.items.push_back(item)?;
+        self.values.push_back(value)?;
         Ok(())
     }
 
@@ -63,14 +63,14 @@ impl Items {
     pub fn len(&self) -> usize
         ensures { result ≡ length self.now }
     {
-        self.items.len()
+        self.values.len()
     }
 
-    /// Takes the first value out and returns it, or `Item::Nothing` where none is left.
-    pub fn take_first(&mut self) -> Item
+    /// Takes the first value out and returns it, or `Value::Nothing` where none is left.
+    pub fn take_first(&mut self) -> Value
         ensures first { result ≡ first self.old }
         ensures rest { self.new ≡ rest self.old }
     {
-        self.items.pop_front().unwrap_or(Item::Nothing)
+        self.values.pop_front().unwrap_or(Value::Nothing)
     }
 }
