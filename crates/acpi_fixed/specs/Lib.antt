@@ -1,9 +1,5 @@
-pub mod Tables
-pub use Rattle.vt_outside.specs.Name
-pub use Rattle.vt_bytes.specs.View
-pub use Rattle.vt_layout.specs.Shown
 pub use Rattle.machine_desc.specs.Rules
-pub use Rattle.table_model.specs.Acpi
+pub use Rattle.acpi_model.specs.Header
+pub use Rattle.acpi_model.specs.Hpet
 pub use Rattle.blob_holes.specs.Blob
-pub use Rattle.blob_holes.specs.Grown
-pub use Rattle.blob_holes.specs.Held
+pub use Rattle.acpi_append.specs.Tables

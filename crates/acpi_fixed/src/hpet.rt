@@ -1,14 +1,14 @@
 ghost use Rattle.std.specs.Prelude.{◌≡◌, ◌<◌, ◌^◌, length, IfOk, OnOk, IsSome, IsSomeAnd};
 ghost use Rattle.machine_desc.specs.Rules.{IsAccepted};
-ghost use Rattle.table_model.specs.Hpet.{hpet_of};
-ghost use Rattle.table_model.specs.declared.acpi.Table.TheVariants.{Hpet};
+ghost use Rattle.acpi_model.specs.Hpet.{hpet_of};
+ghost use Rattle.acpi_model.specs.declared.acpi.Table.TheVariants.{Hpet};
 ghost use Rattle.blob_holes.specs.Blob.{next_place};
-ghost use Rattle.acpi_fixed.specs.Tables.{IsTablePut};
+ghost use Rattle.acpi_append.specs.Tables.{IsTablePut};
 
-use crate::table::put_table;
+use acpi_append::put_table;
+use acpi_model::{Table, hpet_of};
 use blob_holes::Blob;
 use machine_desc::Machine;
-use table_model::{Table, hpet_of};
 use vt_outside::OutOfMemory;
 
 /// Appends the HPET table of `machine`, which is accepted and has one, to `blob` at the next multiple of 16, and returns its

@@ -1,12 +1,12 @@
 ghost use Rattle.std.specs.Prelude.{◌<◌, ◌^◌, length, OnOk, IsSome, IsSomeAnd};
 ghost use Rattle.machine_desc.specs.Rules.{IsAccepted};
-ghost use Rattle.table_model.specs.Header.{padded};
-ghost use Rattle.acpi_fixed.specs.Tables.{IsRsdpPut};
+ghost use Rattle.acpi_model.specs.Header.{padded};
+ghost use Rattle.acpi_append.specs.Tables.{IsRsdpPut};
 
-use crate::table::{ALIGN, table_pointer};
-use blob_holes::{Blob, append_layout};
+use acpi_append::put_rsdp;
+use acpi_model::head_of;
+use blob_holes::Blob;
 use machine_desc::Machine;
-use table_model::{head_of, rsdp_rows};
 use vt_outside::OutOfMemory;
 
 /// Appends the RSDP of `machine`, which is accepted and has ACPI tables, to `blob` at the next multiple of 16. `xsdt` is the
@@ -25,15 +25,4 @@ pub fn append_rsdp(blob: &mut Blob, machine: &Machine, xsdt: u32) -> Result<(), 
         unreachable!()
     };
     put_rsdp(blob, &head_of(acpi, 1).oem_id, xsdt)
-}
-
-/// Appends the RSDP with the maker's id `oem_id` to `blob` at the next multiple of 16. `xsdt` is the offset of the XSDT in the
-/// file `TABLES_FILE`, in bytes. `blob` has less than 2 GiB before. Returns `OutOfMemory` when memory runs out; what `blob`
-/// then holds is unspecified.
-pub fn put_rsdp(blob: &mut Blob, oem_id: &[u8; 6], xsdt: u32) -> Result<(), OutOfMemory>
-    requires short { length blob.old.bytes < 2 ^ 31 }
-    ensures { OnOk result (IsRsdpPut blob.old blob.new oem_id.now xsdt) }
-{
-    append_layout(blob, ALIGN, &rsdp_rows(oem_id, table_pointer(xsdt)), &[])?;
-    Ok(())
 }

@@ -1,16 +1,14 @@
-ghost use Rattle.std.specs.Prelude.{◌≡◌, ◌+◌, ◌*◌, ◌<◌, ◌≤◌, ◌^◌, length, map, IfOk, OnOk, IsSome, IsSomeAnd};
+ghost use Rattle.std.specs.Prelude.{◌≡◌, ◌+◌, ◌*◌, ◌<◌, ◌≤◌, ◌^◌, length, IfOk, OnOk, IsSome, IsSomeAnd};
 ghost use Rattle.machine_desc.specs.Rules.{IsAccepted};
-ghost use Rattle.table_model.specs.Header.{head_of};
+ghost use Rattle.acpi_model.specs.Header.{head_of};
 ghost use Rattle.blob_holes.specs.Blob.{next_place};
-ghost use Rattle.acpi_fixed.specs.Tables.{IsXsdtPut, table_pointer};
+ghost use Rattle.acpi_append.specs.Tables.{IsXsdtPut};
 
-use crate::table::{append_table, table_pointer};
+use acpi_append::put_xsdt;
+use acpi_model::head_of;
 use blob_holes::Blob;
 use machine_desc::Machine;
-use std::alloc::Global;
-use table_model::{Head, head_of};
-use vt_layout::Row;
-use vt_outside::{List, OutOfMemory};
+use vt_outside::OutOfMemory;
 
 /// Appends the XSDT of `machine`, which is accepted and has ACPI tables, to `blob` at the next multiple of 16, and returns its
 /// offset in bytes. Its entries are `tables`, at most 256 offsets of tables in the file `TABLES_FILE`, in bytes. `blob` has
@@ -33,29 +31,4 @@ pub fn append_xsdt(blob: &mut Blob, machine: &Machine, tables: &[u32]) -> Result
         unreachable!()
     };
     put_xsdt(blob, &head_of(acpi, 1), tables)
-}
-
-/// Appends the XSDT with the header `head` to `blob` at the next multiple of 16, and returns its offset in bytes. Its entries
-/// are `tables`, at most 256 offsets of tables in the file `TABLES_FILE`, in bytes. `blob` has less than 2 GiB before. Returns
-/// `OutOfMemory` when memory runs out; what `blob` then holds is unspecified.
-pub fn put_xsdt(blob: &mut Blob, head: &Head, tables: &[u32]) -> Result<u32, OutOfMemory>
-    requires short { length blob.old.bytes < 2 ^ 31 }
-    requires few { length tables.now ≤ 256 }
-    ensures place { IfOk result (λ place. place ≡ next_place 16 blob.old) }
-    ensures size { OnOk result (length blob.new.bytes ≡ next_place 16 blob.old + (36 + 8 * length tables.now)) }
-    ensures put { OnOk result (IsXsdtPut blob.old blob.new head.now tables.now) }
-{
-    let entries = entries_of(blob.alloc(), tables)?;
-    append_table(blob, b"XSDT", head, entries.as_slice())
-}
-
-// The entries of tables that stand at these offsets of their file.
-fn entries_of(alloc: Global, tables: &[u32]) -> Result<List<Row>, OutOfMemory>
-    ensures { IfOk result (λ entries. entries ≡ map table_pointer tables.now) }
-{
-    let mut entries = List::new(alloc);
-    for table in tables {
-        entries.push(table_pointer(*table))?;
-    }
-    Ok(entries)
 }

@@ -8,8 +8,8 @@ use Rattle.vt_bytes.specs.View.{View, bytes_in, number_in}
 use Rattle.vt_bytes.specs.Memory.{Memory, IsRamRange, bytes_at, seen}
 use Rattle.vt_bytes.proofs.Views.{bytes_in-part}
 use Rattle.vt_bytes.proofs.Seen.{bytes_in-seen}
-use Rattle.table_model.specs.declared.anchor.Anchor.{Anchor}
-use Rattle.table_model.specs.Anchor.{IsAnchor, HasAnchor}
+use Rattle.smbios_model.specs.declared.anchor.Anchor.{Anchor}
+use Rattle.smbios_model.specs.Anchor.{IsAnchor, HasAnchor}
 use Rattle.anchor_scan.specs.Found.{HasMark, HasNumbers}
 
 -- what ends below 1 MiB, where anchors may stand, is RAM

@@ -5,7 +5,7 @@ use Rattle.std.proofs.Math.Seq.{take-append_seam}
 use Rattle.vt_bytes.specs.View.{bytes_in}
 use Rattle.vt_bytes.specs.Memory.{Memory, IsRam, IsRamRange, bytes_at, seen}
 use Rattle.vt_bytes.proofs.Seen.{bytes_in-seen, seen-none}
-use Rattle.table_model.specs.Anchor.{IsRange}
+use Rattle.smbios_model.specs.Anchor.{IsRange}
 
 -- bytes that are written over all of a list are what it then has
 pub written_whole : (bytes items : List ℕ) (len : ℕ) → len ≡ length bytes → take len (bytes ++ drop (length bytes) items) ≡ bytes

@@ -1,12 +1,12 @@
 -- What a memory shows where its least anchor leads to bytes that are read, or refused.
 use Rattle.std.proofs.Common.{◌≡◌, ℕ, ◌++◌, inl, inr, List, Option, Result, Ok, Err, refl, ap, subst, sym, ◌∙◌, ⊎_elim}
 use Rattle.vt_bytes.specs.View.{View}
-use Rattle.table_model.specs.declared.anchor.Anchor.{Anchor}
-use Rattle.table_model.specs.declared.smbios.Structure.{Structure}
-use Rattle.table_model.specs.declared.smbios.SmbiosTable.{SmbiosTable}
-use Rattle.table_model.specs.Anchor.{IsRange}
-use Rattle.table_model.specs.Smbios.{ShowsSmbios}
-use Rattle.table_model.proofs.OneSmbios.{Leads, leads_of, one_leads, same_table}
+use Rattle.smbios_model.specs.declared.anchor.Anchor.{Anchor}
+use Rattle.smbios_model.specs.declared.smbios.Structure.{Structure}
+use Rattle.smbios_model.specs.declared.smbios.SmbiosTable.{SmbiosTable}
+use Rattle.smbios_model.specs.Anchor.{IsRange}
+use Rattle.smbios_model.specs.Smbios.{ShowsSmbios}
+use Rattle.smbios_model.proofs.OneSmbios.{Leads, leads_of, one_leads, same_table}
 use Rattle.smbios_decode.specs.declared.fault.SmbiosFault.{SmbiosFault}
 use Rattle.smbios_decode.specs.declared.fault.SmbiosFault.TheVariants.{OutOfMemory}
 use Rattle.smbios_decode.specs.Faults.{IsRead, IsRefused, OrNoMemory}

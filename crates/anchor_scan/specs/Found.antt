@@ -3,8 +3,8 @@ use Rattle.std.specs.Prelude.{◌≡◌, ℕ, ◌+◌, drop, codes, Some}
 use Rattle.vt_bytes.specs.View.{View, bytes_in}
 use Rattle.vt_layout.specs.declared.row.Row.TheVariants.{Number}
 use Rattle.vt_layout.specs.Shown.{Shown}
-use Rattle.table_model.specs.declared.anchor.Anchor.{Anchor}
-use Rattle.table_model.specs.Anchor.{anchor_rows}
+use Rattle.smbios_model.specs.declared.anchor.Anchor.{Anchor}
+use Rattle.smbios_model.specs.Anchor.{anchor_rows}
 
 -- the mark of an anchor stands at the address
 abbrev pub HasMark : View → ℕ → Type 0

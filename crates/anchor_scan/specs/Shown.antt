@@ -1,9 +1,9 @@
 -- What a memory shows from its anchors, or the first fault (DMTF DSP0134, version 3.0.0, 5.2.2).
 use Rattle.std.specs.Prelude.{◌≡◌, ℕ, ◌<◌, ◌⊎◌, List, Option, Result, Err}
 use Rattle.vt_bytes.specs.View.{View}
-use Rattle.table_model.specs.declared.anchor.Anchor.{Anchor}
-use Rattle.table_model.specs.declared.smbios.SmbiosTable.{SmbiosTable}
-use Rattle.table_model.specs.Anchor.{IsAnchor, HasAnchor, IsRange}
+use Rattle.smbios_model.specs.declared.anchor.Anchor.{Anchor}
+use Rattle.smbios_model.specs.declared.smbios.SmbiosTable.{SmbiosTable}
+use Rattle.smbios_model.specs.Anchor.{IsAnchor, HasAnchor, IsRange}
 use Rattle.smbios_decode.specs.declared.fault.SmbiosFault.{SmbiosFault}
 use Rattle.smbios_decode.specs.declared.fault.SmbiosFault.TheVariants.{OutOfMemory}
 use Rattle.smbios_decode.specs.Faults.{IsRefused}

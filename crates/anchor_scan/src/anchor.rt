@@ -1,11 +1,11 @@
 ghost use Rattle.std.specs.Prelude.{◌≡◌, ◌%◌, ◌<◌, ◌≤◌, ◌↔◌, None, IsTrue, IfSome};
 ghost use Rattle.vt_bytes.specs.Memory.{IsRamRange, seen};
-ghost use Rattle.table_model.specs.Anchor.{HasAnchor};
+ghost use Rattle.smbios_model.specs.Anchor.{HasAnchor};
 ghost use Rattle.anchor_scan.specs.Shown.{HasNoAnchor, IsFirstAnchor};
 ghost use Rattle.anchor_scan.specs.Found.{HasMark, HasNumbers};
 
 use guest_memory::GuestMemory;
-use table_model::{Anchor, anchor_of, anchor_rows};
+use smbios_model::{Anchor, anchor_of, anchor_rows};
 use vt_layout::{Row, read_u8, read_u32, read_u64};
 
 // Where anchors may stand: on a multiple of 16 from 0xF0000 on, up to the end of the first MiB (DSP0134 5.2.2).

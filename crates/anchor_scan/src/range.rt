@@ -1,6 +1,6 @@
 ghost use Rattle.std.specs.Prelude.{◌≡◌, ◌+◌, IfOk, find};
 ghost use Rattle.vt_bytes.specs.Memory.{IsTop, IsRam, IsRamRange, ram_ranges, is_in, seen};
-ghost use Rattle.table_model.specs.Anchor.{IsRange};
+ghost use Rattle.smbios_model.specs.Anchor.{IsRange};
 
 use guest_memory::{GuestMemory, ram_ranges};
 use std::alloc::Global;

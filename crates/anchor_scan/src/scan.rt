@@ -1,7 +1,7 @@
 ghost use Rattle.std.specs.Prelude.{◌≡◌, ◌⊎◌, ◌↔◌, None, Some, Ok, Err, IfOk, IfErr, IfSome};
 ghost use Rattle.vt_bytes.specs.Memory.{seen};
-ghost use Rattle.table_model.specs.declared.smbios.SmbiosTable.{SmbiosTable};
-ghost use Rattle.table_model.specs.Smbios.{ShowsSmbios};
+ghost use Rattle.smbios_model.specs.declared.smbios.SmbiosTable.{SmbiosTable};
+ghost use Rattle.smbios_model.specs.Smbios.{ShowsSmbios};
 ghost use Rattle.smbios_decode.specs.declared.fault.SmbiosFault.{SmbiosFault};
 ghost use Rattle.smbios_decode.specs.declared.fault.SmbiosFault.TheVariants.{OutOfMemory as NoMemory};
 ghost use Rattle.anchor_scan.specs.Shown.{HasNoAnchor, RefusesSmbios, OrNoMemory};
@@ -10,8 +10,8 @@ use crate::anchor::{find_smbios, read_anchor};
 use crate::range::range_from;
 use guest_memory::GuestMemory;
 use smbios_decode::{SmbiosFault, decode_table};
+use smbios_model::SmbiosTable;
 use std::alloc::Global;
-use table_model::SmbiosTable;
 
 /// Reads the SMBIOS table of `memory` from its anchor (DSP0134 5.2.2): the structures in the bytes from the address on that the
 /// anchor tells, as many as its maximum size says and as are RAM without a gap. What is read takes its memory from `alloc`, and so

@@ -13,23 +13,23 @@ use Rattle.machine_desc.specs.declared.smbios_parts.MemRange.{MemRange}
 use Rattle.machine_desc.specs.declared.smbios_parts.Firmware.{Firmware}
 use Rattle.machine_desc.specs.declared.smbios_parts.Chassis.{Chassis as ChassisPart}
 use Rattle.machine_desc.specs.Rules.{is_text, firmware_texts, chassis_texts, socket_texts, dimm_texts, slot_texts, IsAccepted}
-use Rattle.table_model.specs.declared.smbios.Body.{Body}
-use Rattle.table_model.specs.declared.smbios.Body.TheVariants.{Bios, Chassis, Processor, Slot, OemStrings, Array, Device, Mapped, Boot, End}
-use Rattle.table_model.specs.declared.smbios.Structure.{Structure}
-use Rattle.table_model.specs.BiosInformation.{bios_of}
-use Rattle.table_model.specs.ChassisInformation.{chassis_of}
-use Rattle.table_model.specs.ProcessorInformation.{processor_of}
-use Rattle.table_model.specs.SlotInformation.{slot_of}
-use Rattle.table_model.specs.MemoryArray.{array_of}
-use Rattle.table_model.specs.MemoryDevice.{device_of}
-use Rattle.table_model.specs.MappedAddress.{mapped_of}
-use Rattle.table_model.specs.BootInformation.{boot_info}
-use Rattle.table_model.specs.Structures.{number_of}
-use Rattle.table_model.specs.MachineStructures.{Part, with_handles, structures_in, if_given, if_some, structures_of}
-use Rattle.table_model.specs.MachineStructures.{bios_part, system_part, chassis_part, processor_part, slot_part, oem_strings_part}
-use Rattle.table_model.specs.MachineStructures.{array_part, device_part, mapped_part, boot_part, end_part}
-use Rattle.table_model.proofs.AcceptedParts.{HasLawfulParts, lawful_parts}
-use Rattle.table_model.proofs.PartsByType.{AreOf, are_typed}
+use Rattle.smbios_model.specs.declared.smbios.Body.{Body}
+use Rattle.smbios_model.specs.declared.smbios.Body.TheVariants.{Bios, Chassis, Processor, Slot, OemStrings, Array, Device, Mapped, Boot, End}
+use Rattle.smbios_model.specs.declared.smbios.Structure.{Structure}
+use Rattle.smbios_model.specs.BiosInformation.{bios_of}
+use Rattle.smbios_model.specs.ChassisInformation.{chassis_of}
+use Rattle.smbios_model.specs.ProcessorInformation.{processor_of}
+use Rattle.smbios_model.specs.SlotInformation.{slot_of}
+use Rattle.smbios_model.specs.MemoryArray.{array_of}
+use Rattle.smbios_model.specs.MemoryDevice.{device_of}
+use Rattle.smbios_model.specs.MappedAddress.{mapped_of}
+use Rattle.smbios_model.specs.BootInformation.{boot_info}
+use Rattle.smbios_model.specs.Structures.{number_of}
+use Rattle.smbios_model.specs.MachineStructures.{Part, with_handles, structures_in, if_given, if_some, structures_of}
+use Rattle.smbios_model.specs.MachineStructures.{bios_part, system_part, chassis_part, processor_part, slot_part, oem_strings_part}
+use Rattle.smbios_model.specs.MachineStructures.{array_part, device_part, mapped_part, boot_part, end_part}
+use Rattle.smbios_model.proofs.AcceptedParts.{HasLawfulParts, lawful_parts}
+use Rattle.smbios_model.proofs.PartsByType.{AreOf, are_typed}
 use Rattle.smbios_build.specs.Spelling.{structure_bytes, structures_bytes}
 use Rattle.smbios_build.specs.Buildable.{IsBuildable, AreBuildable}
 use Rattle.smbios_build.proofs.AcceptedTexts.{HasLawfulTexts, lawful_texts}

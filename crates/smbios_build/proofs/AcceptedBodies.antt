@@ -14,22 +14,22 @@ use Rattle.machine_desc.specs.declared.smbios_parts.MemRange.{MemRange}
 use Rattle.machine_desc.specs.declared.smbios_parts.Firmware.{Firmware}
 use Rattle.machine_desc.specs.declared.smbios_parts.Chassis.{Chassis as ChassisPart}
 use Rattle.machine_desc.specs.Rules.{is_text, is_some_text, firmware_texts, chassis_texts, socket_texts, dimm_texts, slot_texts, system_texts}
-use Rattle.table_model.specs.declared.smbios.Body.{Body}
-use Rattle.table_model.specs.declared.smbios.Body.TheVariants.{Bios, System, Chassis, Processor, Slot, OemStrings, Array, Device, Mapped, Boot}
-use Rattle.table_model.specs.Strings.{HasNoNul, IsString, numbers_from, strings_of}
-use Rattle.table_model.specs.Numbered.{numbered}
-use Rattle.table_model.specs.BiosInformation.{bios_of}
-use Rattle.table_model.specs.SystemInformation.{uuid_field, system_of}
-use Rattle.table_model.specs.ChassisInformation.{chassis_of}
-use Rattle.table_model.specs.ProcessorInformation.{processor_of}
-use Rattle.table_model.specs.SlotInformation.{slot_of}
-use Rattle.table_model.specs.MemoryArray.{array_of}
-use Rattle.table_model.specs.MemoryDevice.{device_of}
-use Rattle.table_model.specs.MappedAddress.{mapped_of}
-use Rattle.table_model.specs.BootInformation.{boot_info}
-use Rattle.table_model.specs.Structures.{layout_of, number_of}
-use Rattle.table_model.specs.MachineStructures.{if_given, if_some}
-use Rattle.table_model.proofs.WrittenAreas.{each_string}
+use Rattle.smbios_model.specs.declared.smbios.Body.{Body}
+use Rattle.smbios_model.specs.declared.smbios.Body.TheVariants.{Bios, System, Chassis, Processor, Slot, OemStrings, Array, Device, Mapped, Boot}
+use Rattle.vt_layout.specs.Strings.{HasNoNul, IsString, numbers_from, strings_of}
+use Rattle.vt_layout.specs.Numbered.{numbered}
+use Rattle.smbios_model.specs.BiosInformation.{bios_of}
+use Rattle.smbios_model.specs.SystemInformation.{uuid_field, system_of}
+use Rattle.smbios_model.specs.ChassisInformation.{chassis_of}
+use Rattle.smbios_model.specs.ProcessorInformation.{processor_of}
+use Rattle.smbios_model.specs.SlotInformation.{slot_of}
+use Rattle.smbios_model.specs.MemoryArray.{array_of}
+use Rattle.smbios_model.specs.MemoryDevice.{device_of}
+use Rattle.smbios_model.specs.MappedAddress.{mapped_of}
+use Rattle.smbios_model.specs.BootInformation.{boot_info}
+use Rattle.smbios_model.specs.Structures.{layout_of, number_of}
+use Rattle.smbios_model.specs.MachineStructures.{if_given, if_some}
+use Rattle.vt_layout.proofs.NamedTexts.{each_string}
 use Rattle.smbios_build.specs.Spelling.{layout_bytes}
 use Rattle.smbios_build.specs.Buildable.{IsBuildable}
 use Rattle.smbios_build.proofs.FilledRows.{IsFilled, length-area}

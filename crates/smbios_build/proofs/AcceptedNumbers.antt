@@ -22,21 +22,21 @@ use Rattle.machine_desc.specs.Rules.{breach_of, breaches, IsAccepted}
 use Rattle.machine_desc.specs.Fields.{IsFittingFirmware, IsFittingSocket, IsFittingSlot, HasFittingFields}
 use Rattle.machine_desc.proofs.Kept.{each_is_kept}
 use Rattle.machine_desc.proofs.Passing.{all_pass}
-use Rattle.table_model.specs.declared.smbios.Body.{Body}
-use Rattle.table_model.specs.declared.smbios.Body.TheVariants.{Bios, System, Chassis, Processor, Slot, OemStrings, Array, Device, Mapped, Boot}
-use Rattle.table_model.specs.BiosInformation.{bios_of}
-use Rattle.table_model.specs.SystemInformation.{uuid_field, system_of}
-use Rattle.table_model.specs.ChassisInformation.{chassis_of}
-use Rattle.table_model.specs.ProcessorInformation.{count_byte, processor_of}
-use Rattle.table_model.specs.SlotInformation.{slot_of}
-use Rattle.table_model.specs.MemoryArray.{total_mib, capacity_of, extended_of, array_of}
-use Rattle.table_model.specs.MemoryDevice.{size_field, extended_field, device_of}
-use Rattle.table_model.specs.MappedAddress.{in_kib, in_bytes, mapped_of}
-use Rattle.table_model.specs.BootInformation.{boot_info}
-use Rattle.table_model.specs.Structures.{layout_of}
-use Rattle.table_model.specs.Smbios.{AreStructures}
-use Rattle.table_model.specs.MachineStructures.{Part, with_handles, structures_in, if_given, if_some, parts_of, structures_of}
-use Rattle.table_model.proofs.AcceptedParts.{HasLawfulParts, lawful_parts}
+use Rattle.smbios_model.specs.declared.smbios.Body.{Body}
+use Rattle.smbios_model.specs.declared.smbios.Body.TheVariants.{Bios, System, Chassis, Processor, Slot, OemStrings, Array, Device, Mapped, Boot}
+use Rattle.smbios_model.specs.BiosInformation.{bios_of}
+use Rattle.smbios_model.specs.SystemInformation.{uuid_field, system_of}
+use Rattle.smbios_model.specs.ChassisInformation.{chassis_of}
+use Rattle.smbios_model.specs.ProcessorInformation.{count_byte, processor_of}
+use Rattle.smbios_model.specs.SlotInformation.{slot_of}
+use Rattle.smbios_model.specs.MemoryArray.{total_mib, capacity_of, extended_of, array_of}
+use Rattle.smbios_model.specs.MemoryDevice.{size_field, extended_field, device_of}
+use Rattle.smbios_model.specs.MappedAddress.{in_kib, in_bytes, mapped_of}
+use Rattle.smbios_model.specs.BootInformation.{boot_info}
+use Rattle.smbios_model.specs.Structures.{layout_of}
+use Rattle.smbios_model.specs.Smbios.{AreStructures}
+use Rattle.smbios_model.specs.MachineStructures.{Part, with_handles, structures_in, if_given, if_some, parts_of, structures_of}
+use Rattle.smbios_model.proofs.AcceptedParts.{HasLawfulParts, lawful_parts}
 use Rattle.smbios_build.specs.Spelling.{structures_bytes}
 use Rattle.smbios_build.specs.Buildable.{HasFittingNumbers}
 use Rattle.smbios_build.proofs.Accepted.{HasFewStructures, few_structures, accepted_buildable}

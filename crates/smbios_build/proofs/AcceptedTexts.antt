@@ -11,7 +11,7 @@ use Rattle.machine_desc.specs.Rules.{is_text, only_at, texts_of, system_texts, f
 use Rattle.machine_desc.specs.Rules.{acpi_texts, breaches, IsAccepted}
 use Rattle.machine_desc.proofs.Kept.{each_is_kept}
 use Rattle.machine_desc.proofs.AllTexts.{texts_by_part}
-use Rattle.table_model.specs.Strings.{HasNoNul, strings_of, with_nuls}
+use Rattle.vt_layout.specs.Strings.{HasNoNul, strings_of, with_nuls}
 
 pub record HasLawfulTexts (m : Machine) : Type 0 where
   pub oem_strings : list_all is_text m.oem_strings ≡ true

@@ -9,17 +9,17 @@ use Rattle.vt_bytes.specs.Numbers.{le_bytes}
 use Rattle.vt_layout.specs.declared.row.Row.{Row}
 use Rattle.vt_layout.specs.declared.row.Row.TheVariants.{Bytes}
 use Rattle.vt_layout.specs.Rows.{IsRow, size, spelled}
-use Rattle.table_model.specs.declared.smbios.Body.{Body}
-use Rattle.table_model.specs.declared.smbios.Body.TheVariants.{Raw}
-use Rattle.table_model.specs.declared.smbios.Structure.{Structure}
-use Rattle.table_model.specs.Strings.{HasNoNul, IsString, with_nuls, string_set, numbers_from, strings_of}
-use Rattle.table_model.specs.Numbered.{numbered}
-use Rattle.table_model.specs.Structures.{layout_of}
-use Rattle.table_model.proofs.WrittenBodies.{length-numbered}
-use Rattle.table_model.specs.Smbios.{formatted}
+use Rattle.smbios_model.specs.declared.smbios.Body.{Body}
+use Rattle.smbios_model.specs.declared.smbios.Body.TheVariants.{Raw}
+use Rattle.smbios_model.specs.declared.smbios.Structure.{Structure}
+use Rattle.vt_layout.specs.Strings.{HasNoNul, IsString, with_nuls, string_set, numbers_from, strings_of}
+use Rattle.vt_layout.specs.Numbered.{numbered}
+use Rattle.smbios_model.specs.Structures.{layout_of}
+use Rattle.smbios_model.proofs.WrittenBodies.{length-numbered}
+use Rattle.smbios_model.specs.Smbios.{formatted}
 use Rattle.smbios_build.specs.Spelling.{layout_bytes, structure_bytes, structures_bytes}
 use Rattle.smbios_build.specs.Buildable.{IsRaw, IsBuildable}
-use Rattle.table_model.proofs.WrittenAreas.{each_string}
+use Rattle.vt_layout.proofs.NamedTexts.{each_string}
 use Rattle.smbios_build.proofs.Texts.{strings_of-strings}
 
 -- a structure has its header, its area, and its strings

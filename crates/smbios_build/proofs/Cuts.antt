@@ -6,7 +6,7 @@ use Rattle.std.proofs.lemmas.Bool.{and_parts, cond-false, not-true, not_from_fal
 use Rattle.std.proofs.lemmas.Bool.Decides.{nat_tests}
 use Rattle.std.proofs.lemmas.List.{flat_map_more}
 use Rattle.vt_bytes.proofs.Each.{each_push}
-use Rattle.table_model.specs.Strings.{HasNoNul, with_nuls, strings_of}
+use Rattle.vt_layout.specs.Strings.{HasNoNul, with_nuls, strings_of}
 use Rattle.smbios_build.specs.Cut.{with_first, cut_at_nuls, AreStringsIn}
 
 -- a string is cut off the front of bytes

@@ -9,8 +9,8 @@ use Rattle.vt_bytes.proofs.Numbers.{length-le_bytes}
 use Rattle.vt_layout.specs.declared.row.Row.{Row}
 use Rattle.vt_layout.specs.declared.row.Row.TheVariants.{Number, BigEndian, Bytes, Named, StringNumber, AtLeast, Ignored, Reserved, Pointer, Sum}
 use Rattle.vt_layout.specs.Rows.{width_of, bytes_of, size, spelled}
-use Rattle.table_model.specs.Numbered.{numbered}
-use Rattle.table_model.proofs.Numbered.{size-numbered}
+use Rattle.vt_layout.specs.Numbered.{numbered}
+use Rattle.vt_layout.proofs.NumberedRows.{size-numbered}
 
 -- Bytes fill their row, and a name is one. A number, whatever it is, is written in as many bytes as its row has.
 abbrev pub IsFilled : Row → Type 0

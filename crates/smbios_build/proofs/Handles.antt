@@ -3,10 +3,10 @@ use Rattle.std.proofs.Common.{◌≡◌, ℕ, zero, suc, ◌+◌, ◌≤◌, Lis
 use Rattle.std.specs.List.{slice_get, flat_map}
 use Rattle.machine_desc.specs.declared.machine.Machine.{Machine}
 use Rattle.machine_desc.specs.Rules.{IsAccepted}
-use Rattle.table_model.specs.declared.smbios.Body.{Body}
-use Rattle.table_model.specs.declared.smbios.Structure.{Structure}
-use Rattle.table_model.specs.MachineStructures.{Part, with_handles, structures_in, parts_of, structures_of}
-use Rattle.table_model.proofs.AcceptedParts.{lawful_parts}
+use Rattle.smbios_model.specs.declared.smbios.Body.{Body}
+use Rattle.smbios_model.specs.declared.smbios.Structure.{Structure}
+use Rattle.smbios_model.specs.MachineStructures.{Part, with_handles, structures_in, parts_of, structures_of}
+use Rattle.smbios_model.proofs.AcceptedParts.{lawful_parts}
 use Rattle.smbios_build.proofs.Accepted.{HasFewStructures, few_structures}
 
 -- handles that ascend, from one on

@@ -7,8 +7,8 @@ use Rattle.vt_layout.specs.declared.row.Row.{Row}
 use Rattle.vt_layout.specs.declared.row.Row.TheVariants.{StringNumber}
 use Rattle.vt_layout.specs.Rows.{spelled, string_numbers}
 use Rattle.vt_layout.proofs.Sizes.{spelled-append}
-use Rattle.table_model.specs.Strings.{numbers_from, strings_of}
-use Rattle.table_model.specs.Numbered.{numbered}
+use Rattle.vt_layout.specs.Strings.{numbers_from, strings_of}
+use Rattle.vt_layout.specs.Numbered.{numbered}
 
 -- the numbers of the texts behind the first one, which is empty or not
 numbers_behind : (empty : Bool) (next : ℕ) (text : List ℕ) (texts : List (List ℕ))

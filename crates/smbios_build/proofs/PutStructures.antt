@@ -11,14 +11,14 @@ use Rattle.vt_layout.specs.declared.row.Row.TheVariants.{StringNumber}
 use Rattle.vt_layout.specs.Rows.{IsRow, spelled, string_numbers}
 use Rattle.vt_layout.proofs.Sizes.{length-spelled}
 use Rattle.vt_layout.specs.Rows.{size as size_of_rows}
-use Rattle.table_model.specs.declared.smbios.Body.{Body}
-use Rattle.table_model.specs.declared.smbios.Body.TheVariants.{Raw}
-use Rattle.table_model.specs.declared.smbios.Structure.{Structure}
-use Rattle.table_model.specs.Strings.{IsString, numbers_from, strings_of, string_set}
-use Rattle.table_model.specs.Numbered.{numbered}
-use Rattle.table_model.specs.Structures.{number_of, layout_of}
-use Rattle.table_model.proofs.WrittenBodies.{length-numbered}
-use Rattle.table_model.specs.Smbios.{formatted}
+use Rattle.smbios_model.specs.declared.smbios.Body.{Body}
+use Rattle.smbios_model.specs.declared.smbios.Body.TheVariants.{Raw}
+use Rattle.smbios_model.specs.declared.smbios.Structure.{Structure}
+use Rattle.vt_layout.specs.Strings.{IsString, numbers_from, strings_of, string_set}
+use Rattle.vt_layout.specs.Numbered.{numbered}
+use Rattle.smbios_model.specs.Structures.{number_of, layout_of}
+use Rattle.smbios_model.proofs.WrittenBodies.{length-numbered}
+use Rattle.smbios_model.specs.Smbios.{formatted}
 use Rattle.smbios_build.specs.Spelling.{layout_bytes, structure_bytes}
 use Rattle.smbios_build.specs.Buildable.{IsRaw, IsBuildable, IsPut}
 use Rattle.smbios_build.proofs.Texts.{strings_of-strings}

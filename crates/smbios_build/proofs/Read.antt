@@ -4,16 +4,16 @@ use Rattle.std.specs.List.{AllByRecursion}
 use Rattle.std.proofs.lemmas.List.{append-nil}
 use Rattle.vt_bytes.proofs.Each.{each_weaker}
 use Rattle.vt_layout.specs.Rows.{IsRow}
-use Rattle.table_model.specs.declared.smbios.Body.{Body}
-use Rattle.table_model.specs.declared.smbios.Body.TheVariants.{OemStrings, End, Raw}
-use Rattle.table_model.specs.declared.smbios.Structure.{Structure}
-use Rattle.table_model.specs.Strings.{HasNoNul, IsString}
-use Rattle.table_model.specs.Structures.{number_of, area_of, strings_in, layout_of, IsBodyOf, IsBody}
-use Rattle.table_model.specs.Smbios.{IsStructure, AreStructures}
-use Rattle.table_model.proofs.WrittenAreas.{texts_strings}
-use Rattle.table_model.proofs.KnownStructures.{is_known}
-use Rattle.table_model.proofs.WrittenBodies.{written_body}
-use Rattle.table_model.proofs.OneStructures.{one_list_of_structures}
+use Rattle.smbios_model.specs.declared.smbios.Body.{Body}
+use Rattle.smbios_model.specs.declared.smbios.Body.TheVariants.{OemStrings, End, Raw}
+use Rattle.smbios_model.specs.declared.smbios.Structure.{Structure}
+use Rattle.vt_layout.specs.Strings.{HasNoNul, IsString}
+use Rattle.smbios_model.specs.Structures.{number_of, area_of, strings_in, layout_of, IsBodyOf, IsBody}
+use Rattle.smbios_model.specs.Smbios.{IsStructure, AreStructures}
+use Rattle.vt_layout.proofs.NamedTexts.{texts_strings}
+use Rattle.smbios_model.proofs.KnownStructures.{is_known}
+use Rattle.smbios_model.proofs.WrittenBodies.{written_body}
+use Rattle.smbios_model.proofs.OneStructures.{one_list_of_structures}
 use Rattle.smbios_build.specs.Spelling.{structure_bytes, structures_bytes}
 use Rattle.smbios_build.specs.Buildable.{IsRaw, IsBuildable, AreBuildable, HasFittingNumbers}
 use Rattle.smbios_build.proofs.Texts.{strings_of-strings}

@@ -1,8 +1,8 @@
 -- The texts that aren't empty, among all.
 use Rattle.std.proofs.Common.{◌≡◌, ℕ, List, [], ◌∷◌, arith, refl, ap, ◌∙◌}
 use Rattle.std.specs.List.{AllByRecursion}
-use Rattle.table_model.specs.Strings.{IsString, strings_of}
-use Rattle.table_model.proofs.WrittenAreas.{strings_of-next}
+use Rattle.vt_layout.specs.Strings.{IsString, strings_of}
+use Rattle.vt_layout.proofs.NamedTexts.{strings_of-next}
 
 -- strings are the texts that aren't empty among them
 pub strings_of-strings : (strings : List (List ℕ)) → AllByRecursion IsString strings → strings_of strings ≡ strings

@@ -2,11 +2,11 @@
 use Rattle.std.specs.Prelude.{◌≡◌, ◌≢◌, ℕ, ◌^◌, ◌<◌, ◌≤◌, List, [], ◌∷◌, ◌++◌, length, None}
 use Rattle.std.specs.List.{AllByRecursion}
 use Rattle.vt_layout.specs.Rows.{IsRow}
-use Rattle.table_model.specs.declared.smbios.Body.{Body}
-use Rattle.table_model.specs.declared.smbios.Body.TheVariants.{OemStrings, End, Raw}
-use Rattle.table_model.specs.declared.smbios.Structure.{Structure}
-use Rattle.table_model.specs.Strings.{HasNoNul, IsString}
-use Rattle.table_model.specs.Structures.{kind_for, layout_of}
+use Rattle.smbios_model.specs.declared.smbios.Body.{Body}
+use Rattle.smbios_model.specs.declared.smbios.Body.TheVariants.{OemStrings, End, Raw}
+use Rattle.smbios_model.specs.declared.smbios.Structure.{Structure}
+use Rattle.vt_layout.specs.Strings.{HasNoNul, IsString}
+use Rattle.smbios_model.specs.Structures.{kind_for, layout_of}
 use Rattle.smbios_build.specs.Spelling.{structure_bytes}
 
 -- A raw structure: it isn't the end, its length fits a byte, it is of no known kind, none of its strings is empty or holds a NUL, and

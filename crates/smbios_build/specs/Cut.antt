@@ -1,6 +1,6 @@
 -- Strings in bytes, each with its NUL (DMTF DSP0134, version 3.0.0, 6.1.3).
 use Rattle.std.specs.Prelude.{◌≡◌, ℕ, List, [], ◌∷◌, length, ◌==◌, if◌then◌else◌}
-use Rattle.table_model.specs.Strings.{with_nuls}
+use Rattle.vt_layout.specs.Strings.{with_nuls}
 
 -- strings with a byte in front of the first
 abbrev pub with_first : ℕ → List (List ℕ) → List (List ℕ)

@@ -3,11 +3,11 @@ use Rattle.std.specs.Prelude.{ℕ, List, ◌++◌}
 use Rattle.std.specs.List.{flat_map}
 use Rattle.vt_layout.specs.declared.row.Row.{Row}
 use Rattle.vt_layout.specs.Rows.{spelled}
-use Rattle.table_model.specs.declared.smbios.Structure.{Structure}
-use Rattle.table_model.specs.Strings.{numbers_from, strings_of, string_set}
-use Rattle.table_model.specs.Numbered.{numbered}
-use Rattle.table_model.specs.Structures.{number_of, layout_of}
-use Rattle.table_model.specs.Smbios.{formatted}
+use Rattle.smbios_model.specs.declared.smbios.Structure.{Structure}
+use Rattle.vt_layout.specs.Strings.{numbers_from, strings_of, string_set}
+use Rattle.vt_layout.specs.Numbered.{numbered}
+use Rattle.smbios_model.specs.Structures.{number_of, layout_of}
+use Rattle.smbios_model.specs.Smbios.{formatted}
 
 -- a structure of a type with these rows and texts: its texts are numbered in its area in their order, and those that aren't empty follow it
 abbrev pub layout_bytes : ℕ → ℕ → List Row → List (List ℕ) → List ℕ

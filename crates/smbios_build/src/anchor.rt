@@ -1,7 +1,7 @@
 ghost use Rattle.std.specs.Prelude.{◌≡◌};
 ghost use Rattle.vt_layout.specs.Rows.{spelled};
 ghost use Rattle.vt_layout.specs.declared.row.Row.TheVariants.{Number};
-ghost use Rattle.table_model.specs.Anchor.{anchor_rows, anchor_of};
+ghost use Rattle.smbios_model.specs.Anchor.{anchor_rows, anchor_of};
 
 /// Builds the anchor of structures that have `size` bytes, the 64-bit entry point (DSP0134 5.2.2): version 3.0.0, with zeros for
 /// its checksum (byte 5) and for the address of the structures (8 bytes from 16 on). It takes no memory.

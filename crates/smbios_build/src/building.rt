@@ -1,13 +1,13 @@
 ghost use Rattle.std.specs.Prelude.{◌≡◌, ◌<◌, ◌↔◌, length, Err, IfOk};
-ghost use Rattle.table_model.specs.Smbios.{AreStructures};
+ghost use Rattle.smbios_model.specs.Smbios.{AreStructures};
 ghost use Rattle.smbios_build.specs.declared.building.SmbiosBuildFault.TheVariants.{OutOfMemory as NoMemory};
 ghost use Rattle.smbios_build.specs.Spelling.{structures_bytes};
 ghost use Rattle.smbios_build.specs.Buildable.{AreBuildable};
 
 use crate::sizes::structures_size;
 use crate::structure::put_structure;
+use smbios_model::Structure;
 use std::alloc::Global;
-use table_model::Structure;
 use vt_outside::{Bytes, OutOfMemory};
 
 // The most bytes of a table.

@@ -5,9 +5,9 @@ ghost use Rattle.std.specs.List.{AllByRecursion};
 ghost use Rattle.machine_desc.specs.declared.machine.Machine.{Machine};
 ghost use Rattle.machine_desc.specs.Rules.{IsAccepted};
 ghost use Rattle.machine_desc.specs.Fields.{HasFittingFields};
-ghost use Rattle.table_model.specs.declared.smbios.Structure.{Structure};
-ghost use Rattle.table_model.specs.MachineStructures.{structures_of};
-ghost use Rattle.table_model.specs.Smbios.{AreStructures};
+ghost use Rattle.smbios_model.specs.declared.smbios.Structure.{Structure};
+ghost use Rattle.smbios_model.specs.MachineStructures.{structures_of};
+ghost use Rattle.smbios_model.specs.Smbios.{AreStructures};
 ghost use Rattle.smbios_build.specs.Spelling.{structures_bytes};
 ghost use Rattle.smbios_build.specs.Buildable.{AreBuildable, HasFittingNumbers};
 

@@ -1,8 +1,8 @@
 ghost use Rattle.std.specs.Prelude.{◌≡◌, ◌≤◌, ◌+◌, [], ◌∷◌, ◌++◌, length, map, take, IfOk, OnOk};
 ghost use Rattle.std.specs.List.{AllByRecursion};
 ghost use Rattle.vt_layout.specs.Rows.{IsRow, spelled, string_numbers};
-ghost use Rattle.table_model.specs.Strings.{HasNoNul, numbers_from, strings_of};
-ghost use Rattle.table_model.specs.Numbered.{numbered};
+ghost use Rattle.vt_layout.specs.Strings.{HasNoNul, numbers_from, strings_of};
+ghost use Rattle.vt_layout.specs.Numbered.{numbered};
 
 use crate::string_set::StringSet;
 use vt_layout::{Row, put_row};

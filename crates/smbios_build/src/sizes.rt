@@ -1,11 +1,11 @@
 ghost use Rattle.std.specs.Prelude.{◌≡◌, ◌+◌, ◌≤◌, ◌==◌, min, max, map, length, if◌then◌else◌};
 ghost use Rattle.std.specs.List.{AllByRecursion};
 ghost use Rattle.vt_layout.specs.Rows.{IsRow, size};
-ghost use Rattle.table_model.specs.Strings.{HasNoNul, IsString, strings_of, with_nuls};
+ghost use Rattle.vt_layout.specs.Strings.{HasNoNul, IsString, strings_of, with_nuls};
 ghost use Rattle.smbios_build.specs.Spelling.{layout_bytes, structure_bytes, structures_bytes};
 ghost use Rattle.smbios_build.specs.Buildable.{IsBuildable};
 
-use table_model::{
+use smbios_model::{
     Body, Structure, array_rows, bios_rows, bios_texts, boot_rows, chassis_rows, chassis_texts,
     device_rows, device_texts, mapped_rows, oem_rows, processor_rows, processor_texts, slot_rows,
     slot_texts, system_rows, system_texts,

@@ -1,6 +1,6 @@
 ghost use Rattle.std.specs.Prelude.{◌≡◌, ◌<◌, ◌≤◌, ◌+◌, ◌==◌, [], ◌∷◌, ◌++◌, length, IfOk, OnOk, OnErr, if◌then◌else◌};
 ghost use Rattle.std.specs.List.{AllByRecursion};
-ghost use Rattle.table_model.specs.Strings.{HasNoNul, IsString, strings_of, string_set};
+ghost use Rattle.vt_layout.specs.Strings.{HasNoNul, IsString, strings_of, string_set};
 
 use std::alloc::Global;
 use std::marker::Model;

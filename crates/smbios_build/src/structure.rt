@@ -2,20 +2,20 @@ ghost use Rattle.std.specs.Prelude.{◌≡◌, ◌<◌, ◌≤◌, ◌+◌, [], 
 ghost use Rattle.std.specs.List.{AllByRecursion};
 ghost use Rattle.vt_bytes.specs.Numbers.{le_bytes};
 ghost use Rattle.vt_layout.specs.Rows.{IsRow, size, string_numbers};
-ghost use Rattle.table_model.specs.Strings.{HasNoNul, IsString, string_set};
-ghost use Rattle.table_model.specs.Smbios.{formatted};
+ghost use Rattle.vt_layout.specs.Strings.{HasNoNul, IsString, string_set};
+ghost use Rattle.smbios_model.specs.Smbios.{formatted};
 ghost use Rattle.smbios_build.specs.Spelling.{layout_bytes};
 ghost use Rattle.smbios_build.specs.Buildable.{IsBuildable, IsPut};
 
 use crate::numbered_rows::put_numbered;
 use crate::string_set::{StringSet, set_of};
-use std::alloc::Global;
-use table_model::{
+use smbios_model::{
     ARRAY_TYPE, BIOS_TYPE, BOOT_TYPE, Body, CHASSIS_TYPE, DEVICE_TYPE, END_TYPE, MAPPED_TYPE,
     OEM_STRINGS_TYPE, PROCESSOR_TYPE, SLOT_TYPE, SYSTEM_TYPE, Structure, array_rows, bios_rows,
     bios_texts, boot_rows, chassis_rows, chassis_texts, device_rows, device_texts, mapped_rows,
     oem_rows, processor_rows, processor_texts, slot_rows, slot_texts, system_rows, system_texts,
 };
+use std::alloc::Global;
 use vt_layout::{Row, put_rows, size_of};
 use vt_outside::{Bytes, OutOfMemory, Text};
 

@@ -1,6 +1,6 @@
 -- What was asked for is there, or the first string that isn't there is told.
 use Rattle.std.proofs.Common.{◌≡◌, ◌≢◌, ℕ, List, [], ◌∷◌, Option, Some, None, ap, ◌∙◌}
-use Rattle.table_model.specs.Strings.{string_of, AreNamed}
+use Rattle.vt_layout.specs.Strings.{string_of, AreNamed}
 use Rattle.smbios_decode.specs.declared.fields.TextFault.{TextFault}
 use Rattle.smbios_decode.specs.declared.fields.TextFault.TheVariants.{NoSuchString, OutOfMemory}
 use Rattle.smbios_decode.specs.Faults.{IsFirstMissing}

@@ -3,12 +3,12 @@ use Rattle.std.proofs.Common.{◌≡◌, ℕ, ◌+◌, ◌<◌, ◌≤◌, List,
 use Rattle.std.specs.Prelude.{IfOk, IfErr}
 use Rattle.vt_bytes.specs.Numbers.{le}
 use Rattle.vt_layout.specs.Rows.{size}
-use Rattle.table_model.specs.declared.smbios.Body.{Body}
-use Rattle.table_model.specs.declared.smbios.Body.TheVariants.{OemStrings}
-use Rattle.table_model.specs.Strings.{AreNamed}
-use Rattle.table_model.specs.StructureKinds.{StructureKind}
-use Rattle.table_model.specs.OemStrings.{counted_from, oem_strings_kind}
-use Rattle.table_model.specs.Structures.{kind_for, IsBodyOf, IsTyped}
+use Rattle.smbios_model.specs.declared.smbios.Body.{Body}
+use Rattle.smbios_model.specs.declared.smbios.Body.TheVariants.{OemStrings}
+use Rattle.vt_layout.specs.Strings.{AreNamed}
+use Rattle.smbios_model.specs.StructureKinds.{StructureKind}
+use Rattle.smbios_model.specs.OemStrings.{counted_from, oem_strings_kind}
+use Rattle.smbios_model.specs.Structures.{kind_for, IsBodyOf, IsTyped}
 use Rattle.smbios_decode.specs.declared.kind.Kind.{Kind}
 use Rattle.smbios_decode.specs.declared.kind.Kind.TheVariants.{OemStrings as OemStringsKind}
 use Rattle.smbios_decode.specs.declared.fields.TextFault.{TextFault}

@@ -8,12 +8,12 @@ use Rattle.vt_layout.specs.Rows.{size, shape_of, shape}
 use Rattle.vt_layout.specs.Reading.{rows_in}
 use Rattle.vt_layout.proofs.AsRows.{bytes_shown, bytes_shaped}
 use Rattle.vt_layout.proofs.Same.{same_rows}
-use Rattle.table_model.specs.declared.smbios.Body.{Body}
-use Rattle.table_model.specs.Strings.{AreNamed, string_of}
-use Rattle.table_model.specs.StructureKinds.{StructureKind}
-use Rattle.table_model.specs.Structures.{kind_for, IsTyped, IsBodyOf, IsBody}
-use Rattle.table_model.proofs.Numbered.{size-shape}
-use Rattle.table_model.proofs.KnownKinds.{known_readable}
+use Rattle.smbios_model.specs.declared.smbios.Body.{Body}
+use Rattle.vt_layout.specs.Strings.{AreNamed, string_of}
+use Rattle.smbios_model.specs.StructureKinds.{StructureKind}
+use Rattle.smbios_model.specs.Structures.{kind_for, IsTyped, IsBodyOf, IsBody}
+use Rattle.vt_layout.proofs.NumberedRows.{size-shape}
+use Rattle.smbios_model.proofs.KnownKinds.{known_readable}
 use Rattle.smbios_decode.specs.Faults.{IsFirstMissing}
 
 -- numbers of which some is missing name no texts

@@ -1,10 +1,10 @@
 -- Bytes begin with at most one fault, and with none where a structure stands.
 use Rattle.std.proofs.Common.{◌≡◌, ℕ, List, [], ◌++◌, length, Some, refl, ap, sym, ◌∙◌, subst}
 use Rattle.vt_layout.specs.Reading.{rows_in}
-use Rattle.table_model.specs.declared.smbios.Structure.{Structure}
-use Rattle.table_model.specs.StructureKinds.{StructureKind}
-use Rattle.table_model.specs.Structures.{kind_for, IsBody}
-use Rattle.table_model.specs.Smbios.{IsStructure}
+use Rattle.smbios_model.specs.declared.smbios.Structure.{Structure}
+use Rattle.smbios_model.specs.StructureKinds.{StructureKind}
+use Rattle.smbios_model.specs.Structures.{kind_for, IsBody}
+use Rattle.smbios_model.specs.Smbios.{IsStructure}
 use Rattle.smbios_decode.specs.declared.fault.SmbiosFault.{SmbiosFault}
 use Rattle.smbios_decode.specs.declared.fault.SmbiosFault.TheVariants.{Truncated, ShortStructure, NoEnd, NoSuchString, OutOfMemory}
 use Rattle.smbios_decode.specs.Faults.{IsWhole, IsShort, IsFirstMissing, NamesNoString, IsFault}

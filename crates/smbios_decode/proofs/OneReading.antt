@@ -1,9 +1,9 @@
 -- Bytes begin with one list of structures, or have one first fault, and not both.
 use Rattle.std.proofs.Common.{◌≡◌, ℕ, ◌+◌, List, [], ◌∷◌, ◌++◌, length, Result, Ok, Err, IfOk, IfErr, ◌⊎◌, inl, inr, ⊎_elim, length-append, arith, ap, sym, ◌∙◌, subst, append_assoc}
-use Rattle.table_model.specs.declared.smbios.Structure.{Structure}
-use Rattle.table_model.specs.Smbios.{AreStructures}
-use Rattle.table_model.proofs.OneStructure.{one_structure}
-use Rattle.table_model.proofs.OneStructures.{one_list_of_structures}
+use Rattle.smbios_model.specs.declared.smbios.Structure.{Structure}
+use Rattle.smbios_model.specs.Smbios.{AreStructures}
+use Rattle.smbios_model.proofs.OneStructure.{one_structure}
+use Rattle.smbios_model.proofs.OneStructures.{one_list_of_structures}
 use Rattle.smbios_decode.specs.declared.fault.SmbiosFault.{SmbiosFault}
 use Rattle.smbios_decode.specs.declared.fault.SmbiosFault.TheVariants.{OutOfMemory}
 use Rattle.smbios_decode.specs.Faults.{AreRefused, IsRead, IsRefused, Means, OrNoMemory}

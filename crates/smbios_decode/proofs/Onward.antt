@@ -3,9 +3,9 @@ use Rattle.std.proofs.Common.{◌≡◌, ◌≢◌, ℕ, zero, suc, ◌+◌, ◌
 use Rattle.std.proofs.Common.{append_assoc, length-append, length-drop}
 use Rattle.std.proofs.lemmas.Bool.{eqb-true, eqb-false}
 use Rattle.std.proofs.lemmas.List.{drop-drop, drop_at, nil_from_length}
-use Rattle.table_model.specs.declared.smbios.Structure.{Structure}
-use Rattle.table_model.specs.Strings.{string_set}
-use Rattle.table_model.specs.Smbios.{formatted, IsStructure}
+use Rattle.smbios_model.specs.declared.smbios.Structure.{Structure}
+use Rattle.vt_layout.specs.Strings.{string_set}
+use Rattle.smbios_model.specs.Smbios.{formatted, IsStructure}
 use Rattle.smbios_decode.specs.declared.fault.SmbiosFault.{SmbiosFault}
 use Rattle.smbios_decode.specs.declared.fault.SmbiosFault.TheVariants.{NoEnd, OutOfMemory}
 use Rattle.smbios_decode.specs.declared.structure.Found.{Found}

@@ -6,7 +6,7 @@ use Rattle.std.proofs.lemmas.Bool.{eqb-true, and_from, not_from_false}
 use Rattle.std.proofs.lemmas.List.{length-take-le, get_or_append_left}
 use Rattle.std.proofs.lemmas.List.Splits.{slice_split-cons_yes, slice_split-cons_no}
 use Rattle.std.proofs.lemmas.Option.{slice_get_within, slice_get-get_or}
-use Rattle.table_model.specs.Strings.{HasNoNul, IsString, AreStrings, with_nuls, string_set}
+use Rattle.vt_layout.specs.Strings.{HasNoNul, IsString, AreStrings, with_nuls, string_set}
 use Rattle.smbios_decode.specs.Ends.{HasEnd, IsFirstEnd}
 use Rattle.smbios_decode.proofs.Pairs.{end_behind, end_in_front}
 

@@ -5,8 +5,8 @@ use Rattle.vt_layout.specs.declared.row.Row.{Row}
 use Rattle.vt_layout.specs.declared.row.Row.TheVariants.{Number, Bytes, StringNumber}
 use Rattle.vt_layout.specs.Rows.{string_numbers}
 use Rattle.vt_layout.specs.Reading.{rows_in}
-use Rattle.table_model.specs.declared.smbios.Body.{Body}
-use Rattle.table_model.specs.StructureKinds.{StructureKind}
+use Rattle.smbios_model.specs.declared.smbios.Body.{Body}
+use Rattle.smbios_model.specs.StructureKinds.{StructureKind}
 use Rattle.smbios_decode.specs.Texts.{FieldsLeft, IsAsked, AreAsked, IsBehind}
 use Rattle.smbios_decode.specs.Kinds.{IsTaken}
 

@@ -4,11 +4,11 @@ use Rattle.std.specs.List.{AllByRecursion}
 use Rattle.vt_layout.specs.Rows.{size, shape}
 use Rattle.vt_layout.specs.Reading.{IsReadable, rows_in}
 use Rattle.vt_layout.proofs.AsRows.{bytes_shown, bytes_shaped, bytes_sized}
-use Rattle.table_model.specs.declared.smbios.Body.{Body}
-use Rattle.table_model.specs.Strings.{AreNamed}
-use Rattle.table_model.specs.StructureKinds.{StructureKind}
-use Rattle.table_model.specs.Structures.{kind_for, IsTyped}
-use Rattle.table_model.proofs.KnownKinds.{known_readable}
+use Rattle.smbios_model.specs.declared.smbios.Body.{Body}
+use Rattle.vt_layout.specs.Strings.{AreNamed}
+use Rattle.smbios_model.specs.StructureKinds.{StructureKind}
+use Rattle.smbios_model.specs.Structures.{kind_for, IsTyped}
+use Rattle.smbios_model.proofs.KnownKinds.{known_readable}
 use Rattle.smbios_decode.specs.declared.kind.Kind.{Kind}
 use Rattle.smbios_decode.specs.declared.kind.Kind.TheVariants.{Bios, System, Chassis, Processor, Slot, OemStrings, Array, Device, Mapped, Boot, End}
 use Rattle.smbios_decode.specs.Kinds.{kind_of, named_in}

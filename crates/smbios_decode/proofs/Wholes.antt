@@ -1,9 +1,9 @@
 -- Whole structures at the front of bytes.
 use Rattle.std.proofs.Common.{◌≡◌, ℕ, ◌+◌, List, ◌++◌, length, arith, refl, ap, sym, ◌∙◌}
-use Rattle.table_model.specs.declared.smbios.Structure.{Structure}
-use Rattle.table_model.specs.Strings.{string_set}
-use Rattle.table_model.specs.Smbios.{formatted, IsStructure}
-use Rattle.table_model.proofs.OneStructure.{SameParts, same_spelling}
+use Rattle.smbios_model.specs.declared.smbios.Structure.{Structure}
+use Rattle.vt_layout.specs.Strings.{string_set}
+use Rattle.smbios_model.specs.Smbios.{formatted, IsStructure}
+use Rattle.smbios_model.proofs.OneStructure.{SameParts, same_spelling}
 use Rattle.smbios_decode.specs.Faults.{IsWhole, IsShort}
 
 -- bytes begin with the parts of one whole structure

@@ -2,11 +2,11 @@
 use Rattle.std.specs.Prelude.{◌≡◌, ◌≢◌, ℕ, ◌+◌, ◌<◌, ◌⊎◌, List, [], ◌∷◌, ◌++◌, length, Some, None, Result, Ok, Err}
 use Rattle.std.specs.List.{AllByRecursion}
 use Rattle.vt_layout.specs.Reading.{rows_in}
-use Rattle.table_model.specs.declared.smbios.Structure.{Structure}
-use Rattle.table_model.specs.Strings.{AreStrings, string_set, string_of}
-use Rattle.table_model.specs.StructureKinds.{StructureKind}
-use Rattle.table_model.specs.Structures.{kind_for}
-use Rattle.table_model.specs.Smbios.{formatted, IsStructure, AreStructures}
+use Rattle.smbios_model.specs.declared.smbios.Structure.{Structure}
+use Rattle.vt_layout.specs.Strings.{AreStrings, string_set, string_of}
+use Rattle.smbios_model.specs.StructureKinds.{StructureKind}
+use Rattle.smbios_model.specs.Structures.{kind_for}
+use Rattle.smbios_model.specs.Smbios.{formatted, IsStructure, AreStructures}
 use Rattle.smbios_decode.specs.declared.fault.SmbiosFault.{SmbiosFault}
 use Rattle.smbios_decode.specs.declared.fault.SmbiosFault.TheVariants.{Truncated, ShortStructure, NoEnd, NoSuchString, OutOfMemory}
 

@@ -1,6 +1,6 @@
 -- A structure that a reader finds at the front of bytes.
 use Rattle.std.specs.Prelude.{◌≡◌, ℕ, List, ◌++◌, length, ◌==◌}
-use Rattle.table_model.specs.Smbios.{IsStructure}
+use Rattle.smbios_model.specs.Smbios.{IsStructure}
 use Rattle.smbios_decode.specs.declared.structure.Found.{Found}
 
 -- The bytes begin with the structure, which has so many of them, and which is the last where it is of type 127.

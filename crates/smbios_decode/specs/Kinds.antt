@@ -1,20 +1,20 @@
 -- The kinds of structures that are read as records, and what an area and strings are read as.
 use Rattle.std.specs.Prelude.{◌≡◌, ℕ, List, length, Some, Result, Ok, Err}
 use Rattle.vt_layout.specs.Reading.{rows_in}
-use Rattle.table_model.specs.declared.smbios.Body.{Body}
-use Rattle.table_model.specs.StructureKinds.{StructureKind}
-use Rattle.table_model.specs.Structures.{IsTyped}
-use Rattle.table_model.specs.BiosInformation.{bios_kind}
-use Rattle.table_model.specs.SystemInformation.{system_kind}
-use Rattle.table_model.specs.ChassisInformation.{chassis_kind}
-use Rattle.table_model.specs.ProcessorInformation.{processor_kind}
-use Rattle.table_model.specs.SlotInformation.{slot_kind}
-use Rattle.table_model.specs.OemStrings.{oem_strings_kind}
-use Rattle.table_model.specs.MemoryArray.{array_kind}
-use Rattle.table_model.specs.MemoryDevice.{device_kind}
-use Rattle.table_model.specs.MappedAddress.{mapped_kind}
-use Rattle.table_model.specs.BootInformation.{boot_kind}
-use Rattle.table_model.specs.Structures.{end_kind, kind_for, IsBody}
+use Rattle.smbios_model.specs.declared.smbios.Body.{Body}
+use Rattle.smbios_model.specs.StructureKinds.{StructureKind}
+use Rattle.smbios_model.specs.Structures.{IsTyped}
+use Rattle.smbios_model.specs.BiosInformation.{bios_kind}
+use Rattle.smbios_model.specs.SystemInformation.{system_kind}
+use Rattle.smbios_model.specs.ChassisInformation.{chassis_kind}
+use Rattle.smbios_model.specs.ProcessorInformation.{processor_kind}
+use Rattle.smbios_model.specs.SlotInformation.{slot_kind}
+use Rattle.smbios_model.specs.OemStrings.{oem_strings_kind}
+use Rattle.smbios_model.specs.MemoryArray.{array_kind}
+use Rattle.smbios_model.specs.MemoryDevice.{device_kind}
+use Rattle.smbios_model.specs.MappedAddress.{mapped_kind}
+use Rattle.smbios_model.specs.BootInformation.{boot_kind}
+use Rattle.smbios_model.specs.Structures.{end_kind, kind_for, IsBody}
 use Rattle.smbios_decode.specs.declared.kind.Kind.{Kind}
 use Rattle.smbios_decode.specs.declared.kind.Kind.TheVariants.{Bios, System, Chassis, Processor, Slot, OemStrings, Array, Device, Mapped, Boot, End}
 use Rattle.smbios_decode.specs.declared.fields.TextFault.{TextFault}

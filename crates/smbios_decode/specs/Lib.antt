@@ -6,8 +6,8 @@ pub mod Found
 pub use Rattle.vt_bytes.specs.Numbers
 pub use Rattle.vt_layout.specs.Rows
 pub use Rattle.vt_layout.specs.Reading
-pub use Rattle.table_model.specs.Strings
-pub use Rattle.table_model.specs.StructureKinds
-pub use Rattle.table_model.specs.OemStrings
-pub use Rattle.table_model.specs.Structures
-pub use Rattle.table_model.specs.Smbios
+pub use Rattle.vt_layout.specs.Strings
+pub use Rattle.smbios_model.specs.StructureKinds
+pub use Rattle.smbios_model.specs.OemStrings
+pub use Rattle.smbios_model.specs.Structures
+pub use Rattle.smbios_model.specs.Smbios

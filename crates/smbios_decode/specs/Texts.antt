@@ -1,6 +1,6 @@
 -- Strings that are asked for by their numbers (DMTF DSP0134, version 3.0.0, 6.1.3).
 use Rattle.std.specs.Prelude.{◌≡◌, ℕ, List, [], ◌∷◌, drop, Option, Some, None}
-use Rattle.table_model.specs.Strings.{string_of}
+use Rattle.vt_layout.specs.Strings.{string_of}
 use Rattle.smbios_decode.specs.declared.fields.TextFault.{TextFault}
 use Rattle.smbios_decode.specs.declared.fields.TextFault.TheVariants.{NoSuchString, OutOfMemory}
 

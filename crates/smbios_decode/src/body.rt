@@ -1,6 +1,6 @@
 ghost use Rattle.std.specs.Prelude.{◌≡◌, ◌≢◌, ◌+◌, ◌<◌, ◌≤◌, length, take, IfOk, IfErr};
 ghost use Rattle.vt_layout.specs.Rows.{size};
-ghost use Rattle.table_model.specs.declared.smbios.Body.TheVariants.{OemStrings as OemStringsBody};
+ghost use Rattle.smbios_model.specs.declared.smbios.Body.TheVariants.{OemStrings as OemStringsBody};
 ghost use Rattle.smbios_decode.specs.declared.fields.TextFault.TheVariants.{NoSuchString};
 ghost use Rattle.smbios_decode.specs.declared.kind.Kind.TheVariants.{OemStrings};
 ghost use Rattle.smbios_decode.specs.Kinds.{kind_of, IsTaken, IsBodyOr, IsTypedOr};
@@ -8,8 +8,8 @@ ghost use Rattle.smbios_decode.specs.Kinds.{kind_of, IsTaken, IsBodyOr, IsTypedO
 use crate::fields::{Fields, TextFault};
 use crate::kind::{Kind, known_kind};
 use crate::records::{array, bios, boot, chassis, device, mapped, processor, slot, system};
+use smbios_model::Body;
 use std::alloc::Global;
-use table_model::Body;
 use vt_outside::{Bytes, List, Text};
 
 /// Reads what a structure of the type `number` says by its `area` behind the header and its `strings`. What is read takes its

@@ -1,6 +1,6 @@
 ghost use Rattle.std.specs.Prelude.{◌≡◌, ◌<◌, ◌≤◌, ◌^◌, [], take, drop, length, Some, None, IfOk, IfErr};
 ghost use Rattle.vt_bytes.specs.Numbers.{le};
-ghost use Rattle.table_model.specs.Strings.{string_of};
+ghost use Rattle.vt_layout.specs.Strings.{string_of};
 ghost use Rattle.smbios_decode.specs.declared.fields.TextFault.TheVariants.{OutOfMemory as NoMemory};
 ghost use Rattle.smbios_decode.specs.Texts.{FieldsLeft, IsAsked, IsBehind};
 

@@ -1,9 +1,9 @@
 ghost use Rattle.std.specs.Prelude.{◌≡◌, ◌+◌};
 ghost use Rattle.std.specs.Option.{option_map};
-ghost use Rattle.table_model.specs.Structures.{kind_for};
+ghost use Rattle.smbios_model.specs.Structures.{kind_for};
 ghost use Rattle.smbios_decode.specs.Kinds.{kind_of};
 
-use table_model::{
+use smbios_model::{
     ARRAY_TYPE, BIOS_TYPE, BOOT_TYPE, CHASSIS_TYPE, DEVICE_TYPE, END_TYPE, MAPPED_TYPE,
     OEM_STRINGS_TYPE, PROCESSOR_TYPE, SLOT_TYPE, SYSTEM_TYPE,
 };

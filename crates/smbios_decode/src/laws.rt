@@ -1,7 +1,7 @@
 //! Laws over the definitions, each the contract of a function that does nothing.
 
 ghost use Rattle.std.specs.Prelude.{◌≡◌, ℕ, List, Result};
-ghost use Rattle.table_model.specs.declared.smbios.Structure.{Structure};
+ghost use Rattle.smbios_model.specs.declared.smbios.Structure.{Structure};
 ghost use Rattle.smbios_decode.specs.declared.fault.SmbiosFault.{SmbiosFault};
 ghost use Rattle.smbios_decode.specs.Faults.{Means};
 

@@ -1,20 +1,20 @@
 //! The records of structures, a field for each row, taken in the order of the rows (DSP0134, chapter 7).
 
 ghost use Rattle.std.specs.Prelude.{◌≤◌, length};
-ghost use Rattle.table_model.specs.declared.smbios.Body.TheVariants.{Bios, System, Chassis, Processor, Slot, Array, Device, Mapped, Boot};
-ghost use Rattle.table_model.specs.BiosInformation.{bios_kind};
-ghost use Rattle.table_model.specs.SystemInformation.{system_kind};
-ghost use Rattle.table_model.specs.ChassisInformation.{chassis_kind};
-ghost use Rattle.table_model.specs.ProcessorInformation.{processor_kind};
-ghost use Rattle.table_model.specs.SlotInformation.{slot_kind};
-ghost use Rattle.table_model.specs.MemoryArray.{array_kind};
-ghost use Rattle.table_model.specs.MemoryDevice.{device_kind};
-ghost use Rattle.table_model.specs.MappedAddress.{mapped_kind};
-ghost use Rattle.table_model.specs.BootInformation.{boot_kind};
+ghost use Rattle.smbios_model.specs.declared.smbios.Body.TheVariants.{Bios, System, Chassis, Processor, Slot, Array, Device, Mapped, Boot};
+ghost use Rattle.smbios_model.specs.BiosInformation.{bios_kind};
+ghost use Rattle.smbios_model.specs.SystemInformation.{system_kind};
+ghost use Rattle.smbios_model.specs.ChassisInformation.{chassis_kind};
+ghost use Rattle.smbios_model.specs.ProcessorInformation.{processor_kind};
+ghost use Rattle.smbios_model.specs.SlotInformation.{slot_kind};
+ghost use Rattle.smbios_model.specs.MemoryArray.{array_kind};
+ghost use Rattle.smbios_model.specs.MemoryDevice.{device_kind};
+ghost use Rattle.smbios_model.specs.MappedAddress.{mapped_kind};
+ghost use Rattle.smbios_model.specs.BootInformation.{boot_kind};
 ghost use Rattle.smbios_decode.specs.Kinds.{IsTaken};
 
 use crate::fields::Fields;
-use table_model::{
+use smbios_model::{
     ArrayInfo, BiosInfo, BootInfo, ChassisInfo, DeviceInfo, MappedInfo, ProcessorInfo, SlotInfo,
     SystemInfo,
 };

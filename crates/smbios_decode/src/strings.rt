@@ -1,6 +1,6 @@
 ghost use Rattle.std.specs.Prelude.{◌≡◌, ◌+◌, ◌<◌, ℕ, List, ◌++◌, length, None, Ok, IfOk, OnErr, IfSome, MatchBool, [], ◌∷◌, ◌==◌};
 ghost use Rattle.std.specs.List.{slice_split};
-ghost use Rattle.table_model.specs.Strings.{AreStrings, string_set};
+ghost use Rattle.vt_layout.specs.Strings.{AreStrings, string_set};
 ghost use Rattle.smbios_decode.specs.Ends.{HasEnd, IsFirstEnd};
 ghost use Rattle.smbios_decode.specs.Faults.{BeginsStrings};
 

@@ -8,8 +8,8 @@ use crate::body::read_body;
 use crate::fault::SmbiosFault;
 use crate::fields::TextFault;
 use crate::strings::read_strings;
+use smbios_model::{END_TYPE, Structure};
 use std::alloc::Global;
-use table_model::{END_TYPE, Structure};
 
 // The bytes of a structure's header (6.1.2).
 const HEADER_SIZE: usize = 4;

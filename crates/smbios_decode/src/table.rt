@@ -1,13 +1,13 @@
 ghost use Rattle.std.specs.Prelude.{◌≡◌, ◌<◌, ◌^◌, ◌⊎◌, List, length, IfOk, IfErr, Ok, Err};
-ghost use Rattle.table_model.specs.declared.smbios.Structure.{Structure};
+ghost use Rattle.smbios_model.specs.declared.smbios.Structure.{Structure};
 ghost use Rattle.smbios_decode.specs.declared.fault.SmbiosFault.{SmbiosFault};
 ghost use Rattle.smbios_decode.specs.declared.fault.SmbiosFault.TheVariants.{OutOfMemory as NoMemory};
 ghost use Rattle.smbios_decode.specs.Faults.{IsRead, IsRefused, OrNoMemory, BeginsWhole};
 
 use crate::fault::SmbiosFault;
 use crate::structure::read_structure;
+use smbios_model::Structure;
 use std::alloc::Global;
-use table_model::Structure;
 use vt_outside::List;
 
 /// Reads the structures that `bytes`, fewer than 2^32, begin with, up to and with the first of type 127 (DSP0134 6.1). What

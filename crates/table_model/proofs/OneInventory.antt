@@ -1,17 +1,17 @@
 -- A view shows one inventory.
 use Rattle.std.proofs.Common.{ℕ, Option, ap, sym, ◌∙◌}
 use Rattle.vt_bytes.specs.View.{View}
-use Rattle.table_model.specs.declared.smbios.SmbiosTable.{SmbiosTable}
-use Rattle.table_model.specs.declared.acpi.AcpiTables.{AcpiTables}
+use Rattle.vt_bytes.proofs.AtMostOne.{IsOne, one_or_none}
+use Rattle.smbios_model.specs.declared.smbios.SmbiosTable.{SmbiosTable}
+use Rattle.acpi_model.specs.declared.acpi.AcpiTables.{AcpiTables}
 use Rattle.table_model.specs.declared.inventory.Inventory.{Inventory}
-use Rattle.table_model.specs.Anchor.{HasAnchor}
-use Rattle.table_model.specs.Rsdp.{HasRsdp}
-use Rattle.table_model.specs.Smbios.{ShowsSmbios}
-use Rattle.table_model.specs.Acpi.{ShowsAcpi}
+use Rattle.smbios_model.specs.Anchor.{HasAnchor}
+use Rattle.acpi_model.specs.Rsdp.{HasRsdp}
+use Rattle.smbios_model.specs.Smbios.{ShowsSmbios}
+use Rattle.acpi_model.specs.Acpi.{ShowsAcpi}
 use Rattle.table_model.specs.Inventory.{Shows}
-use Rattle.table_model.proofs.Choices.{IsOne, one_or_none}
-use Rattle.table_model.proofs.OneSmbios.{one_smbios}
-use Rattle.table_model.proofs.OneAcpi.{one_acpi}
+use Rattle.smbios_model.proofs.OneSmbios.{one_smbios}
+use Rattle.acpi_model.proofs.OneAcpi.{one_acpi}
 
 -- the inventory of these parts
 inventory_from : ℕ → Option SmbiosTable → Option AcpiTables → Inventory

@@ -23,21 +23,21 @@ use Rattle.machine_desc.specs.declared.smbios_parts.Chassis.{Chassis as ChassisP
 use Rattle.machine_desc.specs.Rules.{only_at, is_own_uuid, ends_in_space, is_padded_text, breaches, IsAccepted, HasFittingUuid}
 use Rattle.machine_desc.proofs.Kept.{each_is_kept}
 use Rattle.machine_desc.proofs.SameSystem.{same_system as system_by_parts}
-use Rattle.table_model.specs.declared.hpet.HpetTable.{HpetTable}
-use Rattle.table_model.specs.declared.acpi.AcpiTables.{AcpiTables}
-use Rattle.table_model.specs.declared.system_information.SystemInfo.{SystemInfo}
-use Rattle.table_model.specs.declared.smbios.SmbiosTable.{SmbiosTable}
+use Rattle.acpi_model.specs.declared.hpet.HpetTable.{HpetTable}
+use Rattle.acpi_model.specs.declared.acpi.AcpiTables.{AcpiTables}
+use Rattle.smbios_model.specs.declared.system_information.SystemInfo.{SystemInfo}
+use Rattle.smbios_model.specs.declared.smbios.SmbiosTable.{SmbiosTable}
 use Rattle.table_model.specs.declared.inventory.Inventory.{Inventory}
-use Rattle.table_model.specs.Header.{padded}
-use Rattle.table_model.specs.Hpet.{hpet_of}
-use Rattle.table_model.specs.Acpi.{acpi_of}
-use Rattle.table_model.specs.SystemInformation.{uuid_field, system_of}
-use Rattle.table_model.specs.MachineStructures.{structures_of}
-use Rattle.table_model.specs.Smbios.{smbios_of}
+use Rattle.acpi_model.specs.Header.{padded}
+use Rattle.acpi_model.specs.Hpet.{hpet_of}
+use Rattle.acpi_model.specs.Acpi.{acpi_of}
+use Rattle.smbios_model.specs.SystemInformation.{uuid_field, system_of}
+use Rattle.smbios_model.specs.MachineStructures.{structures_of}
+use Rattle.smbios_model.specs.Smbios.{smbios_of}
 use Rattle.table_model.specs.Inventory.{inventory_of}
-use Rattle.table_model.proofs.AcceptedAcpi.{accepted_padded}
-use Rattle.table_model.proofs.AcceptedParts.{lawful_parts}
-use Rattle.table_model.proofs.SameParts.{same_parts}
+use Rattle.acpi_model.proofs.AcceptedAcpi.{accepted_padded}
+use Rattle.smbios_model.proofs.AcceptedParts.{lawful_parts}
+use Rattle.smbios_model.proofs.SameParts.{same_parts}
 
 -- the last byte of a text, where it has one, is no space
 abbrev NoSpace : List ℕ → Type 0

@@ -3,10 +3,10 @@ use Rattle.std.specs.Prelude.{◌≡◌, ℕ, ◌*◌, Some, MatchOption, option
 use Rattle.vt_bytes.specs.View.{View}
 use Rattle.machine_desc.specs.declared.machine.Machine.{Machine}
 use Rattle.table_model.specs.declared.inventory.Inventory.{Inventory}
-use Rattle.table_model.specs.Rsdp.{HasRsdp}
-use Rattle.table_model.specs.Acpi.{ShowsAcpi, acpi_of}
-use Rattle.table_model.specs.Anchor.{HasAnchor}
-use Rattle.table_model.specs.Smbios.{ShowsSmbios, smbios_of}
+use Rattle.acpi_model.specs.Rsdp.{HasRsdp}
+use Rattle.acpi_model.specs.Acpi.{ShowsAcpi, acpi_of}
+use Rattle.smbios_model.specs.Anchor.{HasAnchor}
+use Rattle.smbios_model.specs.Smbios.{ShowsSmbios, smbios_of}
 
 -- A memory below a top shows the inventory: its top; the table of its SMBIOS anchor, or none exactly where no valid anchor stands;
 -- and the tables of its RSDP, or none exactly where no valid RSDP stands.

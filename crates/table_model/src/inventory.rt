@@ -2,10 +2,9 @@ ghost use Rattle.std.specs.Prelude.{◌≡◌, IfOk};
 ghost use Rattle.machine_desc.specs.Rules.{IsAccepted};
 ghost use Rattle.table_model.specs.Inventory.{inventory_of};
 
-use crate::acpi::{AcpiTables, acpi_of};
-use crate::smbios::{SmbiosTable, smbios_of};
-use crate::units::BYTES_IN_MIB;
+use acpi_model::{AcpiTables, acpi_of};
 use machine_desc::Machine;
+use smbios_model::{BYTES_IN_MIB, SmbiosTable, smbios_of};
 use std::alloc::Global;
 use vt_outside::OutOfMemory;
 

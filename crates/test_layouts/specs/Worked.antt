@@ -1,5 +1,5 @@
 -- Worked rows: bytes made by hand, and what a reader takes from them.
-use Rattle.std.specs.Prelude.{ℕ, List, [], ◌∷◌, Option, Some, None, cond, ◌==◌}
+use Rattle.std.specs.Prelude.{ℕ, List, [], ◌∷◌, Some, None, cond, ◌==◌}
 use Rattle.vt_layout.specs.declared.row.Row.{Row}
 use Rattle.vt_layout.specs.declared.row.Row.TheVariants.{Number, Bytes}
 use Rattle.vt_layout.specs.Rows.{shape}

@@ -10,10 +10,10 @@ use desc_toml::read_machine;
 use machine_desc::Machine;
 use smbios_build::build_smbios;
 use smbios_build::laws::accepted_structures_are_buildable;
+use smbios_model::{Structure, structures_of};
 use std::alloc::Global;
 use std::process::Abort;
 use std::test::Fail;
-use table_model::{Structure, structures_of};
 use vt_outside::{Bytes, List};
 
 // A machine of which nothing is described but what must be.

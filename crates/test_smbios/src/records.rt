@@ -3,13 +3,13 @@
 
 use crate::every::every_structure;
 use crate::told::{is, read};
-use std::alloc::Global;
-use std::process::Abort;
-use std::test::Fail;
-use table_model::{
+use smbios_model::{
     ArrayInfo, BiosInfo, Body, BootInfo, ChassisInfo, DeviceInfo, MappedInfo, ProcessorInfo,
     SlotInfo, Structure, SystemInfo,
 };
+use std::alloc::Global;
+use std::process::Abort;
+use std::test::Fail;
 use vt_outside::Text;
 
 static ARRAY: ArrayInfo = ArrayInfo {

@@ -6,10 +6,10 @@ use crate::told::{are_words, push_structures};
 use crate::words::{push_digits, told_fault};
 use anchor_scan::scan_smbios;
 use guest_memory::GuestMemory;
+use smbios_model::SmbiosTable;
 use std::alloc::Global;
 use std::process::Abort;
 use std::test::Fail;
-use table_model::SmbiosTable;
 use vt_outside::{Bytes, OutOfMemory};
 
 const TOLD: &str = "030000

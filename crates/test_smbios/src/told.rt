@@ -2,11 +2,11 @@
 
 use crate::words::{push_raw, push_record, push_text, told_fault};
 use smbios_decode::{SmbiosFault, decode_table};
+use smbios_model::{Body, Structure};
 use std::alloc::Global;
 use std::fmt::Debug;
 use std::process::Abort;
 use std::test::Fail;
-use table_model::{Body, Structure};
 use vt_outside::{Bytes, List, OutOfMemory, Text};
 
 /// Asserts what `bytes` are read as, in words.

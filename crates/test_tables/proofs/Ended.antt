@@ -1,7 +1,7 @@
 -- The end behind structures that can be written.
 use Rattle.std.proofs.Common.{◌≡◌, List, [], ◌∷◌, ◌++◌, sym, subst}
-use Rattle.table_model.specs.declared.smbios.Body.TheVariants.{End}
-use Rattle.table_model.specs.declared.smbios.Structure.{Structure}
+use Rattle.smbios_model.specs.declared.smbios.Body.TheVariants.{End}
+use Rattle.smbios_model.specs.declared.smbios.Structure.{Structure}
 use Rattle.smbios_build.specs.Buildable.{AreBuildable}
 use Rattle.test_tables.specs.Unended.{AreUnended}
 

@@ -1,8 +1,8 @@
 -- Structures to which others are still added.
 use Rattle.std.specs.Prelude.{◌≢◌, List}
 use Rattle.std.specs.List.{AllByRecursion}
-use Rattle.table_model.specs.declared.smbios.Body.TheVariants.{End}
-use Rattle.table_model.specs.declared.smbios.Structure.{Structure}
+use Rattle.smbios_model.specs.declared.smbios.Body.TheVariants.{End}
+use Rattle.smbios_model.specs.declared.smbios.Structure.{Structure}
 use Rattle.smbios_build.specs.Buildable.{IsBuildable}
 
 -- each can be written, and none is the end

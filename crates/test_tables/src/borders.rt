@@ -3,9 +3,9 @@
 
 use crate::built::is;
 use machine_desc::{Dimm, MemRange};
+use smbios_model::{ArrayInfo, MappedInfo, array_of, device_of, mapped_of};
 use std::alloc::Global;
 use std::test::Fail;
-use table_model::{ArrayInfo, MappedInfo, array_of, device_of, mapped_of};
 use vt_outside::{OutOfMemory, Text};
 
 // An array of one module of 2 TiB less 1 MiB.

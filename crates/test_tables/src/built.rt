@@ -10,11 +10,12 @@ use fixtures::{Sketch, machine_of};
 use machine_desc::Machine;
 use smbios_build::build_smbios;
 use smbios_build::laws::accepted_structures_are_buildable;
+use smbios_model::{Structure, structures_of};
 use std::alloc::Global;
 use std::fmt::Debug;
 use std::process::Abort;
 use std::test::Fail;
-use table_model::{Inventory, Structure, inventory_of, structures_of};
+use table_model::{Inventory, inventory_of};
 use vt_outside::{List, OutOfMemory, Text};
 
 /// Returns the structures of the machine of `sketch`, which must be accepted.

@@ -2,15 +2,16 @@
 //! by hand from DSP0134, 6.1 and 7.2.
 
 ghost use Rattle.std.specs.Prelude.{◌<◌, ◌≤◌, ◌+◌, length, IfOk, OnOk};
-ghost use Rattle.table_model.specs.Strings.{HasNoNul};
+ghost use Rattle.vt_layout.specs.Strings.{HasNoNul};
 
 use crate::built::{are_built, inventory_of_sketch, is, structures_of_sketch};
 use fixtures::{Sketch, SystemTexts};
 use smbios_build::StringSet;
+use smbios_model::{Body, Structure, SystemInfo};
 use std::alloc::Global;
 use std::process::Abort;
 use std::test::Fail;
-use table_model::{Body, Inventory, Structure, SystemInfo};
+use table_model::Inventory;
 use vt_outside::{Bytes, OutOfMemory, Text};
 
 static LONGEST: Sketch = Sketch {

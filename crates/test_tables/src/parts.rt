@@ -6,9 +6,9 @@ ghost use Rattle.smbios_build.specs.Buildable.{AreBuildable};
 use crate::built::{accepted_structures, are_built, text_of};
 use fixtures::{MINIMAL_MACHINE, Sketch, machine_of};
 use machine_desc::{Chassis, Dimm, Firmware, Machine, MemRange, Slot, Socket};
+use smbios_model::Structure;
 use std::alloc::Global;
 use std::test::Fail;
-use table_model::Structure;
 use vt_outside::{List, OutOfMemory, Text};
 
 static SKETCH: Sketch = Sketch {

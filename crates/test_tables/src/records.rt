@@ -2,14 +2,13 @@
 //! IA-PC HPET 1.0a 3.2.4.
 
 use crate::built::{inventory_of_sketch, is};
+use acpi_model::{AcpiTables, GenericAddress, Head, HpetTable, head_of, hpet_of};
 use fixtures::{FULL_MACHINE, HPET, Sketch, acpi};
 use machine_desc::Acpi;
+use smbios_model::{Body, SmbiosTable, Structure, SystemInfo, uuid_field};
 use std::process::Abort;
 use std::test::Fail;
-use table_model::{
-    AcpiTables, Body, GenericAddress, Head, HpetTable, Inventory, SmbiosTable, Structure,
-    SystemInfo, head_of, hpet_of, uuid_field,
-};
+use table_model::Inventory;
 use vt_outside::Text;
 
 // What the statics below are made of.

@@ -1,17 +1,17 @@
 //! SMBIOS structures and their anchor as bytes, which were made by hand from DSP0134, 5.2.2, 6.1 and 7.2.
 
 ghost use Rattle.std.specs.Prelude.{◌≡◌, ◌<◌, ◌≤◌, ◌+◌, [], ◌∷◌, length, IfOk, OnOk};
-ghost use Rattle.table_model.specs.Strings.{HasNoNul};
+ghost use Rattle.vt_layout.specs.Strings.{HasNoNul};
 ghost use Rattle.smbios_build.specs.Buildable.{IsRaw, AreBuildable};
 ghost use Rattle.test_tables.specs.Unended.{AreUnended};
 
 use crate::built::{are_built, is, structures_of_sketch, text_of};
 use fixtures::{MINIMAL_MACHINE, Sketch, copy_of};
 use smbios_build::{SmbiosBuildFault, StringSet, build_anchor, build_smbios};
+use smbios_model::{Body, Structure};
 use std::alloc::Global;
 use std::process::Abort;
 use std::test::Fail;
-use table_model::{Body, Structure};
 use vt_outside::{Bytes, List, OutOfMemory, Text};
 
 // System Information of the minimal machine, whose texts are `ACME` and `VM`, and the end.

@@ -9,18 +9,18 @@ use Rattle.vt_bytes.specs.View.{View}
 use Rattle.vt_layout.specs.Rows.{size}
 use Rattle.vt_layout.specs.Shown.{LayoutHeld}
 use Rattle.machine_desc.specs.declared.machine.Acpi.{Acpi}
-use Rattle.table_model.specs.declared.header.Head.{Head}
-use Rattle.table_model.specs.declared.acpi.Table.{Table}
-use Rattle.table_model.specs.Header.{head_of, padded}
-use Rattle.table_model.specs.Xsdt.{IsXsdt, given}
-use Rattle.table_model.specs.Rsdp.{rsdp_rows}
-use Rattle.table_model.specs.Acpi.{IsAt, rows_of, linked_table}
-use Rattle.table_model.specs.Walked.{AreAt}
+use Rattle.acpi_model.specs.declared.header.Head.{Head}
+use Rattle.acpi_model.specs.declared.acpi.Table.{Table}
+use Rattle.acpi_model.specs.Header.{head_of, padded}
+use Rattle.acpi_model.specs.Xsdt.{IsXsdt, given}
+use Rattle.acpi_model.specs.Rsdp.{rsdp_rows}
+use Rattle.acpi_model.specs.Acpi.{IsAt, rows_of, linked_table}
+use Rattle.acpi_model.specs.Walked.{AreAt}
 use Rattle.blob_holes.specs.declared.hole.PointerHole.{PointerHole}
 use Rattle.blob_holes.specs.declared.hole.SumHole.{SumHole}
 use Rattle.blob_holes.specs.Blob.{BlobState, IsBlob, next_place}
 use Rattle.blob_holes.specs.Grown.{IsLinkable}
-use Rattle.acpi_fixed.specs.Tables.{tables_name, table_pointer, with_table, with_rsdp, IsTablePut, IsXsdtPut, IsRsdpPut}
+use Rattle.acpi_append.specs.Tables.{tables_name, table_pointer, with_table, with_rsdp, IsTablePut, IsXsdtPut, IsRsdpPut}
 use Rattle.image_files.specs.Files.{whole}
 use Rattle.vm_image.specs.Image.{AcpiImage, with_tables, places_in, xsdt_place, acpi_files}
 use Rattle.vm_image.specs.AcpiHeld.{most_bytes, AreAppended, IsTablesFile, IsAcpiImage}

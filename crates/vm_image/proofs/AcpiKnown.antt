@@ -12,20 +12,20 @@ use Rattle.machine_desc.specs.declared.machine.Acpi.{Acpi}
 use Rattle.machine_desc.specs.declared.machine.Hpet.{Hpet as HpetPart}
 use Rattle.machine_desc.specs.Rules.{IsAccepted}
 use Rattle.machine_desc.specs.Fields.{IsFittingHpet, HasFittingFields}
-use Rattle.table_model.specs.declared.header.Head.{Head}
-use Rattle.table_model.specs.declared.acpi.Table.{Table}
-use Rattle.table_model.specs.declared.acpi.Table.TheVariants.{Hpet}
-use Rattle.table_model.specs.Header.{FitsHead, head_of, padded}
-use Rattle.table_model.specs.Hpet.{hpet_body, hpet_of}
-use Rattle.table_model.specs.Xsdt.{xsdt_rows}
-use Rattle.table_model.specs.Rsdp.{rsdp_rows}
-use Rattle.table_model.specs.Acpi.{IsWritable, rows_of, each_table, tables_of}
-use Rattle.table_model.proofs.AcceptedAcpi.{accepted_fits}
+use Rattle.acpi_model.specs.declared.header.Head.{Head}
+use Rattle.acpi_model.specs.declared.acpi.Table.{Table}
+use Rattle.acpi_model.specs.declared.acpi.Table.TheVariants.{Hpet}
+use Rattle.acpi_model.specs.Header.{FitsHead, head_of, padded}
+use Rattle.acpi_model.specs.Hpet.{hpet_body, hpet_of}
+use Rattle.acpi_model.specs.Xsdt.{xsdt_rows}
+use Rattle.acpi_model.specs.Rsdp.{rsdp_rows}
+use Rattle.acpi_model.specs.Acpi.{IsWritable, rows_of, each_table, tables_of}
+use Rattle.acpi_model.proofs.AcceptedAcpi.{accepted_fits}
 use Rattle.blob_holes.specs.Blob.{BlobState, IsBlob, next_place}
 use Rattle.blob_holes.specs.Rows.{AreRows}
 use Rattle.blob_holes.proofs.RowsKept.{layout_kept}
-use Rattle.acpi_fixed.specs.Tables.{table_pointer, tables_name, with_table, with_xsdt, with_rsdp, IsRsdpPut}
-use Rattle.acpi_fixed.proofs.FileTables.{IsFittingHead, table_fits, table_appended, xsdt_appended, rsdp_appended, pointers_unsummed}
+use Rattle.acpi_append.specs.Tables.{table_pointer, tables_name, with_table, with_xsdt, with_rsdp, IsRsdpPut}
+use Rattle.acpi_append.proofs.FileTables.{IsFittingHead, table_fits, table_appended, xsdt_appended, rsdp_appended, pointers_unsummed}
 use Rattle.image_files.specs.Files.{whole}
 use Rattle.vm_image.specs.Image.{with_tables, xsdt_place, acpi_files}
 use Rattle.vm_image.specs.AcpiHeld.{most_bytes, AreAppended, IsTablesFile, IsAcpiImage, AreAcpiKnown}

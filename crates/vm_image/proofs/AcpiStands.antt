@@ -7,12 +7,12 @@ use Rattle.vt_layout.specs.Shown.{LayoutHeld}
 use Rattle.machine_desc.specs.declared.machine.Machine.{Machine}
 use Rattle.machine_desc.specs.declared.machine.Acpi.{Acpi}
 use Rattle.machine_desc.specs.Rules.{IsAccepted}
-use Rattle.table_model.specs.Header.{head_of, padded}
-use Rattle.table_model.specs.Rsdp.{rsdp_rows, HasRsdp}
-use Rattle.table_model.specs.Acpi.{ShowsAcpi, linked_table, tables_of, acpi_of}
-use Rattle.table_model.proofs.AcceptedAcpi.{accepted_fits}
-use Rattle.table_model.proofs.Walked.{walked, machine_added}
-use Rattle.acpi_fixed.specs.Tables.{tables_name, table_pointer}
+use Rattle.acpi_model.specs.Header.{head_of, padded}
+use Rattle.acpi_model.specs.Rsdp.{rsdp_rows, HasRsdp}
+use Rattle.acpi_model.specs.Acpi.{ShowsAcpi, linked_table, tables_of, acpi_of}
+use Rattle.acpi_model.proofs.AcceptedAcpi.{accepted_fits}
+use Rattle.acpi_model.proofs.Walked.{walked, machine_added}
+use Rattle.acpi_append.specs.Tables.{tables_name, table_pointer}
 use Rattle.vm_image.specs.Image.{acpi_files, acpi_part, rsdp_name, xsdt_place}
 use Rattle.vm_image.specs.AcpiHeld.{HoldsTables, AreAcpiKnown}
 use Rattle.vm_image.proofs.RsdpShown.{length-padded, rsdp_shown}

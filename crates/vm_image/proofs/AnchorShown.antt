@@ -5,9 +5,9 @@ use Rattle.vt_bytes.proofs.Views.{bytes_in-all}
 use Rattle.vt_layout.specs.declared.row.Row.TheVariants.{Number, Pointer}
 use Rattle.vt_layout.specs.Shown.{LayoutShown, LayoutHeld}
 use Rattle.vt_layout.proofs.Shows.{shown_rows}
-use Rattle.table_model.specs.declared.smbios.Structure.{Structure}
-use Rattle.table_model.specs.Anchor.{anchor_rows, anchor_of, IsAnchor, HasAnchor}
-use Rattle.table_model.specs.Smbios.{AreStructures, ShowsSmbios}
+use Rattle.smbios_model.specs.declared.smbios.Structure.{Structure}
+use Rattle.smbios_model.specs.Anchor.{anchor_rows, anchor_of, IsAnchor, HasAnchor}
+use Rattle.smbios_model.specs.Smbios.{AreStructures, ShowsSmbios}
 use Rattle.blob_holes.specs.Rows.{AreRows}
 use Rattle.blob_holes.specs.Held.{HoldsFilled}
 use Rattle.blob_holes.proofs.HeldRows.{held_where_appended}
@@ -84,7 +84,7 @@ anchor_shows view base place bytes structures few from aligned within there is l
   docrev = refl;
   used = bytes;
   unused = [];
-  range = subst (λ all. Rattle.table_model.specs.Anchor.IsRange view place (length bytes) all) (sym (append-nil bytes))
+  range = subst (λ all. Rattle.smbios_model.specs.Anchor.IsRange view place (length bytes) all) (sym (append-nil bytes))
       (record { at_most = omega arith; there = bytes_in-all view place bytes there; whole = inl refl });
   listed = are;
 }

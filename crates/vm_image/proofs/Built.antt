@@ -6,8 +6,8 @@ use Rattle.loader_script.specs.declared.entry.Entry.{Entry}
 use Rattle.cfg_directory.specs.declared.item.Item.{Item}
 use Rattle.machine_desc.specs.declared.machine.Machine.{Machine}
 use Rattle.machine_desc.specs.Rules.{IsAccepted}
-use Rattle.table_model.specs.MachineStructures.{structures_of}
-use Rattle.table_model.specs.Smbios.{AreStructures}
+use Rattle.smbios_model.specs.MachineStructures.{structures_of}
+use Rattle.smbios_model.specs.Smbios.{AreStructures}
 use Rattle.image_files.specs.declared.image.Image.{Image}
 use Rattle.image_files.specs.declared.image.ImageBuildFault.{ImageBuildFault}
 use Rattle.image_files.specs.Files.{ImageFile}

@@ -7,9 +7,9 @@ use Rattle.vt_bytes.proofs.FirstByte.{first-byte, low-byte}
 use Rattle.vt_bytes.proofs.Seen.{at-seen}
 use Rattle.vt_layout.specs.declared.row.Row.TheVariants.{Number}
 use Rattle.vt_layout.specs.Shown.{LayoutHeld, LayoutShown}
-use Rattle.table_model.specs.Rsdp.{rsdp_rows, HasRsdp}
-use Rattle.table_model.specs.Anchor.{anchor_rows, anchor_of, HasAnchor}
-use Rattle.acpi_fixed.specs.Tables.{table_pointer}
+use Rattle.acpi_model.specs.Rsdp.{rsdp_rows, HasRsdp}
+use Rattle.smbios_model.specs.Anchor.{anchor_rows, anchor_of, HasAnchor}
+use Rattle.acpi_append.specs.Tables.{table_pointer}
 use Rattle.vm_image.proofs.Marks.{Mark, HasMark, IsClear}
 
 -- an RSDP begins with an R and an S

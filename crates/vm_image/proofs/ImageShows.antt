@@ -7,8 +7,8 @@ use Rattle.vt_bytes.specs.Memory.{seen}
 use Rattle.vt_bytes.proofs.Each.{each_append, each_front, each_back}
 use Rattle.machine_desc.specs.declared.machine.Machine.{Machine}
 use Rattle.machine_desc.specs.Rules.{IsAccepted}
-use Rattle.table_model.specs.MachineStructures.{structures_of}
-use Rattle.table_model.specs.Smbios.{AreStructures}
+use Rattle.smbios_model.specs.MachineStructures.{structures_of}
+use Rattle.smbios_model.specs.Smbios.{AreStructures}
 use Rattle.loader_script.specs.Run.{place_of as place_in}
 use Rattle.image_files.specs.Places.{ArePlaces}
 use Rattle.vm_image.specs.Image.{acpi_part, smbios_placed, structures_file, image_files, anchor_name}

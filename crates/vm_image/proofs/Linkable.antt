@@ -7,7 +7,7 @@ use Rattle.vt_bytes.proofs.Each.{each_append, each_weaker}
 use Rattle.machine_desc.specs.declared.machine.Machine.{Machine}
 use Rattle.machine_desc.specs.declared.machine.Acpi.{Acpi}
 use Rattle.machine_desc.specs.Rules.{IsAccepted}
-use Rattle.table_model.specs.Acpi.{tables_of}
+use Rattle.acpi_model.specs.Acpi.{tables_of}
 use Rattle.blob_holes.specs.declared.hole.PointerHole.{PointerHole}
 use Rattle.image_files.specs.Files.{ImageFile}
 use Rattle.image_files.specs.Linkable.{IsPlacedName, IsLinkableFile, LeadsAmong, AreLinkable}

@@ -6,9 +6,9 @@ use Rattle.vt_bytes.specs.View.{View}
 use Rattle.vt_layout.specs.Rows.{IsRow}
 use Rattle.vt_layout.specs.Shown.{LayoutHeld}
 use Rattle.vt_layout.proofs.Shows.{shown_rows}
-use Rattle.table_model.specs.Header.{padded}
-use Rattle.table_model.specs.Rsdp.{rsdp_rows, IsRsdp}
-use Rattle.acpi_fixed.specs.Tables.{tables_name, table_pointer}
+use Rattle.acpi_model.specs.Header.{padded}
+use Rattle.acpi_model.specs.Rsdp.{rsdp_rows, IsRsdp}
+use Rattle.acpi_append.specs.Tables.{tables_name, table_pointer}
 
 -- a padded text fills its field
 pub length-padded : (count : ℕ) (text : List ℕ) → length text ≤ count → length (padded count text) ≡ count

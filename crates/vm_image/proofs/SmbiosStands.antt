@@ -2,9 +2,9 @@
 use Rattle.std.proofs.Common.{ℕ, ◌^◌, ◌<◌, ◌≤◌, List, length, refl, arith}
 use Rattle.std.specs.List.{AllByRecursion}
 use Rattle.vt_bytes.specs.Memory.{Memory, seen}
-use Rattle.table_model.specs.Anchor.{HasAnchor}
-use Rattle.table_model.specs.Smbios.{AreStructures, ShowsSmbios}
-use Rattle.table_model.specs.declared.smbios.Structure.{Structure}
+use Rattle.smbios_model.specs.Anchor.{HasAnchor}
+use Rattle.smbios_model.specs.Smbios.{AreStructures, ShowsSmbios}
+use Rattle.smbios_model.specs.declared.smbios.Structure.{Structure}
 use Rattle.vm_image.specs.Image.{smbios_placed, anchor_name, structures_name}
 use Rattle.vm_image.proofs.Whole.{holds_whole}
 use Rattle.vm_image.proofs.AnchorShown.{AnchorHeld, anchor_shown, anchor_shows}

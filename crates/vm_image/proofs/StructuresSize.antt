@@ -2,10 +2,10 @@
 use Rattle.std.proofs.Common.{◌<◌, ◌≤◌, List, [], ◌∷◌, ◌++◌, length, arith}
 use Rattle.machine_desc.specs.declared.machine.Machine.{Machine}
 use Rattle.machine_desc.specs.Rules.{IsAccepted}
-use Rattle.table_model.specs.declared.smbios.Structure.{Structure}
-use Rattle.table_model.specs.declared.smbios.Body.TheVariants.{System}
-use Rattle.table_model.specs.SystemInformation.{system_of}
-use Rattle.table_model.specs.MachineStructures.{structures_in, bios_part}
+use Rattle.smbios_model.specs.declared.smbios.Structure.{Structure}
+use Rattle.smbios_model.specs.declared.smbios.Body.TheVariants.{System}
+use Rattle.smbios_model.specs.SystemInformation.{system_of}
+use Rattle.smbios_model.specs.MachineStructures.{structures_in, bios_part}
 use Rattle.smbios_build.specs.Spelling.{structures_bytes}
 use Rattle.smbios_build.proofs.Accepted.{accepted_small}
 use Rattle.vm_image.specs.Image.{structures_file}

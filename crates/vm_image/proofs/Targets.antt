@@ -6,17 +6,17 @@ use Rattle.vt_layout.specs.declared.row.Row.{Row}
 use Rattle.vt_layout.specs.declared.row.Row.TheVariants.{Pointer}
 use Rattle.vt_layout.specs.Rows.{width_of}
 use Rattle.machine_desc.specs.declared.machine.Acpi.{Acpi}
-use Rattle.table_model.specs.declared.header.Head.{Head}
-use Rattle.table_model.specs.declared.acpi.Table.{Table}
-use Rattle.table_model.specs.declared.acpi.Table.TheVariants.{Hpet}
-use Rattle.table_model.specs.Header.{head_of, padded}
-use Rattle.table_model.specs.Xsdt.{xsdt_rows}
-use Rattle.table_model.specs.Rsdp.{rsdp_rows}
-use Rattle.table_model.specs.Acpi.{rows_of}
+use Rattle.acpi_model.specs.declared.header.Head.{Head}
+use Rattle.acpi_model.specs.declared.acpi.Table.{Table}
+use Rattle.acpi_model.specs.declared.acpi.Table.TheVariants.{Hpet}
+use Rattle.acpi_model.specs.Header.{head_of, padded}
+use Rattle.acpi_model.specs.Xsdt.{xsdt_rows}
+use Rattle.acpi_model.specs.Rsdp.{rsdp_rows}
+use Rattle.acpi_model.specs.Acpi.{rows_of}
 use Rattle.blob_holes.specs.declared.hole.PointerHole.{PointerHole}
 use Rattle.blob_holes.specs.Blob.{BlobState, aligned}
 use Rattle.blob_holes.specs.Rows.{pointer_of, pointer_holes}
-use Rattle.acpi_fixed.specs.Tables.{tables_name, table_pointer, with_table}
+use Rattle.acpi_append.specs.Tables.{tables_name, table_pointer, with_table}
 use Rattle.image_files.specs.Files.{whole}
 use Rattle.vm_image.specs.Image.{with_tables, places_in, xsdt_place, acpi_files}
 

@@ -5,18 +5,18 @@ use Rattle.vt_layout.specs.Rows.{size}
 use Rattle.vt_layout.specs.Shown.{LayoutHeld}
 use Rattle.machine_desc.specs.declared.machine.Machine.{Machine}
 use Rattle.machine_desc.specs.declared.machine.Acpi.{Acpi}
-use Rattle.table_model.specs.declared.header.Head.{Head}
-use Rattle.table_model.specs.declared.acpi.Table.{Table}
-use Rattle.table_model.specs.Header.{padded, head_of}
-use Rattle.table_model.specs.Xsdt.{IsXsdt}
-use Rattle.table_model.specs.Rsdp.{rsdp_rows}
-use Rattle.table_model.specs.Acpi.{rows_of, linked_table, tables_of}
-use Rattle.table_model.specs.Walked.{AreAt}
+use Rattle.acpi_model.specs.declared.header.Head.{Head}
+use Rattle.acpi_model.specs.declared.acpi.Table.{Table}
+use Rattle.acpi_model.specs.Header.{padded, head_of}
+use Rattle.acpi_model.specs.Xsdt.{IsXsdt}
+use Rattle.acpi_model.specs.Rsdp.{rsdp_rows}
+use Rattle.acpi_model.specs.Acpi.{rows_of, linked_table, tables_of}
+use Rattle.acpi_model.specs.Walked.{AreAt}
 use Rattle.blob_holes.specs.Blob.{BlobState, IsBlob}
 use Rattle.blob_holes.specs.Grown.{IsLinkable}
 use Rattle.blob_holes.specs.Held.{HoldsFilled, WhereHeld}
 use Rattle.image_files.specs.Files.{whole}
-use Rattle.acpi_fixed.specs.Tables.{tables_name, table_pointer}
+use Rattle.acpi_append.specs.Tables.{tables_name, table_pointer}
 use Rattle.vm_image.specs.Image.{AcpiImage, with_tables, places_in, xsdt_place, acpi_files}
 
 -- the most bytes that tables take, with zeros in front of each and its entry in the XSDT

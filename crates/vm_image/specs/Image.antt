@@ -6,13 +6,13 @@ use Rattle.machine_desc.specs.declared.machine.Machine.{Machine}
 use Rattle.machine_desc.specs.declared.machine.Acpi.{Acpi}
 use Rattle.blob_holes.specs.Blob.{BlobState, next_place}
 use Rattle.blob_holes.specs.Rows.{with_rows}
-use Rattle.acpi_fixed.specs.Tables.{with_table, with_xsdt, with_rsdp, tables_name as acpi_tables_name}
+use Rattle.acpi_append.specs.Tables.{with_table, with_xsdt, with_rsdp, tables_name as acpi_tables_name}
 use Rattle.smbios_build.specs.Spelling.{structures_bytes}
-use Rattle.table_model.specs.declared.acpi.Table.{Table}
-use Rattle.table_model.specs.Header.{head_of, padded}
-use Rattle.table_model.specs.Acpi.{tables_of}
-use Rattle.table_model.specs.Anchor.{anchor_rows, anchor_of}
-use Rattle.table_model.specs.MachineStructures.{structures_of}
+use Rattle.acpi_model.specs.declared.acpi.Table.{Table}
+use Rattle.acpi_model.specs.Header.{head_of, padded}
+use Rattle.acpi_model.specs.Acpi.{tables_of}
+use Rattle.smbios_model.specs.Anchor.{anchor_rows, anchor_of}
+use Rattle.smbios_model.specs.MachineStructures.{structures_of}
 use Rattle.vt_layout.specs.declared.row.Row.TheVariants.{Pointer}
 use Rattle.zone_alloc.specs.declared.zone.Zone.{Zone}
 use Rattle.zone_alloc.specs.declared.zone.Zone.TheVariants.{High, Fseg}

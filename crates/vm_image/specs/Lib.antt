@@ -13,4 +13,4 @@ pub use Rattle.image_files.specs.Linkable
 pub use Rattle.vt_bytes.specs.Memory
 pub use Rattle.machine_desc.specs.Rules
 pub use Rattle.table_model.specs.Inventory
-pub use Rattle.acpi_fixed.specs.Tables
+pub use Rattle.acpi_append.specs.Tables

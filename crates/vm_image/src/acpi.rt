@@ -3,22 +3,22 @@
 ghost use Rattle.std.specs.Prelude.{◌≡◌, ◌≤◌, [], ◌++◌, IfOk, OnOk};
 ghost use Rattle.std.specs.List.{AllByRecursion};
 ghost use Rattle.machine_desc.specs.Rules.{IsAccepted};
-ghost use Rattle.table_model.specs.Header.{FitsHead, head_of};
-ghost use Rattle.table_model.specs.Acpi.{IsWritable, tables_of};
-ghost use Rattle.acpi_fixed.specs.Tables.{with_xsdt};
+ghost use Rattle.acpi_model.specs.Header.{FitsHead, head_of};
+ghost use Rattle.acpi_model.specs.Acpi.{IsWritable, tables_of};
+ghost use Rattle.acpi_append.specs.Tables.{with_xsdt};
 ghost use Rattle.image_files.specs.Files.{whole};
 ghost use Rattle.vm_image.specs.Image.{acpi_part, acpi_placed, acpi_files, with_tables, places_in, xsdt_place};
 ghost use Rattle.vm_image.specs.AcpiHeld.{AreAcpiKnown, IsAcpiImage, IsTablesFile, AreAppended, most_bytes};
 
 use crate::names::{acpi_tables_name, rsdp_name};
 use crate::placed::placed_file;
-use acpi_fixed::{put_rsdp, put_table, put_xsdt};
+use acpi_append::{put_rsdp, put_table, put_xsdt};
+use acpi_model::{Head, Table, head_of, tables_of};
 use blob_holes::{Blob, Parts};
 use image_files::ImageFile;
 use machine_desc::{Acpi, Machine};
 use std::alloc::Global;
 use std::marker::Model;
-use table_model::{Head, Table, head_of, tables_of};
 use vt_outside::{List, OutOfMemory};
 use zone_alloc::Zone;
 

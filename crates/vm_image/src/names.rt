@@ -2,9 +2,9 @@
 
 ghost use Rattle.std.specs.Prelude.{◌≡◌};
 ghost use Rattle.vm_image.specs.Image.{anchor_name, structures_name, rsdp_name};
-ghost use Rattle.acpi_fixed.specs.Tables.{tables_name as acpi_tables_name};
+ghost use Rattle.acpi_append.specs.Tables.{tables_name as acpi_tables_name};
 
-use acpi_fixed::TABLES_FILE;
+use acpi_append::TABLES_FILE;
 use vt_outside::Name;
 
 /// Returns the name of the file of the SMBIOS anchor.

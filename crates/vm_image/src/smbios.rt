@@ -2,8 +2,8 @@
 
 ghost use Rattle.std.specs.Prelude.{◌≡◌, ◌<◌, ◌++◌, IfOk, OnOk};
 ghost use Rattle.machine_desc.specs.Rules.{IsAccepted};
-ghost use Rattle.table_model.specs.MachineStructures.{structures_of};
-ghost use Rattle.table_model.specs.Smbios.{AreStructures};
+ghost use Rattle.smbios_model.specs.MachineStructures.{structures_of};
+ghost use Rattle.smbios_model.specs.Smbios.{AreStructures};
 ghost use Rattle.image_files.specs.Files.{whole};
 ghost use Rattle.vm_image.specs.Image.{anchor_blob, anchor_name, smbios_placed, structures_file, structures_name, placed_file};
 
@@ -13,8 +13,8 @@ use blob_holes::{Blob, Parts, append_rows};
 use image_files::ImageFile;
 use machine_desc::Machine;
 use smbios_build::{SmbiosBuildFault, build_smbios};
+use smbios_model::{anchor_of, anchor_rows, structures_of};
 use std::alloc::Global;
-use table_model::{anchor_of, anchor_rows, structures_of};
 use vt_layout::Row;
 use vt_outside::{Bytes, List, OutOfMemory};
 use zone_alloc::Zone;

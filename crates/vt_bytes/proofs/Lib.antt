@@ -2,6 +2,7 @@ pub mod Numbers
 pub mod Puts
 pub mod Spelt
 pub mod Each
+pub mod AtMostOne
 pub mod Views
 pub mod FirstByte
 pub mod Bytes

@@ -122,7 +122,7 @@ all_bytes bytes each i =
 le-below : (bytes : List ℕ) → ((i : ℕ) → slice_index bytes i < 256) → le bytes < 256 ^ length bytes
 le-below bytes each = subst (λ all. le all < 256 ^ length bytes) (take-length bytes) (le-fits (length bytes) bytes each)
 
-value-below : (row : Row) (bytes : List ℕ) → ((i : ℕ) → slice_index bytes i < 256) → value_in row bytes < 256 ^ length bytes
+pub value-below : (row : Row) (bytes : List ℕ) → ((i : ℕ) → slice_index bytes i < 256) → value_in row bytes < 256 ^ length bytes
 value-below (BigEndian width value) bytes each =
     subst (λ n. be bytes < 256 ^ n) (length-reverse bytes) (le-below (reverse bytes) (all_bytes bytes each))
 value-below row bytes each = le-below bytes each

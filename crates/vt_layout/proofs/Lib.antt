@@ -7,3 +7,11 @@ pub mod InBytes
 pub mod AsRows
 pub mod Entries
 pub mod Filled
+pub mod NumberedRows
+pub mod NamedTexts
+pub mod ReadableFields
+pub mod AddedFields
+pub mod ValuesInTurn
+pub mod ReadRecords
+pub mod MissingStrings
+pub mod WrittenRecords

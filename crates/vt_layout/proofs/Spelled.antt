@@ -13,7 +13,7 @@ use Rattle.vt_layout.proofs.Sizes.{length-bytes_of, length-spelled}
 use Rattle.vt_layout.proofs.Shows.{shown_rows}
 
 -- files stand nowhere
-nowhere : List ℕ → ℕ
+pub nowhere : List ℕ → ℕ
 nowhere name = 0
 
 held_row : (view : View) (place_of : List ℕ → ℕ) (start address : ℕ) (row : Row) → IsPlain row
@@ -26,7 +26,7 @@ linked_plain : (place_of : List ℕ → ℕ) (row : Row) → IsPlain row → lin
 linked_plain place_of (Pointer width target offset) plain = absurd plain
 linked_plain place_of row plain = refl
 
-linked_rows : (place_of : List ℕ → ℕ) (rows : List Row) → AllByRecursion IsPlain rows → linked place_of rows ≡ rows
+pub linked_rows : (place_of : List ℕ → ℕ) (rows : List Row) → AllByRecursion IsPlain rows → linked place_of rows ≡ rows
 linked_rows place_of [] plain = refl
 linked_rows place_of (row ∷ rows) plain =
     let first : linked_row place_of row ≡ row = linked_plain place_of row plain.0 in
@@ -34,7 +34,7 @@ linked_rows place_of (row ∷ rows) plain =
     cc
 
 -- they are held where their bytes are
-held_rows : (view : View) (place_of : List ℕ → ℕ) (start address : ℕ) (rows : List Row) → AllByRecursion IsRow rows → AllByRecursion IsPlain rows
+pub held_rows : (view : View) (place_of : List ℕ → ℕ) (start address : ℕ) (rows : List Row) → AllByRecursion IsRow rows → AllByRecursion IsPlain rows
     → bytes_in view address (size rows) ≡ Some (spelled rows) → Held view place_of start address rows
 held_rows view place_of start address [] are plain shown = tt
 held_rows view place_of start address (row ∷ rows) are plain shown =

@@ -4,6 +4,11 @@ pub mod Entries
 pub mod Filled
 pub mod Reading
 pub mod PointerSize
+pub mod Strings
+pub mod Numbered
+pub mod Values
+pub mod Fields
+pub mod Records
 pub use Rattle.vt_outside.specs.Name
 pub use Rattle.vt_bytes.specs.Numbers
 pub use Rattle.vt_bytes.specs.View

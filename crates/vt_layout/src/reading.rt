@@ -3,7 +3,7 @@ ghost use Rattle.vt_layout.specs.Rows.{width_of};
 ghost use Rattle.vt_layout.specs.Reading.{row_at, bytes_at_row, read_number, read_name, IsNumber, IsNamed, Reach};
 
 use crate::row::{Row, size_of};
-use vt_bytes::{get_be, get_le};
+use crate::row_value::number_at;
 use vt_outside::{Name, NameFault};
 
 /// Reads the number of one byte at the row `rows[index]`, in the byte order of that row. The row must be a `Number` or a
@@ -76,11 +76,7 @@ fn number(bytes: &[u8], rows: &[Row], index: usize) -> u64
     ensures number { result ≡ read_number index rows.now bytes.now }
     ensures fits { result < 256 ^ width_of (row_at index rows.now) }
 {
-    let field = field(bytes, rows, index);
-    match &rows[index] {
-        Row::BigEndian(_, _) => get_be(field, 0, field.len()),
-        _ => get_le(field, 0, field.len()),
-    }
+    number_at(&rows[index], field(bytes, rows, index))
 }
 
 // The bytes at the row with this index.

@@ -1,9 +1,9 @@
 use Rattle.std.proofs.Common.{subst}
 use Rattle.std.proofs.lemmas.Result.{on_ok_weaker}
-use Rattle.table_model.specs.Hpet.{hpet_of}
-use Rattle.table_model.specs.declared.acpi.Table.TheVariants.{Hpet}
-use Rattle.table_model.proofs.AcceptedAcpi.{accepted_fits}
-use Rattle.acpi_fixed.specs.Tables.{IsTablePut}
+use Rattle.acpi_model.specs.Hpet.{hpet_of}
+use Rattle.acpi_model.specs.declared.acpi.Table.TheVariants.{Hpet}
+use Rattle.acpi_model.proofs.AcceptedAcpi.{accepted_fits}
+use Rattle.acpi_append.specs.Tables.{IsTablePut}
 use Rattle.acpi_fixed.proofs.AcpiThere.{has_acpi, not_none}
 use Rattle.acpi_fixed.proofs.OfParts.{of_parts}
 use Rattle.acpi_fixed.proofs.hpet.append_hpet.Goals as goal

@@ -1,6 +1,6 @@
 use Rattle.std.proofs.Common.{◌≡◌, ℕ, ◌-◌, ◌%◌, ◌<◌, ◌≤◌}
 use Rattle.vt_bytes.specs.Memory.{seen}
-use Rattle.table_model.specs.Anchor.{HasAnchor}
+use Rattle.smbios_model.specs.Anchor.{HasAnchor}
 use Rattle.anchor_scan.proofs.anchor.find_smbios.Given as goal
 
 abbrev pub invariant-loop-address : goal.invariant-loop-address

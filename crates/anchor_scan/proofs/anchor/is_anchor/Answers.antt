@@ -1,7 +1,7 @@
 use Rattle.std.proofs.Common.{◌≡◌, arith, ap, eq-eqb, eqb-true, sym, ◌∙◌}
 use Rattle.vt_bytes.specs.Numbers.{byte_sum}
 use Rattle.vt_bytes.specs.Memory.{bytes_at, seen}
-use Rattle.table_model.specs.Anchor.{HasAnchor}
+use Rattle.smbios_model.specs.Anchor.{HasAnchor}
 use Rattle.anchor_scan.proofs.Anchors.{anchor_stands, length_read, sum_of_anchor}
 use Rattle.anchor_scan.proofs.anchor.is_anchor.Goals as goal
 

@@ -1,7 +1,7 @@
 use Rattle.std.proofs.Common.{◌≡◌, length, min, arith, ap, sym, subst, ◌∙◌}
 use Rattle.vt_bytes.proofs.Bytes.{length-bytes_at}
 use Rattle.vt_bytes.specs.Memory.{bytes_at, seen}
-use Rattle.table_model.specs.Anchor.{IsRange}
+use Rattle.smbios_model.specs.Anchor.{IsRange}
 use Rattle.anchor_scan.proofs.Copied.{written_whole, range_copied}
 use Rattle.anchor_scan.proofs.range.range_from.Goals as goal
 

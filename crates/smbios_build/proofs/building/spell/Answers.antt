@@ -2,8 +2,8 @@ use Rattle.std.proofs.Common.{◌≡◌, take, ap, subst, sym, ◌∙◌}
 use Rattle.std.specs.List.{AllByRecursion}
 use Rattle.std.proofs.lemmas.List.{take_all}
 use Rattle.vt_bytes.proofs.Each.{each_at}
-use Rattle.table_model.specs.declared.smbios.Structure.{Structure}
-use Rattle.table_model.specs.Smbios.{AreStructures}
+use Rattle.smbios_model.specs.declared.smbios.Structure.{Structure}
+use Rattle.smbios_model.specs.Smbios.{AreStructures}
 use Rattle.smbios_build.specs.Spelling.{structures_bytes}
 use Rattle.smbios_build.specs.Buildable.{IsBuildable, HasFittingNumbers}
 use Rattle.smbios_build.proofs.Read.{each_buildable, built_structures}

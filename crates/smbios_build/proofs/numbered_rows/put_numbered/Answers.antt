@@ -4,8 +4,8 @@ use Rattle.std.proofs.lemmas.List.{take_all, drop-map, length-drop, take-append-
 use Rattle.vt_outside.specs.declared.text.Text.{Text}
 use Rattle.vt_bytes.proofs.Each.{each_back}
 use Rattle.vt_layout.specs.Rows.{spelled}
-use Rattle.table_model.specs.Strings.{HasNoNul, numbers_from, strings_of}
-use Rattle.table_model.specs.Numbered.{numbered}
+use Rattle.vt_layout.specs.Strings.{HasNoNul, numbers_from, strings_of}
+use Rattle.vt_layout.specs.Numbered.{numbered}
 use Rattle.smbios_build.proofs.PutRows.{one_put}
 use Rattle.smbios_build.proofs.numbered_rows.put_numbered.Goals as goal
 

@@ -1,5 +1,5 @@
 use Rattle.vt_bytes.proofs.Each.{each_weaker}
-use Rattle.table_model.specs.Strings.{HasNoNul, IsString}
+use Rattle.vt_layout.specs.Strings.{HasNoNul, IsString}
 use Rattle.smbios_build.proofs.Counted.{typed_counted}
 use Rattle.smbios_build.proofs.sizes.listed_size.Goals as goal
 

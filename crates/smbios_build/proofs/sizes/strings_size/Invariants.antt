@@ -1,5 +1,5 @@
 use Rattle.std.proofs.Common.{◌≡◌, min, length, take}
-use Rattle.table_model.specs.Strings.{strings_of, with_nuls}
+use Rattle.vt_layout.specs.Strings.{strings_of, with_nuls}
 use Rattle.smbios_build.proofs.sizes.strings_size.Given as goal
 
 abbrev pub invariant-loop-text : goal.invariant-loop-text

@@ -1,5 +1,5 @@
 use Rattle.std.proofs.Common.{length, min, ap, ◌∙◌}
-use Rattle.table_model.specs.Strings.{strings_of, with_nuls}
+use Rattle.vt_layout.specs.Strings.{strings_of, with_nuls}
 use Rattle.smbios_build.proofs.Counted.{raw_counted}
 use Rattle.smbios_build.proofs.sizes.structure_size.Goals as goal
 

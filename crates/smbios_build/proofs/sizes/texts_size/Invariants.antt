@@ -1,6 +1,6 @@
 use Rattle.std.proofs.Common.{◌≡◌, min, map, length, take, Bor}
 use Rattle.vt_outside.specs.declared.text.Text.{Text}
-use Rattle.table_model.specs.Strings.{strings_of, with_nuls}
+use Rattle.vt_layout.specs.Strings.{strings_of, with_nuls}
 use Rattle.smbios_build.proofs.sizes.texts_size.Given as goal
 
 abbrev pub invariant-loop-text : goal.invariant-loop-text

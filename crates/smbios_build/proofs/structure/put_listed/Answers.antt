@@ -1,6 +1,6 @@
 use Rattle.std.proofs.Common.{◌++◌, ap, ◌∙◌}
 use Rattle.std.proofs.lemmas.Result.{on_ok_weaker}
-use Rattle.table_model.specs.Strings.{string_set}
+use Rattle.vt_layout.specs.Strings.{string_set}
 use Rattle.smbios_build.proofs.PutStructures.{listed_put}
 use Rattle.smbios_build.proofs.structure.put_listed.Goals as goal
 

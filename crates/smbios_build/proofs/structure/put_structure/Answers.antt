@@ -1,5 +1,5 @@
 use Rattle.std.proofs.Common.{arith}
-use Rattle.table_model.specs.declared.smbios.Body.TheVariants.{Bios, Chassis, Processor, Slot, Device}
+use Rattle.smbios_model.specs.declared.smbios.Body.TheVariants.{Bios, Chassis, Processor, Slot, Device}
 use Rattle.smbios_build.proofs.PutStructures.{is_put, raw_put}
 use Rattle.smbios_build.proofs.structure.put_structure.Goals as goal
 

@@ -1,7 +1,7 @@
 use Rattle.std.proofs.Common.{length, get_or, refl, ap, sym, ◌∙◌}
 use Rattle.std.specs.Option.{option_map}
-use Rattle.table_model.specs.OemStrings.{oem_strings_kind}
-use Rattle.table_model.proofs.KnownKinds.{known_sized}
+use Rattle.smbios_model.specs.OemStrings.{oem_strings_kind}
+use Rattle.smbios_model.proofs.KnownKinds.{known_sized}
 use Rattle.smbios_decode.specs.Kinds.{kind_of}
 use Rattle.smbios_decode.proofs.Bodies.{known_body, oem_body}
 use Rattle.smbios_decode.proofs.body.read_body.Goals as goal

@@ -1,5 +1,5 @@
 use Rattle.std.proofs.Common.{refl}
-use Rattle.table_model.specs.ProcessorInformation.{processor_kind}
+use Rattle.smbios_model.specs.ProcessorInformation.{processor_kind}
 use Rattle.smbios_decode.proofs.Taken.{is_taken, taken_none, taken_number, taken_text}
 use Rattle.smbios_decode.proofs.records.processor.Goals as goal
 

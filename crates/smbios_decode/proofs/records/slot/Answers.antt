@@ -1,5 +1,5 @@
 use Rattle.std.proofs.Common.{refl}
-use Rattle.table_model.specs.SlotInformation.{slot_kind}
+use Rattle.smbios_model.specs.SlotInformation.{slot_kind}
 use Rattle.smbios_decode.proofs.Taken.{is_taken, taken_none, taken_number, taken_text}
 use Rattle.smbios_decode.proofs.records.slot.Goals as goal
 

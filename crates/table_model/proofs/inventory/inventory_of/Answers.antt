@@ -1,4 +1,4 @@
-use Rattle.table_model.proofs.AcceptedAcpi.{accepted_fits}
+use Rattle.acpi_model.proofs.AcceptedAcpi.{accepted_fits}
 use Rattle.table_model.proofs.inventory.inventory_of.Goals as goal
 
 pub acpi_of-requires : goal.acpi_of-requires

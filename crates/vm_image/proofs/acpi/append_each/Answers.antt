@@ -1,7 +1,7 @@
 use Rattle.std.proofs.Common.{get_or, arith, refl}
 use Rattle.vt_bytes.proofs.Each.{each_at}
-use Rattle.table_model.specs.declared.acpi.Table.{Table}
-use Rattle.table_model.specs.Acpi.{IsWritable}
+use Rattle.acpi_model.specs.declared.acpi.Table.{Table}
+use Rattle.acpi_model.specs.Acpi.{IsWritable}
 use Rattle.vm_image.proofs.AcpiFiles.{next_appended, most_bytes-take}
 use Rattle.vm_image.proofs.acpi.append_each.Goals as goal
 

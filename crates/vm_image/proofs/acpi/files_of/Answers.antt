@@ -1,5 +1,5 @@
 use Rattle.std.proofs.Common.{[], ap, subst, ◌∙◌}
-use Rattle.acpi_fixed.specs.Tables.{with_xsdt, IsRsdpPut}
+use Rattle.acpi_append.specs.Tables.{with_xsdt, IsRsdpPut}
 use Rattle.image_files.specs.Files.{whole}
 use Rattle.vm_image.specs.Image.{with_tables, places_in}
 use Rattle.vm_image.specs.AcpiHeld.{IsTablesFile, IsAcpiImage}

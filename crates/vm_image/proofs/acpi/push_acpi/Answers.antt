@@ -1,8 +1,8 @@
 use Rattle.std.proofs.Common.{◌≡◌, ◌++◌, OnOk, ap, subst, sym, ◌∙◌}
 use Rattle.std.specs.List.{AllByRecursion}
-use Rattle.table_model.specs.Acpi.{IsWritable}
-use Rattle.table_model.proofs.AcceptedAcpi.{accepted_fits}
-use Rattle.table_model.proofs.Walked.{machine_writable}
+use Rattle.acpi_model.specs.Acpi.{IsWritable}
+use Rattle.acpi_model.proofs.AcceptedAcpi.{accepted_fits}
+use Rattle.acpi_model.proofs.Walked.{machine_writable}
 use Rattle.vm_image.specs.Image.{acpi_files, acpi_part, acpi_placed}
 use Rattle.vm_image.specs.AcpiHeld.{AreAcpiKnown, IsAcpiImage}
 use Rattle.vm_image.proofs.Pushed.{on_ok}

@@ -1,0 +1,88 @@
+-- Files with tables at their ends, by the definitions alone: they are as the calls that append say.
+use Rattle.std.proofs.Common.{◌≡◌, ℕ, ◌+◌, ◌^◌, ◌<◌, List, length, map, refl, arith}
+use Rattle.std.specs.List.{AllByRecursion}
+use Rattle.vt_bytes.proofs.Each.{each_append, each_map}
+use Rattle.vt_layout.specs.declared.row.Row.{Row}
+use Rattle.vt_layout.specs.Rows.{size, IsRow, linked}
+use Rattle.vt_layout.specs.Shown.{LayoutShown}
+use Rattle.vt_layout.proofs.Shows.{shown_rows}
+use Rattle.acpi_model.specs.declared.header.Head.{Head}
+use Rattle.acpi_model.specs.declared.acpi.Table.{Table}
+use Rattle.acpi_model.specs.Header.{header_rows, table_rows}
+use Rattle.acpi_model.specs.Xsdt.{xsdt_rows}
+use Rattle.acpi_model.specs.Rsdp.{rsdp_rows}
+use Rattle.acpi_model.specs.Acpi.{IsWritable, rows_of}
+use Rattle.acpi_model.proofs.Xsdt.{held_xsdt}
+use Rattle.blob_holes.specs.Blob.{BlobState, IsBlob, next_place}
+use Rattle.blob_holes.specs.Rows.{IsUnsummed, AreRows}
+use Rattle.blob_holes.proofs.RowsKept.{layout_appended}
+use Rattle.acpi_append.specs.Tables.{table_pointer, tables_name, with_table, with_xsdt, with_rsdp, IsTablePut, IsXsdtPut, IsRsdpPut}
+use Rattle.acpi_append.proofs.Tables.{are_table_rows}
+use Rattle.acpi_append.proofs.Puts.{put_where_held, table_put}
+
+-- the numbers of a header fit its rows
+pub record IsFittingHead (h : Head) : Type 0 where
+  pub revision : h.revision < 2 ^ 8
+  pub oem_id : length h.oem_id ≡ 6
+  pub oem_table_id : length h.oem_table_id ≡ 8
+  pub oem_revision : h.oem_revision < 2 ^ 32
+  pub creator_id : length h.creator_id ≡ 4
+  pub creator_revision : h.creator_revision < 2 ^ 32
+
+header_fits : (signature : List ℕ) (total : ℕ) (h : Head) → length signature ≡ 4 → total < 2 ^ 32 → IsFittingHead h
+    → AllByRecursion IsRow (header_rows signature total h)
+header_fits signature total h four few fits = (
+  four,
+  (
+    (omega arith, omega arith),
+    (
+      (omega arith, omega (arith, fits.revision)),
+      (
+        tt,
+        (
+          fits.oem_id,
+          (
+            fits.oem_table_id,
+            ((omega arith, omega (arith, fits.oem_revision)), (fits.creator_id, ((omega arith, omega (arith, fits.creator_revision)), tt))),
+          ),
+        ),
+      ),
+    ),
+  ),
+)
+
+-- so the rows of a table can be appended
+pub table_fits : (signature : List ℕ) (h : Head) (body : List Row) → length signature ≡ 4 → size body < 2 ^ 31 → IsFittingHead h
+    → AllByRecursion IsRow body → AllByRecursion IsUnsummed body → AreRows (table_rows signature h body)
+table_fits signature h body four few fits are no_sum =
+    are_table_rows signature h body
+    (each_append IsRow (header_rows signature (36 + size body) h) body (header_fits signature (36 + size body) h four (omega arith) fits) are) no_sum
+
+module _ (file : BlobState) (blob : IsBlob file) where
+  -- a table
+  pub table_appended : (table : Table) → IsWritable table → AreRows (rows_of table) → next_place 16 file + size (rows_of table) < 2 ^ 32
+      → IsTablePut file (with_table file table) table
+  table_appended table writable are short =
+      table_put file (with_table file table) table (rows_of table) refl writable (layout_appended 16 file (rows_of table) blob are short) are.each
+
+  -- an XSDT
+  pub xsdt_appended : (h : Head) (tables : List ℕ) → AreRows (xsdt_rows h (map table_pointer tables))
+      → next_place 16 file + size (xsdt_rows h (map table_pointer tables)) < 2 ^ 32 → IsXsdtPut file (with_xsdt file h tables) h tables
+  xsdt_appended h tables are short =
+      put_where_held file (with_xsdt file h tables) (xsdt_rows h (map table_pointer tables)) _
+      (layout_appended 16 file (xsdt_rows h (map table_pointer tables)) blob are short)
+      (λ view at place_of held. held_xsdt view place_of at h tables_name tables are.each held)
+
+  -- an RSDP
+  pub rsdp_appended : (oem_id : List ℕ) (xsdt : ℕ) → AreRows (rsdp_rows oem_id (table_pointer xsdt))
+      → next_place 16 file + size (rsdp_rows oem_id (table_pointer xsdt)) < 2 ^ 32 → IsRsdpPut file (with_rsdp file oem_id xsdt) oem_id xsdt
+  rsdp_appended oem_id xsdt are short =
+      let rows = rsdp_rows oem_id (table_pointer xsdt) in
+      let put : IsRsdpPut file (with_rsdp file oem_id xsdt) oem_id xsdt =
+      put_where_held file (with_rsdp file oem_id xsdt) rows (λ view at place_of. LayoutShown view at (linked place_of rows))
+      (layout_appended 16 file rows blob are short) (λ view at place_of held. shown_rows view place_of at at rows are.each held) in
+      put
+
+-- the pointers to tables are no sums
+pub pointers_unsummed : (tables : List ℕ) → AllByRecursion IsUnsummed (map table_pointer tables)
+pointers_unsummed tables = each_map IsUnsummed table_pointer (λ table. tt) tables

@@ -1,0 +1,55 @@
+-- Files of ACPI tables with one table more (ACPI 6.5, 5.2). Each begins at a multiple of 16.
+use Rattle.std.specs.Prelude.{ℕ, ◌+◌, List, map, codes}
+use Rattle.vt_bytes.specs.View.{View}
+use Rattle.vt_layout.specs.declared.row.Row.{Row}
+use Rattle.vt_layout.specs.declared.row.Row.TheVariants.{Number, Pointer}
+use Rattle.vt_layout.specs.Shown.{LayoutShown}
+use Rattle.acpi_model.specs.declared.header.Head.{Head}
+use Rattle.acpi_model.specs.declared.acpi.Table.{Table}
+use Rattle.acpi_model.specs.Acpi.{rows_of, linked_table, IsAt}
+use Rattle.acpi_model.specs.Xsdt.{IsXsdt, xsdt_rows, given}
+use Rattle.acpi_model.specs.Rsdp.{rsdp_rows}
+use Rattle.blob_holes.specs.Blob.{BlobState, next_place, aligned}
+use Rattle.blob_holes.specs.Rows.{with_rows}
+use Rattle.blob_holes.specs.Held.{WhereHeld}
+use Rattle.blob_holes.specs.Appended.{IsAppended}
+
+-- the file that holds the tables, and whose place the pointers to them have added
+abbrev pub tables_name : List ℕ
+tables_name = codes "etc/acpi/tables"
+
+-- the address of a table that stands at an offset of that file
+abbrev pub table_pointer : ℕ → Row
+table_pointer offset = Pointer 8 tables_name offset
+
+abbrev pub with_table : BlobState → Table → BlobState
+with_table blob table = with_rows (aligned 16 blob) (rows_of table)
+
+abbrev pub with_xsdt : BlobState → Head → List ℕ → BlobState
+with_xsdt blob head tables = with_rows (aligned 16 blob) (xsdt_rows head (map table_pointer tables))
+
+abbrev pub with_rsdp : BlobState → List ℕ → ℕ → BlobState
+with_rsdp blob oem_id xsdt = with_rows (aligned 16 blob) (rsdp_rows oem_id (table_pointer xsdt))
+
+-- The rows of a table were appended at the next multiple of 16, and wherever a view then holds the file with its holes filled, this
+-- is shown at their address.
+pub record IsPut (before after : BlobState) (rows : List Row) (IsShown : View → ℕ → (List ℕ → ℕ) → Type 0) : Type 0 where
+  pub appended : IsAppended 16 before after rows
+  pub shown : WhereHeld after (λ view address place_of. IsShown view (address + next_place 16 before) place_of)
+
+-- a table of a known kind was appended: it stands there, with its pointers linked
+abbrev pub IsTablePut : BlobState → BlobState → Table → Type 0
+IsTablePut before after table =
+    IsPut before after (rows_of table) (λ view address place_of. IsAt view address (linked_table place_of table))
+
+-- an XSDT was appended: it stands there, and names each of the tables that isn't at zero
+abbrev pub IsXsdtPut : BlobState → BlobState → Head → List ℕ → Type 0
+IsXsdtPut before after head tables =
+    IsPut before after (xsdt_rows head (map table_pointer tables))
+    (λ view address place_of. IsXsdt view address head (given (map (λ table. table + place_of tables_name) tables)))
+
+-- an RSDP was appended: a reader finds the address of the XSDT there
+abbrev pub IsRsdpPut : BlobState → BlobState → List ℕ → ℕ → Type 0
+IsRsdpPut before after oem_id xsdt =
+    IsPut before after (rsdp_rows oem_id (table_pointer xsdt))
+    (λ view address place_of. LayoutShown view address (rsdp_rows oem_id (Number 8 (xsdt + place_of tables_name))))

@@ -1,0 +1,10 @@
+pub mod AcceptedAcpi
+pub mod Choices
+pub mod OneTable
+pub mod Known
+pub mod OneLayout
+pub mod HeldTables
+pub mod Xsdt
+pub mod OneRsdp
+pub mod OneAcpi
+pub mod Walked

@@ -1,0 +1,13 @@
+pub mod OneStringSet
+pub mod OneBody
+pub mod OneStructure
+pub mod OneStructures
+pub mod OneSmbios
+pub mod KnownKinds
+pub mod WrittenAreas
+pub mod KnownStructures
+pub mod WrittenBodies
+pub mod PushedParts
+pub mod AcceptedParts
+pub mod PartsByType
+pub mod SameParts

@@ -1,0 +1,98 @@
+ghost use Rattle.std.specs.Prelude.{◌≡◌, ◌^◌, ◌≤◌, length};
+ghost use Rattle.std.specs.List.{AllByRecursion};
+ghost use Rattle.vt_layout.specs.Rows.{IsRow};
+ghost use Rattle.smbios_model.specs.MemoryArray.{array_rows, array_of, capacity_of, total_mib};
+
+use crate::fields::{byte, dword, qword, word};
+use crate::units::{BYTES_IN_MIB, KIB_IN_MIB};
+use machine_desc::Dimm;
+use vt_layout::Row;
+
+/// The handle of a machine's array, by which its devices and its mapped addresses name it.
+pub(crate) const ARRAY_HANDLE: u16 = 0x1000;
+
+// 2 TiB in MiB, which is a capacity of 0x80000000 KiB.
+const TWO_TIB: u64 = 0x20_0000;
+
+// What the first field holds where the second field tells the capacity.
+const EXTENDED_CAPACITY: u32 = 0x8000_0000;
+
+/// Physical Memory Array (DSP0134 7.17).
+#[derive(Clone, Copy, Debug, PartialEq, Eq)]
+pub struct ArrayInfo {
+    /// Where it is (7.17.1).
+    pub location: u8,
+    /// What it is used for (7.17.2).
+    pub purpose: u8,
+    /// How it corrects errors (7.17.3).
+    pub correction: u8,
+    /// The greatest capacity in KiB, or 0x80000000 where the second field tells.
+    pub capacity: u32,
+    /// The handle of what tells of its errors, or 0xFFFE where there is none.
+    pub error: u16,
+    /// How many memory devices it has.
+    pub devices: u16,
+    /// The greatest capacity in bytes, or 0 where the first field tells.
+    pub extended: u64,
+}
+
+/// Returns the rows of the area of `info` behind its header (DSP0134 7.17).
+pub fn array_rows(info: &ArrayInfo) -> [Row; 7]
+    ensures rows { result ≡ array_rows info.now }
+    ensures fit { AllByRecursion IsRow result }
+{
+    [
+        byte(info.location),
+        byte(info.purpose),
+        byte(info.correction),
+        dword(info.capacity),
+        word(info.error),
+        word(info.devices),
+        qword(info.extended),
+    ]
+}
+
+/// Returns the array of `dimms`, at most 256 modules: system memory on the board, without error correction.
+pub fn array_of(dimms: &[Dimm]) -> ArrayInfo
+    requires { length dimms.now ≤ 256 }
+    ensures { result ≡ array_of dimms.now }
+{
+    let total = total_mib(dimms);
+    ArrayInfo {
+        location: 3,
+        purpose: 3,
+        correction: 3,
+        capacity: capacity_of(total),
+        error: 0xFFFE,
+        devices: dimms.len() as u16,
+        extended: if total < TWO_TIB {
+            0
+        } else {
+            total * BYTES_IN_MIB
+        },
+    }
+}
+
+// The capacity of so many MiB.
+fn capacity_of(total: u64) -> u32
+    ensures { result ≡ capacity_of total }
+{
+    if total < TWO_TIB {
+        (total * KIB_IN_MIB) as u32
+    } else {
+        EXTENDED_CAPACITY
+    }
+}
+
+// The size of all modules in MiB.
+fn total_mib(dimms: &[Dimm]) -> u64
+    requires { length dimms.now ≤ 256 }
+    ensures total { result ≡ total_mib dimms.now }
+    ensures small { result ≤ 2 ^ 40 }
+{
+    let mut total = 0;
+    for dimm in dimms {
+        total += u64::from(dimm.size_mib);
+    }
+    total
+}

@@ -1,0 +1,168 @@
+ghost use Rattle.std.specs.Prelude.{◌≡◌, map, IfOk};
+ghost use Rattle.std.specs.List.{AllByRecursion};
+ghost use Rattle.vt_layout.specs.Rows.{IsRow};
+ghost use Rattle.smbios_model.specs.MemoryDevice.{device_rows, device_texts, device_of, size_field, extended_field};
+
+use crate::fields::{byte, dword, string, word};
+use crate::memory_array::ARRAY_HANDLE;
+use crate::texts::three_copies_of;
+use machine_desc::Dimm;
+use vt_layout::Row;
+use vt_outside::{OutOfMemory, Text};
+
+// What the first field holds where the second field tells the size.
+const EXTENDED_SIZE: u16 = 0x7FFF;
+
+/// Memory Device (DSP0134 7.18). An empty text is no text.
+#[derive(Debug, Drop)]
+pub struct DeviceInfo {
+    /// The handle of its array.
+    pub array: u16,
+    /// The handle of what tells of its errors, or 0xFFFE where there is none.
+    pub error: u16,
+    /// Its width in bits with those of error correction, or 0xFFFF where it is unknown.
+    pub total_width: u16,
+    /// Its width in bits without them, or 0xFFFF where it is unknown.
+    pub data_width: u16,
+    /// Its size in MiB, or in KiB with bit 15 set; 0 where none is installed, 0x7FFF where the second field tells, and 0xFFFF
+    /// where it is unknown.
+    pub size: u16,
+    /// Its form (7.18.1).
+    pub form: u8,
+    /// The set of devices that it belongs to, or 0 for none.
+    pub set: u8,
+    /// What is printed at its socket.
+    pub locator: Text,
+    /// What is printed at its bank.
+    pub bank: Text,
+    /// The type of its memory (7.18.2).
+    pub kind: u8,
+    /// More of its type, a bit each (7.18.3).
+    pub detail: u16,
+    /// The greatest speed in MT/s, or 0 where it is unknown.
+    pub speed: u16,
+    /// The manufacturer.
+    pub manufacturer: Text,
+    /// The serial number.
+    pub serial: Text,
+    /// The asset tag.
+    pub asset: Text,
+    /// The part number.
+    pub part: Text,
+    /// Its rank, or 0 where it is unknown.
+    pub attributes: u8,
+    /// Its size in MiB, or 0 where the first field tells (7.18.4).
+    pub extended: u32,
+    /// The speed in MT/s to which it is set, or 0 where it is unknown.
+    pub configured: u16,
+    /// Its least voltage in mV, or 0 where it is unknown.
+    pub min_voltage: u16,
+    /// Its greatest voltage in mV, or 0 where it is unknown.
+    pub max_voltage: u16,
+    /// The voltage in mV to which it is set, or 0 where it is unknown.
+    pub voltage: u16,
+}
+
+/// Returns the rows of the area of `info` behind its header (DSP0134 7.18), with 0 for the number of each string.
+pub fn device_rows(info: &DeviceInfo) -> [Row; 22]
+    ensures rows { result ≡ device_rows info.now }
+    ensures fit { AllByRecursion IsRow result }
+{
+    [
+        word(info.array),
+        word(info.error),
+        word(info.total_width),
+        word(info.data_width),
+        word(info.size),
+        byte(info.form),
+        byte(info.set),
+        string(),
+        string(),
+        byte(info.kind),
+        word(info.detail),
+        word(info.speed),
+        string(),
+        string(),
+        string(),
+        string(),
+        byte(info.attributes),
+        dword(info.extended),
+        word(info.configured),
+        word(info.min_voltage),
+        word(info.max_voltage),
+        word(info.voltage),
+    ]
+}
+
+/// Returns the texts of `info`, in the order of the rows of their numbers.
+pub fn device_texts(info: &DeviceInfo) -> [&Text; 6]
+    ensures { map (λ text. text.now) result ≡ device_texts info.now }
+{
+    [
+        &info.locator,
+        &info.bank,
+        &info.manufacturer,
+        &info.serial,
+        &info.asset,
+        &info.part,
+    ]
+}
+
+/// Returns the Memory Device of a machine's `dimm`, with copies of its texts: a DIMM of RAM in the array of the machine. Its speed
+/// is the one to which it is set, and nothing else is known of it. Returns `OutOfMemory` when memory runs out.
+pub fn device_of(dimm: &Dimm) -> Result<DeviceInfo, OutOfMemory>
+    ensures { IfOk result (λ info. info ≡ device_of dimm.now) }
+{
+    let (locator, bank, manufacturer) = three_copies_of(
+        &dimm.locator,
+        &dimm.bank,
+        &dimm.manufacturer,
+    )?;
+    let (serial, asset, part) = three_copies_of(&dimm.serial, &dimm.asset, &dimm.part)?;
+    Ok(DeviceInfo {
+        array: ARRAY_HANDLE,
+        error: 0xFFFE,
+        total_width: 0xFFFF,
+        data_width: 0xFFFF,
+        size: size_field(dimm.size_mib),
+        form: 9,
+        set: 0,
+        locator,
+        bank,
+        kind: 7,
+        detail: 2,
+        speed: dimm.speed,
+        manufacturer,
+        serial,
+        asset,
+        part,
+        attributes: 0,
+        extended: extended_field(dimm.size_mib),
+        configured: dimm.speed,
+        min_voltage: 0,
+        max_voltage: 0,
+        voltage: 0,
+    })
+}
+
+// The first field of a size in MiB.
+fn size_field(mib: u32) -> u16
+    ensures { result ≡ size_field mib }
+{
+    if mib < u32::from(EXTENDED_SIZE) {
+        mib as u16
+    } else {
+        EXTENDED_SIZE
+    }
+}
+
+// The second field.
+fn extended_field(mib: u32) -> u32
+    ensures { result ≡ extended_field mib }
+{
+    if mib < u32::from(EXTENDED_SIZE) {
+        0
+    } else {
+        mib
+    }
+}

@@ -1,5 +1,0 @@
-use Rattle.table_model.proofs.HeldTables.{held_table}
-use Rattle.table_model.proofs.laws.held_table_is_there.Goals as goal
-
-pub returns : goal.returns
-returns c = held_table

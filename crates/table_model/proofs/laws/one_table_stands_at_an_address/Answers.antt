@@ -1,5 +1,0 @@
-use Rattle.table_model.proofs.OneLayout.{one_at}
-use Rattle.table_model.proofs.laws.one_table_stands_at_an_address.Goals as goal
-
-pub returns : goal.returns
-returns c = one_at

@@ -1,5 +1,0 @@
-use Rattle.table_model.proofs.Walked.{walked}
-use Rattle.table_model.proofs.laws.tables_at_their_addresses_are_walked.Goals as goal
-
-pub returns : goal.returns
-returns c = walked
