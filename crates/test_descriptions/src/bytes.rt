@@ -20,7 +20,7 @@ static BYTES: [(&[u8], &str); 9] = [
         b"\xEF\xBB\xBFversion = 1\ntop_mib = 64\n[system]",
         "top 64||||||",
     ),
-    (b"\xEF\xBB\xBF", "missing 0 0 0"),
+    (b"\xEF\xBB\xBF", "missing key root 0 version"),
     (b"\xEF\xBB\xBF\xEF\xBB\xBFversion = 1", "not TOML"),
     (
         b"version = 1\r\ntop_mib = 64\r\n[system]\r\n",

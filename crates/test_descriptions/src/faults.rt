@@ -1,336 +1,54 @@
-//! Each fault at the root, and texts that are no document; and each of the tables. A row is the text of a description, and its first fault.
+//! Faults that no line of a key says: which of several is told first, which of several unknown keys, tables and arrays by their headers,
+//! elements that are no tables, and texts that are no document. A row is the text of a description, and its first fault.
 
-use crate::table_faults::{BEHIND_THE_FRONT, OF_THE_SYSTEM, TOP};
-use crate::told::{FRONT, are_told, is_told};
+use crate::told::{FRONT, TOP, are_told, is_told};
 use std::test::Fail;
 
 // Of keys that are unknown the first in the order of their bytes, which is empty.
 const EMPTY_KEY: &str = "b = 1\nB = 2\n\"\" = 3";
 
 // Whole texts.
-const WHOLE: &str = r#"--- the root
+const WHOLE: &str = r#"--- a document without a key
 
-=> missing 0 0 0
----
-a = 1
-=> unknown 0 0 a
----
+=> missing key root 0 version
+--- unknown keys
 zz = 1
 abc = 2
-=> unknown 0 0 abc
+=> unknown key root 0 abc
 ---
 versions = 1
 version = 2
-=> unknown 0 0 versions
+=> unknown key root 0 versions
 ---
 Version = 1
-=> unknown 0 0 Version
----
-'é' = 1
-=> unknown 0 0 é
----
-cpu = {}
-version = 1
-=> unknown 0 0 cpu
+=> unknown key root 0 Version
 ---
 [colour]
 x = 1
 [bus]
-=> unknown 0 0 bus
+=> unknown key root 0 bus
 ---
 [[cpu]]
-=> unknown 0 0 cpu
+=> unknown key root 0 cpu
 ---
-top_mib = 64
-=> missing 0 0 0
+'a bé~' = 1
+=> unknown key root 0 a?b??~
 ---
-version = '1'
-=> wrong kind 0 0 0
+0123456789012345678901234567890123456789012345678901234567890123 = 1
+=> unknown key root 0 0123456789012345678901234567890123456789012345678901234567890123
 ---
-version = 1.0
-=> wrong kind 0 0 0
----
-version = true
-=> wrong kind 0 0 0
----
-version = [1]
-=> wrong kind 0 0 0
----
-version = {}
-=> wrong kind 0 0 0
----
-version = 2024-01-02
-=> wrong kind 0 0 0
----
-version = nan
-=> wrong kind 0 0 0
----
-version = 0
-=> out of range 0 0 0
----
-version = 2
-=> out of range 0 0 0
----
-version = -1
-=> out of range 0 0 0
----
-version = 9223372036854775807
-=> out of range 0 0 0
----
-version = -9223372036854775808
-=> out of range 0 0 0
----
+01234567890123456789012345678901234567890123456789012345678901234 = 1
+=> unknown key root 0 0123456789012345678901234567890123456789012345678901234567890123
+--- the first of two faults
 version = 2
 top_mib = 'a'
-=> out of range 0 0 0
----
-version = 1
-
-=> missing 0 0 1
----
-version = 1
-system = {}
-=> missing 0 0 1
----
-version = 1
-top_mib = '64'
-=> wrong kind 0 0 1
----
-version = 1
-top_mib = 64.0
-=> wrong kind 0 0 1
----
-version = 1
-top_mib = inf
-=> wrong kind 0 0 1
----
-version = 1
-top_mib = 07:32:00
-=> wrong kind 0 0 1
----
-version = 1
-top_mib = []
-=> wrong kind 0 0 1
----
-version = 1
-top_mib = -64
-=> out of range 0 0 1
----
-version = 1
-top_mib = 4294967296
-=> out of range 0 0 1
----
-version = 1
-top_mib = 4294967295
-=> missing 0 0 3
----
-version = 1
-top_mib = 64
-
-=> missing 0 0 3
+=> out of range root 0 version
 ---
 version = 1
 top_mib = 64
 [acpi]
 x = 1
-=> missing 0 0 3
----
-version = 1
-top_mib = 64
-system = 1
-=> wrong kind 0 0 3
----
-version = 1
-top_mib = 64
-system = 'a'
-=> wrong kind 0 0 3
----
-version = 1
-top_mib = 64
-system = [{}]
-=> wrong kind 0 0 3
----
-version = 1
-top_mib = 64
-[[system]]
-=> wrong kind 0 0 3
----
-version = 1
-top_mib = 64
-system = {}
-acpi = true
-=> wrong kind 0 0 10
----
-version = 1
-top_mib = 64
-system = {}
-acpi = 0
-=> wrong kind 0 0 10
----
-version = 1
-top_mib = 64
-system = {}
-[[acpi]]
-=> wrong kind 0 0 10
----
-version = 1
-top_mib = 64
-system = {}
-acpi = ''
-hpet = ''
-=> wrong kind 0 0 10
----
-version = 1
-top_mib = 64
-system = {}
-hpet = true
-=> wrong kind 0 0 11
----
-version = 1
-top_mib = 64
-system = {}
-hpet = 1979-05-27T07:32:00Z
-=> wrong kind 0 0 11
----
-version = 1
-top_mib = 64
-system = {}
-[[hpet]]
-=> wrong kind 0 0 11
---- rules that a machine breaks
-version = 1
-top_mib = 63
-[system]
-=> rule 1 index 0
----
-version = 1
-top_mib = 3073
-[system]
-=> rule 1 index 0
----
-version = 1
-top_mib = 0
-[system]
-=> rule 1 index 0
----
-version = 1
-top_mib = 4294967295
-system.product = "\n"
-=> rule 1 index 0
----
-version = 1
-top_mib = 64
-system.product = "\n"
-=> rule 3 index 0
----
-version = 1
-top_mib = 64
-system.family = 'é'
-=> rule 3 index 0
----
-version = 1
-top_mib = 64
-system.sku = '01234567890123456789012345678901234567890123456789012345678901234'
-=> rule 3 index 0
----
-version = 1
-top_mib = 64
-[system]
-serial = "\u007F"
-uuid = '00000000-0000-0000-0000-000000000000'
-=> rule 3 index 0
----
-version = 1
-top_mib = 64
-system = {}
-acpi.oem_id = "\t"
-=> rule 3 index 0
----
-version = 1
-top_mib = 64
-system.uuid = '00000000-0000-0000-0000-000000000000'
-=> rule 4 index 0
----
-version = 1
-top_mib = 64
-system.uuid = 'ffffffff-ffff-ffff-ffff-ffffffffffff'
-=> rule 4 index 0
----
-version = 1
-top_mib = 64
-hpet = {}
-system.uuid = 'ffffffff-ffff-ffff-ffff-ffffffffffff'
-=> rule 4 index 0
----
-version = 1
-top_mib = 64
-system = {}
-hpet = {}
-=> rule 13 index 1
----
-version = 1
-top_mib = 64
-system = {}
-hpet.address = 1
-=> rule 13 index 1
----
-version = 1
-top_mib = 64
-system = {}
-acpi.oem_id = 'ACMECO1'
-=> rule 16 index 0
----
-version = 1
-top_mib = 64
-system = {}
-acpi.oem_id = 'ACME '
-=> rule 16 index 0
----
-version = 1
-top_mib = 64
-system = {}
-acpi = {oem_id = ' ', oem_table_id = ' '}
-=> rule 16 index 0
----
-version = 1
-top_mib = 64
-system = {}
-acpi.oem_table_id = 'VMTABLES1'
-=> rule 16 index 1
----
-version = 1
-top_mib = 64
-system = {}
-acpi.oem_table_id = 'VM '
-=> rule 16 index 1
----
-version = 1
-top_mib = 64
-system = {}
-hpet.address = 1
-acpi.oem_table_id = ' '
-=> rule 16 index 1
----
-version = 1
-top_mib = 64
-system = {}
-acpi = {}
-hpet.address = 1
-=> rule 18 index 0
----
-version = 1
-top_mib = 64
-system = {}
-acpi = {}
-hpet.address = 512
-=> rule 18 index 0
----
-version = 1
-top_mib = 64
-system = {}
-acpi = {}
-hpet.address = 4294967295
-=> rule 18 index 0
+=> missing key root 0 system
 --- texts that are no TOML document
 version
 => not TOML
@@ -404,11 +122,168 @@ version = 1
 ]
 => not TOML"#;
 
+// The table `system`, behind the top.
+const SYSTEM: &str = r"--- unknown keys come first
+[system]
+vendor = 1
+product = 2
+name = 3
+=> unknown key system 0 name
+---
+[system.extra]
+=> unknown key system 0 extra
+---
+[system]
+uuid = 1
+UUID = 2
+=> unknown key system 0 UUID
+---
+[system]
+uuid = 1
+serial = true
+acpi = 1
+=> unknown key system 0 acpi
+--- then keys in their order, and the table before those behind it
+[system]
+family = 1
+manufacturer = 2
+uuid = 3
+=> wrong kind system 0 manufacturer
+---
+acpi = 1
+system.uuid = 'no'
+=> out of range system 0 uuid
+---
+acpi = 1
+system.sku = 5
+=> wrong kind system 0 sku
+--- texts that are nearly a UUID
+system.uuid = '6f1a5e0c-2b4d-4c7e-9a38-0d5c1b7e42fg'
+=> out of range system 0 uuid
+---
+system.uuid = '6f1a5e0c-2b4d-4c7e-9a38-0d5c1b7e42f9 '
+=> out of range system 0 uuid
+--- an array of tables in place of a table
+[[system]]
+=> wrong kind root 0 system";
+
+// What stands behind the front.
+const BEHIND_THE_FRONT: &str = r"--- tables in the order of their keys, whatever order they stand in
+firmware.vendor = 1
+oem_strings = 1
+=> wrong kind root 0 oem_strings
+---
+chassis = 1
+firmware.minor = -1
+=> out of range firmware 0 minor
+---
+socket = 1
+chassis.serial = 1
+=> wrong kind chassis 0 serial
+---
+dimm = 1
+socket = [{}]
+=> missing key socket 0 cores
+---
+range = 1
+dimm = [{}]
+=> missing key dimm 0 size_mib
+---
+slot = 1
+range = [{}]
+=> missing key range 0 base_mib
+---
+acpi = 1
+slot = [{colour = 1}]
+=> unknown key slot 0 colour
+---
+hpet = 1
+acpi = 1
+slot = 1
+=> wrong kind root 0 slot
+---
+acpi = ''
+hpet = ''
+=> wrong kind root 0 acpi
+---
+hpet = 1
+acpi.oem_table_id = []
+=> wrong kind acpi 0 oem_table_id
+--- in a table unknown keys come first, and then keys in their order
+firmware = {vendor = 1, serial = 1, release = 1}
+=> unknown key firmware 0 release
+---
+[acpi]
+oem_id = 1
+revision = 2
+creator = 3
+=> unknown key acpi 0 creator
+---
+[hpet]
+address = 1
+period = 1
+irq = 1
+=> unknown key hpet 0 irq
+---
+[acpi]
+oem_id = false
+oem_table_id = 1
+=> wrong kind acpi 0 oem_id
+---
+[hpet]
+min_tick = -1
+block_id = -1
+number = ''
+=> out of range hpet 0 block_id
+---
+[hpet]
+min_tick = 0x1_0000
+number = 0x100
+=> out of range hpet 0 number
+---
+[[socket]]
+designation = 1
+=> wrong kind socket 0 designation
+---
+[[socket]]
+threads = '1'
+=> missing key socket 0 cores
+--- each element of an array whole before the next
+socket = [{}, 1]
+=> missing key socket 0 cores
+---
+[[socket]]
+cores = 1
+threads = 1
+[[socket]]
+cores = 1
+threads = 1
+[[socket]]
+cores = 1
+=> missing key socket 2 threads
+--- an element that is no table
+socket = [{cores = 1, threads = 1}, 'a']
+=> wrong kind root 0 socket
+---
+dimm = [{size_mib = 1}, []]
+=> wrong kind root 0 dimm
+---
+range = [{base_mib = 0, size_mib = 64}, 0]
+=> wrong kind root 0 range
+---
+slot = [{}, true]
+=> wrong kind root 0 slot
+--- a table in place of an array of tables
+[socket]
+cores = 1
+threads = 1
+=> wrong kind root 0 socket";
+
 #[test]
 fn faults(rt: HostRuntime) -> Result<(), Fail> {
-    is_told(&rt, rt.alloc(), "", EMPTY_KEY, "unknown 0 0 ")?;
+    is_told(&rt, rt.alloc(), "", EMPTY_KEY, "unknown key root 0 ")?;
     are_told(&rt, rt.alloc(), "", WHOLE)?;
-    are_told(&rt, rt.alloc(), TOP, OF_THE_SYSTEM)?;
+    are_told(&rt, rt.alloc(), TOP, SYSTEM)?;
     are_told(&rt, rt.alloc(), FRONT, BEHIND_THE_FRONT)
 }
 

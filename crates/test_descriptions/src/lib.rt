@@ -1,24 +1,26 @@
-//! Tests of the reader of descriptions: the machines that are read, and each fault at each table.
+//! Tests of the reader of descriptions: the machines that are read, what each key is read as, and each fault.
 #![tactic(auto)]
 
 #[cfg(test)]
 mod bytes;
 #[cfg(test)]
+mod changed;
+#[cfg(test)]
+mod each_key;
+#[cfg(test)]
 mod faults;
 #[cfg(test)]
-mod lines;
+mod fields;
+#[cfg(test)]
+mod keys;
 #[cfg(test)]
 mod machines;
 #[cfg(test)]
 mod nesting;
 #[cfg(test)]
-mod part_faults;
-#[cfg(test)]
-mod part_rules;
-#[cfg(test)]
 mod part_words;
 #[cfg(test)]
-mod table_faults;
+mod rules;
 #[cfg(test)]
 mod told;
 #[cfg(test)]

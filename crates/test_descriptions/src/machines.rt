@@ -3,7 +3,7 @@
 use crate::told::{FRONT, are_told, is_told};
 use std::test::Fail;
 
-const EVERY_KEY: &str = "# A machine with every key that a description may have today.
+pub(crate) const EVERY_KEY: &str = "# A machine with every key that a description may have today.
 version = 1
 top_mib = 2048
 oem_strings = [\"Built in Example\", \"Second\"]

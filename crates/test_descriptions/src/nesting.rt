@@ -32,6 +32,6 @@ fn is_nested_told(rt: &impl Abort, alloc: Global, depth: usize, wanted: &str) ->
 
 #[test]
 fn eighty_arrays_are_read_and_one_more_is_refused(rt: HostRuntime) -> Result<(), Fail> {
-    is_nested_told(&rt, rt.alloc(), 80, "wrong kind 0 0 1")?;
+    is_nested_told(&rt, rt.alloc(), 80, "wrong kind root 0 top_mib")?;
     is_nested_told(&rt, rt.alloc(), 81, "not TOML")
 }

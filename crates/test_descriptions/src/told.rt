@@ -7,6 +7,9 @@ use std::alloc::Global;
 use std::process::Abort;
 use std::test::Fail;
 
+/// The top of a description that has another table `system`.
+pub(crate) const TOP: &str = "version = 1\ntop_mib = 64\n";
+
 /// The front of a description: what each one has, in one line for each key, so that others may follow.
 pub(crate) const FRONT: &str = "version = 1\ntop_mib = 64\nsystem = {}\n";
 
@@ -52,7 +55,7 @@ pub(crate) fn is_told(
     are_bytes_told(rt, alloc, whole.as_bytes(), wanted, text)
 }
 
-fn joined(alloc: Global, front: &str, text: &str) -> Result<String, Fail> {
+pub(crate) fn joined(alloc: Global, front: &str, text: &str) -> Result<String, Fail> {
     let mut whole = String::new(alloc);
     whole.push_str(front)?;
     whole.push_str(text)?;
@@ -79,8 +82,9 @@ pub(crate) fn is_text(rt: &impl Abort, text: &str, wanted: &str, of: &str) {
     }
 }
 
-// What bytes are read as, in words: a machine, or the first fault. A machine has twenty parts to drop: it is proved once, in the call.
-fn told(alloc: Global, bytes: &[u8]) -> Result<String, Fail> {
+/// What bytes are read as, in words: a machine, or the first fault as its line tells it. A machine has twenty parts to drop: it is proved
+/// once, in the call.
+pub(crate) fn told(alloc: Global, bytes: &[u8]) -> Result<String, Fail> {
     let read = read_machine(alloc, bytes);
     let told = told_reading(alloc, &read);
     drop(read);
@@ -91,43 +95,15 @@ fn told(alloc: Global, bytes: &[u8]) -> Result<String, Fail> {
 fn told_reading(alloc: Global, read: &Result<Machine, DescFault>) -> Result<String, Fail> {
     match read {
         Ok(machine) => told_machine(alloc, machine),
-        Err(fault) => told_fault(alloc, fault),
+        Err(fault) => told_line(alloc, fault.line().as_str()),
     }
 }
 
-fn told_fault(alloc: Global, fault: &DescFault) -> Result<String, Fail> {
-    match fault {
-        DescFault::NotToml => told_words(alloc, "not TOML"),
-        DescFault::UnknownKey { table, index, key } => {
-            told_unknown(alloc, *table, *index, key.as_slice())
-        }
-        DescFault::MissingKey { table, index, key } => {
-            told_at(alloc, "missing", *table, *index, *key)
-        }
-        DescFault::WrongKind { table, index, key } => {
-            told_at(alloc, "wrong kind", *table, *index, *key)
-        }
-        DescFault::OutOfRange { table, index, key } => {
-            told_at(alloc, "out of range", *table, *index, *key)
-        }
-        DescFault::Broken { rule, index } => told_rule(alloc, *rule, *index),
-        DescFault::OutOfMemory => told_words(alloc, "out of memory"),
-    }
+// A line, without what all of them have.
+fn told_line(alloc: Global, line: &str) -> Result<String, Fail> {
+    Ok(String::from_str(alloc, words_of(line).unwrap_or(line))?)
 }
 
-fn told_words(alloc: Global, words: &str) -> Result<String, Fail> {
-    Ok(String::from_str(alloc, words)?)
-}
-
-fn told_at(alloc: Global, what: &str, table: u8, index: u32, key: u8) -> Result<String, Fail> {
-    Ok(format!(in alloc; "{what} {table} {index} {key}")?)
-}
-
-fn told_rule(alloc: Global, rule: u16, index: u32) -> Result<String, Fail> {
-    Ok(format!(in alloc; "rule {rule} index {index}")?)
-}
-
-fn told_unknown(alloc: Global, table: u8, index: u32, key: &[u8]) -> Result<String, Fail> {
-    let key = str::from_utf8(key).unwrap_or("not UTF-8");
-    Ok(format!(in alloc; "unknown {table} {index} {key}")?)
+fn words_of(line: &str) -> Option<&str> {
+    line.strip_prefix("description: ")?.strip_suffix("\n")
 }

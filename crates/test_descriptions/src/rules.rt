@@ -1,4 +1,4 @@
-//! The rules of SMBIOS parts: the text behind the front of a description, and the first rule that its machine breaks.
+//! The rules: the text of a description, and the first rule that its machine breaks.
 
 use crate::nesting::push_times;
 use crate::told::{FRONT, are_bytes_told, are_told};
@@ -6,111 +6,43 @@ use std::alloc::Global;
 use std::process::Abort;
 use std::test::Fail;
 
+// What stands behind the version, and the rule that it breaks.
+const BEHIND_THE_VERSION: &str = r#"--- memory below 4 GiB ends at 64 MiB to 3 GiB
+top_mib = 63
+system = {}
+=> rule 1 index 0
+---
+top_mib = 3073
+system = {}
+=> rule 1 index 0
+---
+top_mib = 0
+system = {}
+=> rule 1 index 0
+---
+top_mib = 4294967295
+system.product = "\n"
+=> rule 1 index 0
+--- a UUID isn't all zeros or all ones
+top_mib = 64
+system.uuid = '00000000-0000-0000-0000-000000000000'
+=> rule 4 index 0
+---
+top_mib = 64
+system.uuid = 'ffffffff-ffff-ffff-ffff-ffffffffffff'
+=> rule 4 index 0
+---
+top_mib = 64
+system = {serial = "\u007F", uuid = '00000000-0000-0000-0000-000000000000'}
+=> rule 3 index 0
+---
+top_mib = 64
+system.uuid = 'ffffffff-ffff-ffff-ffff-ffffffffffff'
+hpet = {}
+=> rule 4 index 0"#;
+
 // What stands behind the front, and the rule that it breaks.
-const RULES: &str = r#"--- texts that are too long, or have a byte below 0x20 or above 0x7E
-oem_strings = ["\n"]
-=> rule 3 index 0
----
-oem_strings = ['a', '01234567890123456789012345678901234567890123456789012345678901234']
-=> rule 3 index 0
----
-firmware.vendor = 'é'
-=> rule 3 index 0
----
-firmware.version = '01234567890123456789012345678901234567890123456789012345678901234'
-=> rule 3 index 0
----
-firmware.date = "\u007F"
-=> rule 3 index 0
----
-chassis.manufacturer = "\t"
-=> rule 3 index 0
----
-chassis.version = "\t"
-=> rule 3 index 0
----
-chassis.serial = "\t"
-=> rule 3 index 0
----
-chassis.asset = "\t"
-=> rule 3 index 0
----
-chassis.sku = "\t"
-=> rule 3 index 0
----
-[[socket]]
-cores = 1
-threads = 1
-designation = "\t"
-=> rule 3 index 0
----
-[[socket]]
-cores = 1
-threads = 1
-manufacturer = "\t"
-=> rule 3 index 0
----
-[[socket]]
-cores = 1
-threads = 1
-version = "\t"
-=> rule 3 index 0
----
-[[socket]]
-cores = 1
-threads = 1
-serial = "\t"
-=> rule 3 index 0
----
-[[socket]]
-cores = 1
-threads = 1
-asset = "\t"
-=> rule 3 index 0
----
-[[socket]]
-cores = 1
-threads = 1
-part = "\t"
-=> rule 3 index 0
----
-[[dimm]]
-size_mib = 1
-locator = "\t"
-=> rule 3 index 0
----
-[[dimm]]
-size_mib = 1
-bank = "\t"
-=> rule 3 index 0
----
-[[dimm]]
-size_mib = 1
-manufacturer = "\t"
-=> rule 3 index 0
----
-[[dimm]]
-size_mib = 1
-serial = "\t"
-=> rule 3 index 0
----
-[[dimm]]
-size_mib = 1
-asset = "\t"
-=> rule 3 index 0
----
-[[dimm]]
-size_mib = 1
-part = "\t"
-=> rule 3 index 0
----
-[[slot]]
-designation = "\t"
-=> rule 3 index 0
----
-slot = [{}, {designation = 'ü'}]
-=> rule 3 index 0
---- before the rules that follow
+const BEHIND_THE_FRONT: &str = r#"--- before the rules that follow
 oem_strings = [""]
 acpi.oem_id = "\t"
 => rule 3 index 0
@@ -144,9 +76,6 @@ socket = [{cores = 2, threads = 1}]
 socket = [{cores = 1, threads = 0}]
 => rule 7 index 0
 ---
-socket = [{cores = 1, threads = 65535}]
-=> rule 7 index 0
----
 socket = [{cores = 65535, threads = 65535}]
 => rule 7 index 0
 ---
@@ -177,15 +106,6 @@ size_mib = 0
 ---
 [[dimm]]
 size_mib = 16777217
-=> rule 8 index 0
----
-[[dimm]]
-size_mib = 4294967295
-=> rule 8 index 0
----
-[[dimm]]
-size_mib = 1
-speed = 65535
 => rule 8 index 0
 ---
 [[dimm]]
@@ -346,7 +266,40 @@ hpet = {address = 1}
 dimm = [{size_mib = 64}]
 range = [{base_mib = 0, size_mib = 64, node = 1}]
 hpet = {}
-=> rule 13 index 1"#;
+=> rule 13 index 1
+--- an HPET needs the table `acpi`
+hpet = {}
+=> rule 13 index 1
+---
+hpet.address = 1
+=> rule 13 index 1
+--- texts of headers have 6 bytes and 8, and don't end in a space
+acpi.oem_id = 'ACMECO1'
+=> rule 16 index 0
+---
+acpi.oem_id = 'ACME '
+=> rule 16 index 0
+---
+acpi = {oem_id = ' ', oem_table_id = ' '}
+=> rule 16 index 0
+---
+acpi.oem_table_id = 'VMTABLES1'
+=> rule 16 index 1
+---
+acpi.oem_table_id = 'VM '
+=> rule 16 index 1
+---
+hpet.address = 1
+acpi.oem_table_id = ' '
+=> rule 16 index 1
+--- an HPET is at a multiple of 1024
+acpi = {}
+hpet.address = 1
+=> rule 18 index 0
+---
+acpi = {}
+hpet.address = 512
+=> rule 18 index 0"#;
 
 // A list in a description: what stands before its elements, the element, how often it stands there, and what stands behind; and what the
 // description is read as.
@@ -469,6 +422,7 @@ fn lists_about_their_limits(rt: HostRuntime) -> Result<(), Fail> {
 }
 
 #[test]
-fn rules_on_parts(rt: HostRuntime) -> Result<(), Fail> {
-    are_told(&rt, rt.alloc(), FRONT, RULES)
+fn rules(rt: HostRuntime) -> Result<(), Fail> {
+    are_told(&rt, rt.alloc(), "version = 1\n", BEHIND_THE_VERSION)?;
+    are_told(&rt, rt.alloc(), FRONT, BEHIND_THE_FRONT)
 }

@@ -1,0 +1,183 @@
+//! What the description with every key is read as where one key is changed.
+
+use crate::changed::changed;
+use crate::keys::{KEYS, Key, VALUES, Values, is_among};
+use crate::told::{is_text, told};
+use std::alloc::Global;
+use std::process::Abort;
+use std::test::Fail;
+
+#[test]
+fn keys_of_tables(rt: HostRuntime) -> Result<(), Fail> {
+    are_read(&rt, rt.alloc(), false, 0)
+}
+
+#[test]
+fn keys_of_first_elements(rt: HostRuntime) -> Result<(), Fail> {
+    are_read(&rt, rt.alloc(), true, 0)
+}
+
+#[test]
+fn keys_of_second_elements(rt: HostRuntime) -> Result<(), Fail> {
+    are_read(&rt, rt.alloc(), true, 1)
+}
+
+// The keys of elements of arrays, or of other tables, are read as their lines say, in the table at this place.
+fn are_read(rt: &impl Abort, alloc: Global, in_array: bool, index: u32) -> Result<(), Fail> {
+    for line in KEYS.split("\n") {
+        is_line_kept(rt, alloc, line, in_array, index)?;
+    }
+    Ok(())
+}
+
+fn is_line_kept(
+    rt: &impl Abort,
+    alloc: Global,
+    line: &str,
+    in_array: bool,
+    index: u32,
+) -> Result<(), Fail> {
+    match Key::of(line, index) {
+        Some(key) if key.is_in_array() == in_array => is_read(rt, alloc, &key),
+        Some(_) => Ok(()),
+        None => Err(Fail::new("a line that has no key")),
+    }
+}
+
+fn is_read(rt: &impl Abort, alloc: Global, key: &Key<'_>) -> Result<(), Fail> {
+    is_left_out(rt, alloc, key)?;
+    is_misnamed(rt, alloc, key)?;
+    for line in VALUES.split("\n") {
+        are_values_told(rt, alloc, key, line)?;
+    }
+    Ok(())
+}
+
+fn is_left_out(rt: &impl Abort, alloc: Global, key: &Key<'_>) -> Result<(), Fail> {
+    match key.default {
+        "!" => has_fault(rt, alloc, key, "", "missing key"),
+        "none" => is_machine_with(rt, alloc, key, "", key.rule_without()),
+        _ => has_its_default(rt, alloc, key),
+    }
+}
+
+// Without the key the same is read as where its default is written out.
+fn has_its_default(rt: &impl Abort, alloc: Global, key: &Key<'_>) -> Result<(), Fail> {
+    let wanted = told_with(alloc, key, key.default)?;
+    let told = told_with(alloc, key, "")?;
+    is_text(rt, told.as_str(), wanted.as_str(), key.line);
+    is_machine(rt, told.as_str(), key.rule_without(), key.line);
+    Ok(())
+}
+
+// No key has the name of another with an underscore behind it.
+fn is_misnamed(rt: &impl Abort, alloc: Global, key: &Key<'_>) -> Result<(), Fail> {
+    let name = format!(in alloc; "{}_", key.name)?;
+    let other = Key {
+        name: name.as_str(),
+        ..*key
+    };
+    is_value_told(rt, alloc, &other, "unknown key", "1")
+}
+
+fn are_values_told(rt: &impl Abort, alloc: Global, key: &Key<'_>, line: &str) -> Result<(), Fail> {
+    match Values::of(line) {
+        Some(values) if is_among(values.kinds, key.kind) => {
+            are_told(rt, alloc, key, values.answer, values.values)
+        }
+        Some(_) => Ok(()),
+        None => Err(Fail::new("a line that has no values")),
+    }
+}
+
+fn are_told(
+    rt: &impl Abort,
+    alloc: Global,
+    key: &Key<'_>,
+    answer: &str,
+    values: &str,
+) -> Result<(), Fail> {
+    for value in values.split(" | ") {
+        is_value_told(rt, alloc, key, answer, value)?;
+    }
+    Ok(())
+}
+
+fn is_value_told(
+    rt: &impl Abort,
+    alloc: Global,
+    key: &Key<'_>,
+    answer: &str,
+    value: &str,
+) -> Result<(), Fail> {
+    match answer {
+        "accepted" => is_accepted(rt, alloc, key, value),
+        "rule 3 index 0" => is_told_with(rt, alloc, key, value, answer),
+        _ => has_fault(rt, alloc, key, value, answer),
+    }
+}
+
+// A rule that a key's most breaks is told at the last table alone: a range that is long goes over those behind it.
+fn is_accepted(rt: &impl Abort, alloc: Global, key: &Key<'_>, value: &str) -> Result<(), Fail> {
+    if key.is_last() {
+        is_machine_with(rt, alloc, key, value, key.rule)?;
+    }
+    Ok(())
+}
+
+fn is_machine_with(
+    rt: &impl Abort,
+    alloc: Global,
+    key: &Key<'_>,
+    value: &str,
+    rule: &str,
+) -> Result<(), Fail> {
+    let told = told_with(alloc, key, value)?;
+    is_machine(rt, told.as_str(), rule, key.line);
+    Ok(())
+}
+
+// The words are those of a machine, or of the rule that it breaks, where there is one.
+fn is_machine(rt: &impl Abort, told: &str, rule: &str, of: &str) {
+    if !rule.is_empty() {
+        is_text(rt, told, rule, of);
+    } else if !told.starts_with("top ") {
+        is_text(rt, told, "a machine", of);
+    }
+}
+
+// With this value the description has this fault of the key.
+fn has_fault(
+    rt: &impl Abort,
+    alloc: Global,
+    key: &Key<'_>,
+    value: &str,
+    fault: &str,
+) -> Result<(), Fail> {
+    let Key {
+        table,
+        index,
+        name,
+        ..
+    } = *key;
+    let wanted = format!(in alloc; "{fault} {table} {index} {name}")?;
+    is_told_with(rt, alloc, key, value, wanted.as_str())
+}
+
+fn is_told_with(
+    rt: &impl Abort,
+    alloc: Global,
+    key: &Key<'_>,
+    value: &str,
+    wanted: &str,
+) -> Result<(), Fail> {
+    let told = told_with(alloc, key, value)?;
+    is_text(rt, told.as_str(), wanted, value);
+    Ok(())
+}
+
+// What the description with this value at the key is read as, in words; with no value the key is left out.
+fn told_with(alloc: Global, key: &Key<'_>, value: &str) -> Result<String, Fail> {
+    let text = changed(alloc, key, value)?;
+    told(alloc, text.as_bytes())
+}

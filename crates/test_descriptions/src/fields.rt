@@ -1,0 +1,127 @@
+//! The fields of faults: a table's number, its place in its array, and the number of a key or the bytes of an unknown one; and lines of
+//! fields that no description gives.
+
+use crate::told::{BETWEEN_ROWS, FRONT, TOP, is_text, joined, text_and_words};
+use desc_toml::{DescFault, read_machine};
+use machine_desc::Machine;
+use std::alloc::Global;
+use std::process::Abort;
+use std::test::Fail;
+
+// What stands behind the front, and the fields of its fault: a row for each table, with the last of its keys.
+const FIELDS: &str = r"---
+hpet = 1
+=> 0 0 11
+---
+firmware.minor = ''
+=> 2 0 4
+---
+chassis.kind = ''
+=> 3 0 5
+---
+socket = [{cores = 1, threads = 1}, {cores = 1, threads = 1, mhz = ''}]
+=> 4 1 8
+---
+dimm = [{size_mib = 1}, {size_mib = 1}, {size_mib = 1, speed = ''}]
+=> 5 2 7
+---
+range = [{base_mib = 0, size_mib = 64, node = ''}]
+=> 6 0 2
+---
+slot = [{}, {function = ''}]
+=> 7 1 7
+---
+acpi.oem_table_id = 1
+=> 8 0 1
+---
+hpet.min_tick = ''
+=> 10 0 3
+--- the bytes of an unknown key are all of them
+'é' = 1
+=> 0 0 é
+---
+01234567890123456789012345678901234567890123456789012345678901234 = 1
+=> 0 0 01234567890123456789012345678901234567890123456789012345678901234";
+
+#[test]
+fn fields_of_faults(rt: HostRuntime) -> Result<(), Fail> {
+    are_fields(&rt, rt.alloc(), TOP, "system.uuid = 1", "1 0 6")?;
+    are_fields(&rt, rt.alloc(), FRONT, "'' = 1", "0 0 ")?;
+    for row in FIELDS.split(BETWEEN_ROWS) {
+        has_row_fields(&rt, rt.alloc(), row)?;
+    }
+    Ok(())
+}
+
+fn has_row_fields(rt: &impl Abort, alloc: Global, row: &str) -> Result<(), Fail> {
+    match text_and_words(row) {
+        Some((text, wanted)) => are_fields(rt, alloc, FRONT, text, wanted),
+        None => Err(Fail::new("a row that has no arrow")),
+    }
+}
+
+fn are_fields(
+    rt: &impl Abort,
+    alloc: Global,
+    front: &str,
+    text: &str,
+    wanted: &str,
+) -> Result<(), Fail> {
+    let whole = joined(alloc, front, text)?;
+    let fields = fields(alloc, whole.as_bytes())?;
+    is_text(rt, fields.as_str(), wanted, text);
+    Ok(())
+}
+
+// A machine has twenty parts to drop: it is proved once, in the call.
+fn fields(alloc: Global, bytes: &[u8]) -> Result<String, Fail> {
+    let read = read_machine(alloc, bytes);
+    let fields = fields_in(alloc, &read);
+    drop(read);
+    fields
+}
+
+// By a reference, so that it owns no machine.
+fn fields_in(alloc: Global, read: &Result<Machine, DescFault>) -> Result<String, Fail> {
+    match read {
+        Err(DescFault::UnknownKey { table, index, key }) => {
+            of_unknown(alloc, *table, *index, key.as_slice())
+        }
+        Err(DescFault::WrongKind { table, index, key }) => of_known(alloc, *table, *index, *key),
+        _ => Err(Fail::new("another fault, or a machine")),
+    }
+}
+
+fn of_unknown(alloc: Global, table: u8, index: u32, key: &[u8]) -> Result<String, Fail> {
+    let key = str::from_utf8(key).unwrap_or("not UTF-8");
+    Ok(format!(in alloc; "{table} {index} {key}")?)
+}
+
+fn of_known(alloc: Global, table: u8, index: u32, key: u8) -> Result<String, Fail> {
+    Ok(format!(in alloc; "{table} {index} {key}")?)
+}
+
+// The greatest position, and numbers of tables and keys that the schema doesn't have.
+#[test]
+fn lines_of_other_numbers(rt: HostRuntime) {
+    let greatest = DescFault::WrongKind {
+        table: 8,
+        index: u32::MAX,
+        key: 0,
+    };
+    has_line(
+        &rt,
+        &greatest,
+        "description: wrong kind acpi 4294967295 oem_id\n",
+    );
+    let past = DescFault::MissingKey {
+        table: 9,
+        index: 0,
+        key: 255,
+    };
+    has_line(&rt, &past, "description: missing key  0 \n");
+}
+
+fn has_line(rt: &impl Abort, fault: &DescFault, wanted: &str) {
+    is_text(rt, fault.line().as_str(), wanted, "another number");
+}
