@@ -1,5 +1,5 @@
 -- Files with tables at their ends, by the definitions alone: they are as the calls that append say.
-use Rattle.std.proofs.Common.{◌≡◌, ℕ, ◌+◌, ◌^◌, ◌<◌, List, length, map, refl, arith}
+use Rattle.std.proofs.Common.{◌≡◌, ℕ, ◌+◌, ◌^◌, ◌<◌, List, length, map, arith}
 use Rattle.std.specs.List.{AllByRecursion}
 use Rattle.vt_bytes.proofs.Each.{each_append, each_map}
 use Rattle.vt_layout.specs.declared.row.Row.{Row}
@@ -8,48 +8,20 @@ use Rattle.vt_layout.specs.Shown.{LayoutShown}
 use Rattle.vt_layout.proofs.Shows.{shown_rows}
 use Rattle.acpi_model.specs.declared.header.Head.{Head}
 use Rattle.acpi_model.specs.declared.acpi.Table.{Table}
-use Rattle.acpi_model.specs.Header.{header_rows, table_rows}
+use Rattle.acpi_model.specs.Header.{header_rows, table_rows, IsFittingHead}
 use Rattle.acpi_model.specs.Xsdt.{xsdt_rows}
 use Rattle.acpi_model.specs.Rsdp.{rsdp_rows}
-use Rattle.acpi_model.specs.Acpi.{IsWritable, rows_of}
+use Rattle.acpi_model.specs.Acpi.{layout_of, signature_of, rows_of, IsWritable, CanBePut}
+use Rattle.acpi_model.proofs.Headers.{header_fits}
+use Rattle.acpi_model.proofs.Known.{length-signature}
 use Rattle.acpi_model.proofs.Xsdt.{held_xsdt}
 use Rattle.blob_holes.specs.Blob.{BlobState, IsBlob, next_place}
 use Rattle.blob_holes.specs.Rows.{IsUnsummed, AreRows}
 use Rattle.blob_holes.proofs.RowsKept.{layout_appended}
-use Rattle.acpi_append.specs.Tables.{table_pointer, tables_name, with_table, with_xsdt, with_rsdp, IsTablePut, IsXsdtPut, IsRsdpPut}
-use Rattle.acpi_append.proofs.Tables.{are_table_rows}
+use Rattle.acpi_model.specs.Kinds.{tables_name, rows_behind}
+use Rattle.acpi_append.specs.Tables.{table_pointer, with_table, with_xsdt, with_rsdp, IsTablePut, IsXsdtPut, IsRsdpPut}
+use Rattle.acpi_append.proofs.Tables.{are_table_rows, body_unsummed}
 use Rattle.acpi_append.proofs.Puts.{put_where_held, table_put}
-
--- the numbers of a header fit its rows
-pub record IsFittingHead (h : Head) : Type 0 where
-  pub revision : h.revision < 2 ^ 8
-  pub oem_id : length h.oem_id ≡ 6
-  pub oem_table_id : length h.oem_table_id ≡ 8
-  pub oem_revision : h.oem_revision < 2 ^ 32
-  pub creator_id : length h.creator_id ≡ 4
-  pub creator_revision : h.creator_revision < 2 ^ 32
-
-header_fits : (signature : List ℕ) (total : ℕ) (h : Head) → length signature ≡ 4 → total < 2 ^ 32 → IsFittingHead h
-    → AllByRecursion IsRow (header_rows signature total h)
-header_fits signature total h four few fits = (
-  four,
-  (
-    (omega arith, omega arith),
-    (
-      (omega arith, omega (arith, fits.revision)),
-      (
-        tt,
-        (
-          fits.oem_id,
-          (
-            fits.oem_table_id,
-            ((omega arith, omega (arith, fits.oem_revision)), (fits.creator_id, ((omega arith, omega (arith, fits.creator_revision)), tt))),
-          ),
-        ),
-      ),
-    ),
-  ),
-)
 
 -- so the rows of a table can be appended
 pub table_fits : (signature : List ℕ) (h : Head) (body : List Row) → length signature ≡ 4 → size body < 2 ^ 31 → IsFittingHead h
@@ -58,12 +30,18 @@ table_fits signature h body four few fits are no_sum =
     are_table_rows signature h body
     (each_append IsRow (header_rows signature (36 + size body) h) body (header_fits signature (36 + size body) h four (omega arith) fits) are) no_sum
 
+-- so can those of a table that can be put into a file
+pub put_fits : (table : Table) → CanBePut table → AreRows (rows_of table)
+put_fits table can =
+    table_fits (signature_of table) (layout_of table).head (rows_behind (layout_of table)) (length-signature table) (omega (arith, can.writable.few)) can.head
+    can.fit (body_unsummed (rows_behind (layout_of table)) can.writable.rows)
+
 module _ (file : BlobState) (blob : IsBlob file) where
   -- a table
   pub table_appended : (table : Table) → IsWritable table → AreRows (rows_of table) → next_place 16 file + size (rows_of table) < 2 ^ 32
       → IsTablePut file (with_table file table) table
   table_appended table writable are short =
-      table_put file (with_table file table) table (rows_of table) refl writable (layout_appended 16 file (rows_of table) blob are short) are.each
+      table_put file (with_table file table) table writable (record { fit = are.each; appended = layout_appended 16 file (rows_of table) blob are short })
 
   -- an XSDT
   pub xsdt_appended : (h : Head) (tables : List ℕ) → AreRows (xsdt_rows h (map table_pointer tables))

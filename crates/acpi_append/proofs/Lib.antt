@@ -1,3 +1,4 @@
 pub mod Tables
 pub mod Puts
 pub mod FileTables
+pub mod Leading

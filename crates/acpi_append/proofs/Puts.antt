@@ -1,16 +1,14 @@
 -- Rows that were appended are shown.
-use Rattle.std.proofs.Common.{◌≡◌, ℕ, ◌+◌, List, subst}
-use Rattle.std.specs.List.{AllByRecursion}
+use Rattle.std.proofs.Common.{ℕ, ◌+◌, List}
 use Rattle.vt_bytes.specs.View.{View}
 use Rattle.vt_layout.specs.declared.row.Row.{Row}
-use Rattle.vt_layout.specs.Rows.{IsRow}
 use Rattle.vt_layout.specs.Shown.{LayoutHeld}
 use Rattle.acpi_model.specs.declared.acpi.Table.{Table}
 use Rattle.acpi_model.specs.Acpi.{IsWritable, rows_of, linked_table, IsAt}
 use Rattle.acpi_model.proofs.HeldTables.{held_table}
 use Rattle.blob_holes.specs.Blob.{BlobState, next_place}
 use Rattle.blob_holes.specs.Appended.{IsAppended}
-use Rattle.acpi_append.specs.Tables.{IsPut, IsTablePut}
+use Rattle.acpi_append.specs.Tables.{IsPut, AreRowsPut, IsTablePut}
 
 -- what holds of a view that holds the rows is shown
 pub put_where_held : (before after : BlobState) (rows : List Row) (IsShown : View → ℕ → (List ℕ → ℕ) → Type 0) → IsAppended 16 before after rows
@@ -23,9 +21,7 @@ put_where_held before after rows IsShown is shown = record {
 }
 
 -- so a table that was appended stands there
-pub table_put : (before after : BlobState) (table : Table) (rows : List Row) → rows ≡ rows_of table → IsWritable table → IsAppended 16 before after rows
-    → AllByRecursion IsRow rows → IsTablePut before after table
-table_put before after table rows rows_are writable appended are =
-    put_where_held before after (rows_of table) (λ view address place_of. IsAt view address (linked_table place_of table))
-    (subst (IsAppended 16 before after) rows_are appended)
-    (λ view address place_of held. held_table view place_of address table writable (subst (AllByRecursion IsRow) rows_are are) held)
+pub table_put : (before after : BlobState) (table : Table) → IsWritable table → AreRowsPut before after (rows_of table) → IsTablePut before after table
+table_put before after table writable put =
+    put_where_held before after (rows_of table) (λ view address place_of. IsAt view address (linked_table place_of table)) put.appended
+    (λ view address place_of held. held_table view place_of address table writable put.fit held)

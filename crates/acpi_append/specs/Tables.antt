@@ -1,11 +1,16 @@
 -- Files of ACPI tables with one table more (ACPI 6.5, 5.2). Each begins at a multiple of 16.
-use Rattle.std.specs.Prelude.{ℕ, ◌+◌, List, map, codes}
+use Rattle.std.specs.Prelude.{◌≡◌, ℕ, ◌+◌, List, ◌++◌, map}
+use Rattle.std.specs.List.{AllByRecursion}
 use Rattle.vt_bytes.specs.View.{View}
 use Rattle.vt_layout.specs.declared.row.Row.{Row}
 use Rattle.vt_layout.specs.declared.row.Row.TheVariants.{Number, Pointer}
+use Rattle.vt_layout.specs.Rows.{IsRow}
 use Rattle.vt_layout.specs.Shown.{LayoutShown}
+use Rattle.vt_layout.specs.Fields.{field_rows}
 use Rattle.acpi_model.specs.declared.header.Head.{Head}
 use Rattle.acpi_model.specs.declared.acpi.Table.{Table}
+use Rattle.acpi_model.specs.Header.{head_fields}
+use Rattle.acpi_model.specs.Kinds.{tables_name}
 use Rattle.acpi_model.specs.Acpi.{rows_of, linked_table, IsAt}
 use Rattle.acpi_model.specs.Xsdt.{IsXsdt, xsdt_rows, given}
 use Rattle.acpi_model.specs.Rsdp.{rsdp_rows}
@@ -14,13 +19,20 @@ use Rattle.blob_holes.specs.Rows.{with_rows}
 use Rattle.blob_holes.specs.Held.{WhereHeld}
 use Rattle.blob_holes.specs.Appended.{IsAppended}
 
--- the file that holds the tables, and whose place the pointers to them have added
-abbrev pub tables_name : List ℕ
-tables_name = codes "etc/acpi/tables"
+-- rows that begin with those of a header, in which zeros stand for the signature, the length and the checksum
+pub record BeginWithHeader (rows : List Row) : Type 0 where
+  pub head : Head
+  pub behind : List Row
+  pub are : rows ≡ field_rows (head_fields head) ++ behind
 
 -- the address of a table that stands at an offset of that file
 abbrev pub table_pointer : ℕ → Row
 table_pointer offset = Pointer 8 tables_name offset
+
+-- a row that leads to that file, where it leads to one
+abbrev pub Leads : Row → Type 0
+Leads (Pointer width target offset) = target ≡ tables_name
+Leads row = Unit {0}
 
 abbrev pub with_table : BlobState → Table → BlobState
 with_table blob table = with_rows (aligned 16 blob) (rows_of table)
@@ -30,6 +42,11 @@ with_xsdt blob head tables = with_rows (aligned 16 blob) (xsdt_rows head (map ta
 
 abbrev pub with_rsdp : BlobState → List ℕ → ℕ → BlobState
 with_rsdp blob oem_id xsdt = with_rows (aligned 16 blob) (rsdp_rows oem_id (table_pointer xsdt))
+
+-- rows whose values fit them were appended at the next multiple of 16
+pub record AreRowsPut (before after : BlobState) (rows : List Row) : Type 0 where
+  pub fit : AllByRecursion IsRow rows
+  pub appended : IsAppended 16 before after rows
 
 -- The rows of a table were appended at the next multiple of 16, and wherever a view then holds the file with its holes filled, this
 -- is shown at their address.

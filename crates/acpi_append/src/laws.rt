@@ -1,6 +1,7 @@
 //! Laws over the definitions. Each is the contract of a function that does nothing.
 
 ghost use Rattle.std.specs.Prelude.{ℕ, ◌+◌, ◌<◌, ◌^◌, List, map};
+ghost use Rattle.std.specs.List.{AllByRecursion};
 ghost use Rattle.vt_layout.specs.Rows.{size};
 ghost use Rattle.acpi_model.specs.declared.header.Head.{Head};
 ghost use Rattle.acpi_model.specs.declared.acpi.Table.{Table};
@@ -9,7 +10,7 @@ ghost use Rattle.acpi_model.specs.Rsdp.{rsdp_rows};
 ghost use Rattle.acpi_model.specs.Acpi.{IsWritable, rows_of};
 ghost use Rattle.blob_holes.specs.Blob.{BlobState, IsBlob, next_place};
 ghost use Rattle.blob_holes.specs.Rows.{AreRows};
-ghost use Rattle.acpi_append.specs.Tables.{table_pointer, with_table, with_xsdt, with_rsdp, IsTablePut, IsXsdtPut, IsRsdpPut};
+ghost use Rattle.acpi_append.specs.Tables.{Leads, table_pointer, with_table, with_xsdt, with_rsdp, IsTablePut, IsXsdtPut, IsRsdpPut};
 
 /// States that a file with a table at its end, with an XSDT or with an RSDP, is as the call says that appends it.
 pub fn tables_at_its_end_are_put()
@@ -21,4 +22,12 @@ pub fn tables_at_its_end_are_put()
     ensures rsdp { (file : BlobState) → IsBlob file → (oem_id : List ℕ) (xsdt : ℕ) → AreRows (rsdp_rows oem_id (table_pointer xsdt))
         → next_place 16 file + size (rsdp_rows oem_id (table_pointer xsdt)) < 2 ^ 32
         → IsRsdpPut file (with_rsdp file oem_id xsdt) oem_id xsdt }
+{}
+
+/// States that the rows of a table that can be written, of an XSDT and of an RSDP lead to the file of the tables, where they lead to a
+/// file.
+pub fn tables_lead_to_their_file()
+    ensures table { (table : Table) → IsWritable table → AllByRecursion Leads (rows_of table) }
+    ensures xsdt { (head : Head) (tables : List ℕ) → AllByRecursion Leads (xsdt_rows head (map table_pointer tables)) }
+    ensures rsdp { (oem_id : List ℕ) (xsdt : ℕ) → AllByRecursion Leads (rsdp_rows oem_id (table_pointer xsdt)) }
 {}

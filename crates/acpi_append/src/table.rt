@@ -1,16 +1,17 @@
-ghost use Rattle.std.specs.Prelude.{◌≡◌, ◌+◌, ◌<◌, ◌≤◌, ◌^◌, length, IfOk, OnOk};
+ghost use Rattle.std.specs.Prelude.{◌≡◌, ◌+◌, ◌++◌, ◌<◌, ◌≤◌, ◌^◌, length, drop, IfOk, OnOk};
 ghost use Rattle.std.specs.List.{AllByRecursion};
 ghost use Rattle.vt_layout.specs.Rows.{IsRow, size};
-ghost use Rattle.acpi_model.specs.Header.{table_rows};
-ghost use Rattle.acpi_model.specs.Acpi.{IsWritable};
+ghost use Rattle.acpi_model.specs.Header.{framed};
+ghost use Rattle.acpi_model.specs.Acpi.{layout_of, signature_of, IsWritable};
 ghost use Rattle.blob_holes.specs.Blob.{next_place};
 ghost use Rattle.blob_holes.specs.Rows.{IsUnsummed};
-ghost use Rattle.blob_holes.specs.Appended.{IsAppended};
-ghost use Rattle.acpi_append.specs.Tables.{IsTablePut, tables_name, table_pointer};
+ghost use Rattle.acpi_model.specs.Kinds.{record_rows, tables_name};
+ghost use Rattle.acpi_append.specs.Tables.{BeginWithHeader, AreRowsPut, IsTablePut, table_pointer};
 
-use acpi_model::{HEADER_SIZE, Head, Table, header_rows, hpet_body};
+use acpi_model::Table;
 use blob_holes::{Blob, append_layout};
-use vt_layout::{Row, size_of};
+use std::alloc::Global;
+use vt_layout::{Row, RowList, ShortBytes, rows_of, size_of};
 use vt_outside::{Name, OutOfMemory};
 
 /// The name of the file of fw_cfg that holds the tables. The pointers to them have its place added.
@@ -20,8 +21,8 @@ pub const TABLES_FILE: &str = "etc/acpi/tables";
 pub(crate) const ALIGN: u32 = 16;
 
 /// Appends `table` to `blob` at the next multiple of 16, and returns its offset in bytes. `table` is one that can be written: each
-/// of its entries is of a known type, and each of its lists is as long as the table says. An HPET table always is. `blob` has less
-/// than 2 GiB before. Returns `OutOfMemory` when memory runs out; what `blob` then holds is unspecified.
+/// of its entries is of a known type, each of its lists is as long as the table says, and it has at most 64 KiB behind its header. An
+/// HPET table always is. `blob` has less than 2 GiB before. Returns `OutOfMemory` when memory runs out; what `blob` then holds is unspecified.
 pub fn put_table(blob: &mut Blob, table: &Table) -> Result<u32, OutOfMemory>
     requires writable { IsWritable table.now }
     requires short { length blob.old.bytes < 2 ^ 31 }
@@ -33,30 +34,51 @@ pub fn put_table(blob: &mut Blob, table: &Table) -> Result<u32, OutOfMemory>
     // holes filled, the table stands at its place.
     ensures put { OnOk result (IsTablePut blob.old blob.new table.now) }
 {
+    let mut rows = known_rows(blob.alloc(), table)?;
+    append_table(blob, known_signature(table), &mut rows, &[])
+}
+
+// The rows of a table, with zeros for its signature, its length and its checksum.
+fn known_rows<'a>(alloc: Global, table: &'a Table) -> Result<RowList<'a>, OutOfMemory>
+    ensures { IfOk result (λ list. list.rows ≡ record_rows (layout_of table.now)) }
+{
     match table {
-        Table::Hpet(table) => append_table(blob, b"HPET", &table.head, &hpet_body(table)),
+        Table::Hpet(table) => rows_of(alloc, table),
     }
 }
 
-/// Appends the table with `signature` and the header `head` to `blob` at the next multiple of 16, and returns its offset in
-/// bytes. `body` are the rows behind the header: at most 2^24 bytes, and no checksum, which only the header has. `blob` has
-/// less than 2 GiB before. Returns `OutOfMemory` when memory runs out; what `blob` then holds is unspecified.
+fn known_signature(table: &Table) -> &'static [u8; 4]
+    ensures { result.now ≡ signature_of table.now }
+{
+    match table {
+        Table::Hpet(_) => b"HPET",
+    }
+}
+
+/// Appends the table with `signature` that has the rows `rows`, which begin with those of a header, and `more` behind them, at the next
+/// multiple of 16, and returns its offset in bytes. Its signature, its length and its checksum are put into `rows`. All rows are at most
+/// 2^25 bytes, and there is no checksum behind the header. `blob` has less than 2 GiB before. Returns `OutOfMemory` when memory runs out;
+/// what `blob` then holds is unspecified.
 pub(crate) fn append_table(
     blob: &mut Blob,
     signature: &[u8; 4],
-    head: &Head,
-    body: &[Row],
+    rows: &mut RowList,
+    more: &[Row],
 ) -> Result<u32, OutOfMemory>
-    requires body { AllByRecursion IsRow body.now }
-    requires no_sum { AllByRecursion IsUnsummed body.now }
+    requires header { BeginWithHeader rows.old.rows }
+    requires more { AllByRecursion IsRow more.now }
+    requires no_sum { AllByRecursion IsUnsummed (drop 9 rows.old.rows ++ more.now) }
     requires short { length blob.old.bytes < 2 ^ 31 }
-    requires few { size body.now ≤ 2 ^ 24 }
+    requires few { size rows.old.rows + size more.now ≤ 2 ^ 25 }
     ensures place { IfOk result (λ place. place ≡ next_place 16 blob.old) }
-    ensures appended { OnOk result (IsAppended 16 blob.old blob.new (table_rows signature.now head.now body.now)) }
-    ensures rows { AllByRecursion IsRow (table_rows signature.now head.now body.now) }
+    ensures put { OnOk result (AreRowsPut blob.old blob.new
+        (framed signature.now (size rows.old.rows + size more.now) rows.old.rows ++ more.now)) }
 {
-    let total = HEADER_SIZE + size_of(body);
-    append_layout(blob, ALIGN, &header_rows(signature, total, head), body)
+    let total = size_of(rows.rows()) + size_of(more);
+    rows.set(0, Row::Bytes(4, ShortBytes::of(signature)));
+    rows.set(1, Row::Number(4, u64::from(total)));
+    rows.set(3, Row::Sum(total));
+    append_layout(blob, ALIGN, rows.rows(), more)
 }
 
 /// Returns the row, 8 bytes wide, of the address of the table at `offset` in the file `TABLES_FILE`, in bytes.

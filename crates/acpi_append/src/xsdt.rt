@@ -6,7 +6,7 @@ use crate::table::{append_table, table_pointer};
 use acpi_model::Head;
 use blob_holes::Blob;
 use std::alloc::Global;
-use vt_layout::Row;
+use vt_layout::{Row, rows_of};
 use vt_outside::{List, OutOfMemory};
 
 /// Appends the XSDT with the header `head` to `blob` at the next multiple of 16, and returns its offset in bytes. Its entries
@@ -25,7 +25,8 @@ pub fn put_xsdt(blob: &mut Blob, head: &Head, tables: &[u32]) -> Result<u32, Out
     ensures put { OnOk result (IsXsdtPut blob.old blob.new head.now tables.now) }
 {
     let entries = entries_of(blob.alloc(), tables)?;
-    append_table(blob, b"XSDT", head, entries.as_slice())
+    let mut rows = rows_of(blob.alloc(), head)?;
+    append_table(blob, b"XSDT", &mut rows, entries.as_slice())
 }
 
 // The entries of tables that stand at these offsets of their file.

@@ -1,5 +1,5 @@
 -- Tables that are held as they were written are there.
-use Rattle.std.proofs.Common.{◌≡◌, ℕ, ◌+◌, ◌-◌, List, ◌++◌, Option, Some, None, arith, sym, subst}
+use Rattle.std.proofs.Common.{◌≡◌, ℕ, ◌+◌, ◌-◌, List, ◌++◌, Option, Some, None, arith, refl, sym, subst}
 use Rattle.std.specs.List.{AllByRecursion}
 use Rattle.vt_bytes.specs.View.{View}
 use Rattle.vt_bytes.proofs.Each.{each_back}
@@ -13,9 +13,9 @@ use Rattle.vt_layout.proofs.Entries.{shown_entries}
 use Rattle.acpi_model.specs.declared.header.Head.{Head}
 use Rattle.acpi_model.specs.declared.acpi.Table.{Table}
 use Rattle.acpi_model.specs.Header.{header_rows, table_rows}
-use Rattle.acpi_model.specs.Kinds.{TableLayout, EndsWith, IsLayoutAt, layout_rows, linked_layout}
+use Rattle.acpi_model.specs.Kinds.{TableLayout, EndsWith, IsLayoutAt, AreOfTypes, IsLawful, layout_rows, linked_layout}
 use Rattle.acpi_model.specs.Acpi.{layout_of, IsWritable, rows_of, linked_table, IsAt}
-use Rattle.acpi_model.proofs.Known.{AreOfTypes, IsLinked, is_linked}
+use Rattle.acpi_model.proofs.Known.{is_listed}
 
 -- a table is shown with its pointers linked
 pub shown_table : (view : View) (place_of : List ℕ → ℕ) (address : ℕ) (s : List ℕ) (h : Head) (body : List Row)
@@ -33,9 +33,9 @@ ended : (types : Option Types) (view : View) (place_of : List ℕ → ℕ) (star
 ended None view place_of start address entries are typed held = typed
 ended (Some types) view place_of start address entries are typed held = shown_entries types view place_of start address entries are typed held
 
-held_layout : (view : View) (place_of : List ℕ → ℕ) (address : ℕ) (l : TableLayout) → IsLinked place_of l
+held_layout : (view : View) (place_of : List ℕ → ℕ) (address : ℕ) (l : TableLayout) → IsLawful l
     → AllByRecursion IsRow (layout_rows l) → LayoutHeld view place_of address (layout_rows l) → IsLayoutAt view address (linked_layout place_of l)
-held_layout view place_of address l linked_so are held =
+held_layout view place_of address l lawful are held =
     let more : List Row = entries_rows l.entries in
     let total : ℕ = 36 + size (l.body ++ more) in
     let header : List Row = header_rows l.kind.signature total l.head in
@@ -53,15 +53,18 @@ held_layout view place_of address l linked_so are held =
         long_enough = omega (arith, sizes, width);
         shown = shown_front view address address (header ++ linked place_of l.body) (linked place_of more) whole;
       };
-      shaped = linked_so.shaped view address held;
+      shaped = lawful.shaped place_of view address held;
       ends = subst (λ n. EndsWith l.kind.types view address (address + (36 + size (linked place_of l.body))) n (linked_entries place_of l.entries)) count
           (subst (λ a. EndsWith l.kind.types view address a (size more) (linked_entries place_of l.entries)) place
           (ended l.kind.types view place_of address (address + size (header ++ l.body)) l.entries (each_back IsRow (header ++ l.body) more are)
-          linked_so.typed back));
+          (lawful.typed place_of) back));
     }
 
 pub held_table : (view : View) (place_of : List ℕ → ℕ) (address : ℕ) (table : Table) → IsWritable table → AllByRecursion IsRow (rows_of table)
     → LayoutHeld view place_of address (rows_of table) → IsAt view address (linked_table place_of table)
-held_table view place_of address table writable are held =
-    let linked_so = is_linked place_of table writable in
-    subst (IsLayoutAt view address) (sym linked_so.again) (held_layout view place_of address (layout_of table) linked_so are held)
+held_table view place_of address table writable are held = record {
+  layout = linked_layout place_of (layout_of table);
+  known = is_listed table;
+  stands = held_layout view place_of address (layout_of table) writable are held;
+  says = refl;
+}

@@ -1,10 +1,14 @@
 pub mod AcceptedAcpi
-pub mod Choices
 pub mod OneTable
 pub mod Known
 pub mod OneLayout
 pub mod HeldTables
+pub mod Headers
 pub mod Xsdt
 pub mod OneRsdp
 pub mod OneAcpi
-pub mod Walked
+pub mod SameTold
+pub mod Parts
+pub mod MachineTables
+pub mod Maker
+pub mod SameAcpi

@@ -8,9 +8,8 @@ use Rattle.vt_layout.specs.Entries.{Entry, Types}
 use Rattle.vt_layout.proofs.Entries.{same_entries}
 use Rattle.acpi_model.specs.declared.header.Head.{Head}
 use Rattle.acpi_model.specs.Kinds.{Kind, TableLayout, EndsWith, IsLayoutAt, table_of}
-use Rattle.acpi_model.specs.Acpi.{kind_of, layout_of, IsAt}
+use Rattle.acpi_model.specs.Acpi.{kind_of, IsAt}
 use Rattle.acpi_model.proofs.OneTable.{one_table}
-use Rattle.acpi_model.proofs.Known.{is_known}
 
 -- tables end with one list of entries
 one_end : (types : Option Types) (view : View) (start address count : ℕ) → IsOne (EndsWith types view start address count)
@@ -18,13 +17,13 @@ one_end None view start address count a b is also = is ∙ sym also
 one_end (Some types) view start address count a b is also = same_entries types view start address count a b is also
 
 -- the layout of these parts
-layout_with : Kind → Head → List Row → List Entry → TableLayout
-layout_with kind head body entries = record { kind = kind; head = head; body = body; entries = entries }
+layout_from : Kind → Head → List Row → List Entry → TableLayout
+layout_from kind head body entries = record { kind = kind; head = head; body = body; entries = entries }
 
 -- The signature decides the kind; the kind decides the shape of the rows, and the types of the entries.
 one_layout : (view : View) (address : ℕ) (l m : TableLayout) → kind_of l.kind.signature ≡ Some l.kind → kind_of m.kind.signature ≡ Some m.kind
     → IsLayoutAt view address l → IsLayoutAt view address m → l ≡ m
-unfolding layout_with
+unfolding layout_from
 one_layout view address l m listed also_listed is also =
     let signatures : l.kind.signature ≡ m.kind.signature = cc (is.stands.shown.0, also.stands.shown.0) in
     let kinds : l.kind ≡ m.kind = cc (listed, also_listed, signatures) in
@@ -36,11 +35,9 @@ one_layout view address l m listed also_listed is also =
     let there = subst (λ b. EndsWith m.kind.types view address (address + (36 + size b)) (also.total - (36 + size b)) l.entries) same.bodies of_total in
     let ends : l.entries ≡ m.entries =
     one_end m.kind.types view address (address + (36 + size m.body)) (also.total - (36 + size m.body)) l.entries m.entries there also.ends in
-    ap (λ kind. layout_with kind l.head l.body l.entries) kinds ∙ ap (λ head. layout_with m.kind head l.body l.entries) same.headers
-    ∙ ap (λ body. layout_with m.kind m.head body l.entries) same.bodies ∙ ap (layout_with m.kind m.head m.body) ends
+    ap (λ kind. layout_from kind l.head l.body l.entries) kinds ∙ ap (λ head. layout_from m.kind head l.body l.entries) same.headers
+    ∙ ap (λ body. layout_from m.kind m.head body l.entries) same.bodies ∙ ap (layout_from m.kind m.head m.body) ends
 
 pub one_at : (view : View) (address : ℕ) → IsOne (IsAt view address)
 one_at view address t u is also =
-    let known = is_known t in
-    let also_known = is_known u in
-    sym known.back ∙ ap table_of (one_layout view address (layout_of t) (layout_of u) known.listed also_known.listed is also) ∙ also_known.back
+    is.says ∙ ap table_of (one_layout view address is.layout also.layout is.known also.known is.stands also.stands) ∙ sym also.says

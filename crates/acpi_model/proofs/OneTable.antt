@@ -4,9 +4,10 @@ use Rattle.vt_bytes.specs.View.{View}
 use Rattle.vt_layout.specs.declared.row.Row.{Row}
 use Rattle.vt_layout.specs.declared.row.Row.TheVariants.{Number, Bytes, Sum}
 use Rattle.vt_layout.specs.Rows.{shape, text}
+use Rattle.vt_layout.specs.Values.{values_of}
 use Rattle.vt_layout.proofs.Same.{same_rows}
 use Rattle.acpi_model.specs.declared.header.Head.{Head}
-use Rattle.acpi_model.specs.Header.{header_rows, header_of_rows, IsTable}
+use Rattle.acpi_model.specs.Header.{header_rows, head_made, IsTable}
 
 -- the shape of a header of a table of so many bytes, before that of other rows
 header_shape : ℕ → List Row → List Row
@@ -33,4 +34,4 @@ one_table view address s t n k h g b c is also shapes =
     ∙ sym (shape-header t k g c) in
     let rows : header_rows s n h ++ b ≡ header_rows t k g ++ c =
     same_rows view address address (header_rows s n h ++ b) (header_rows t k g ++ c) is.shown also.shown whole in
-    record { signatures = ap (text 0) rows; totals = totals; headers = ap header_of_rows rows; bodies = ap (drop 9) rows }
+    record { signatures = ap (text 0) rows; totals = totals; headers = ap (λ those. head_made (values_of those [])) rows; bodies = ap (drop 9) rows }

@@ -1,42 +1,39 @@
--- The HPET table (IA-PC HPET 1.0a, 3.2.4). The address of its registers is a Generic Address Structure (ACPI 6.5, 5.2.3.2).
-use Rattle.std.specs.Prelude.{List, [], ◌∷◌, codes, None}
-use Rattle.vt_layout.specs.declared.row.Row.{Row}
-use Rattle.vt_layout.specs.declared.row.Row.TheVariants.{Number, Reserved}
-use Rattle.vt_layout.specs.Rows.{number}
+-- The HPET table (IA-PC HPET 1.0a, 3.2.4).
+use Rattle.std.specs.Prelude.{◌^◌, List, [], ◌∷◌, ◌++◌, codes, Option, Some, nat_lt, if◌then◌else◌}
+use Rattle.vt_layout.specs.declared.value.Value.{Value}
+use Rattle.vt_layout.specs.Values.{skip, value_at, byte_of, word_of, dword_of}
+use Rattle.vt_layout.specs.Fields.{Field, byte, word, dword, reserved}
 use Rattle.machine_desc.specs.declared.machine.Acpi.{Acpi}
 use Rattle.machine_desc.specs.declared.machine.Hpet.{Hpet}
-use Rattle.acpi_model.specs.declared.header.Head.{Head}
 use Rattle.acpi_model.specs.declared.hpet.HpetTable.{HpetTable}
+use Rattle.acpi_model.specs.declared.acpi.Table.{Table}
 use Rattle.acpi_model.specs.declared.acpi.Table.TheVariants.{Hpet as HpetVariant}
-use Rattle.acpi_model.specs.Header.{head_of}
-use Rattle.acpi_model.specs.Kinds.{Kind, TableLayout, shape_without_entries}
+use Rattle.acpi_model.specs.Header.{head_fields, head_made, head_of}
+use Rattle.acpi_model.specs.GenericAddress.{address_fields, address_made}
+use Rattle.acpi_model.specs.Kinds.{Kind, TableLayout, kind_with, layout_with}
 
--- the rows behind its header
-abbrev pub hpet_body : HpetTable → List Row
-hpet_body t =
-    Number 4 t.block_id ∷ Number 1 t.address.space ∷ Number 1 t.address.width ∷ Number 1 t.address.offset ∷ Number 1 t.address.access
-    ∷ Number 8 t.address.address ∷ Number 1 t.number ∷ Number 2 t.min_tick ∷ Reserved 1 ∷ []
+abbrev pub hpet_fields : HpetTable → List Field
+hpet_fields t =
+    head_fields t.head ++ dword t.block_id ∷ address_fields t.address ++ byte t.number ∷ word t.min_tick ∷ reserved 1 ∷ []
 
--- the table of this header and these rows behind it
-abbrev pub hpet_of_rows : Head → List Row → HpetTable
-hpet_of_rows head body = record {
-  head = head;
-  block_id = number 0 body;
-  address = record { space = number 1 body; width = number 2 body; offset = number 3 body; access = number 4 body; address = number 5 body };
-  number = number 6 body;
-  min_tick = number 7 body;
+abbrev pub hpet_made : List Value → HpetTable
+hpet_made values = record {
+  head = head_made values;
+  block_id = dword_of (value_at 9 values);
+  address = address_made (skip 10 values);
+  number = byte_of (value_at 15 values);
+  min_tick = word_of (value_at 16 values);
 }
 
 abbrev pub hpet_kind : Kind
-hpet_kind = record {
-  signature = codes "HPET";
-  shape = shape_without_entries hpet_body hpet_of_rows;
-  types = None;
-  table = λ head body entries. HpetVariant (hpet_of_rows head body);
-}
+hpet_kind = kind_with (codes "HPET") hpet_fields hpet_made HpetVariant
 
 abbrev pub hpet_layout : HpetTable → TableLayout
-hpet_layout t = record { kind = hpet_kind; head = t.head; body = hpet_body t; entries = [] }
+hpet_layout t = layout_with hpet_kind t.head (hpet_fields t)
+
+-- a table as one of this kind
+abbrev pub as_hpet : Table → Option HpetTable
+as_hpet (HpetVariant t) = Some t
 
 -- a machine's table: its registers are in memory, 64 bits wide
 abbrev pub hpet_of : Acpi → Hpet → HpetTable
@@ -46,4 +43,13 @@ hpet_of acpi hpet = record {
   address = record { space = 0; width = 64; offset = 0; access = 0; address = hpet.address };
   number = hpet.number;
   min_tick = hpet.min_tick;
+}
+
+-- the machine's part that a table tells; an address of more than 32 bits is 0
+abbrev pub hpet_in : HpetTable → Hpet
+hpet_in t = record {
+  address = if nat_lt t.address.address (2 ^ 32) then t.address.address else 0;
+  block_id = t.block_id;
+  number = t.number;
+  min_tick = t.min_tick;
 }

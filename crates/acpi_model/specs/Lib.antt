@@ -1,12 +1,14 @@
-pub mod Choice
 pub mod Header
+pub mod GenericAddress
+pub mod Maker
 pub mod Kinds
 pub mod Hpet
 pub mod Xsdt
 pub mod Rsdp
 pub mod Acpi
-pub mod Walked
 pub use Rattle.vt_bytes.specs.View
 pub use Rattle.vt_layout.specs.Rows
 pub use Rattle.vt_layout.specs.Shown
 pub use Rattle.vt_layout.specs.Entries
+pub use Rattle.vt_layout.specs.Fields
+pub use Rattle.vt_layout.specs.Values

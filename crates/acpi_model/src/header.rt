@@ -1,10 +1,8 @@
-ghost use Rattle.std.specs.Prelude.{◌≡◌, ◌≤◌, ◌+◌, ◌++◌, length, drop};
-ghost use Rattle.std.specs.List.{AllByRecursion};
-ghost use Rattle.vt_layout.specs.Rows.{IsRow};
-ghost use Rattle.acpi_model.specs.Header.{header_rows, head_of, FitsHead};
+ghost use Rattle.std.specs.Prelude.{◌≡◌, ◌≤◌, ◌+◌, ◌++◌, length, drop, refl};
+ghost use Rattle.acpi_model.specs.Header.{head_fields, head_made, head_of, FitsHead};
 
 use machine_desc::Acpi;
-use vt_layout::{Row, ShortBytes};
+use vt_layout::{Laid, RowList, Values};
 
 /// How many bytes the header of an ACPI table has (ACPI 6.5, 5.2.6).
 pub const HEADER_SIZE: u32 = 36;
@@ -26,38 +24,43 @@ pub struct Head {
     pub creator_revision: u32,
 }
 
-/// A register's address (Generic Address Structure, ACPI 6.5, 5.2.3.2).
-#[derive(Clone, Copy, Debug, PartialEq, Eq)]
-pub struct GenericAddress {
-    /// The address space: 0 is memory, 1 is I/O.
-    pub space: u8,
-    /// The register's width in bits.
-    pub width: u8,
-    /// The offset of its first bit.
-    pub offset: u8,
-    /// The size of an access: 1 to 4 are 1, 2, 4 and 8 bytes, and 0 leaves it open.
-    pub access: u8,
-    /// Where it is.
-    pub address: u64,
-}
+impl Laid for Head {
+    const ROWS: u8 = 9;
 
-/// Returns the rows of a table's header (ACPI 6.5, 5.2.6). The table has the signature `signature`, `total` bytes with its
-/// header, and the other header fields of `head`. The checksum is over all `total` bytes.
-pub fn header_rows(signature: &[u8; 4], total: u32, head: &Head) -> [Row; 9]
-    ensures rows { result ≡ header_rows signature.now total head.now }
-    ensures fit { AllByRecursion IsRow result }
-{
-    [
-        Row::Bytes(4, ShortBytes::of(signature)),
-        Row::Number(4, u64::from(total)),
-        Row::Number(1, u64::from(head.revision)),
-        Row::Sum(total),
-        Row::Bytes(6, ShortBytes::of(&head.oem_id)),
-        Row::Bytes(8, ShortBytes::of(&head.oem_table_id)),
-        Row::Number(4, u64::from(head.oem_revision)),
-        Row::Bytes(4, ShortBytes::of(&head.creator_id)),
-        Row::Number(4, u64::from(head.creator_revision)),
-    ]
+    ghost ROWS = { 9 };
+
+    ghost fields = { head_fields };
+
+    ghost made = { head_made };
+
+    ghost lawful = { λ t u. record { back = refl; shaped = refl; counted = refl; readable = refl } };
+
+    fn put<'a>(&'a self, rows: &mut RowList<'a>) {
+        rows.four(&[0; 4]);
+        rows.dword(0);
+        rows.byte(self.revision);
+        rows.reserved(1);
+        rows.six(&self.oem_id);
+        rows.eight(&self.oem_table_id);
+        rows.dword(self.oem_revision);
+        rows.four(&self.creator_id);
+        rows.dword(self.creator_revision);
+    }
+
+    fn take(values: &mut Values) -> Head {
+        values.pass();
+        values.pass();
+        let revision = values.take_byte();
+        values.pass();
+        Head {
+            revision,
+            oem_id: values.take_six(),
+            oem_table_id: values.take_eight(),
+            oem_revision: values.take_dword(),
+            creator_id: values.take_four(),
+            creator_revision: values.take_dword(),
+        }
+    }
 }
 
 /// Returns the header of a table of revision `revision`, with the maker's ids of `acpi`, of which `oem_id` has at most 6 bytes

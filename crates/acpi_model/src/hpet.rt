@@ -1,12 +1,11 @@
-ghost use Rattle.std.specs.Prelude.{◌≡◌};
-ghost use Rattle.std.specs.List.{AllByRecursion};
-ghost use Rattle.vt_layout.specs.Rows.{IsRow};
+ghost use Rattle.std.specs.Prelude.{◌≡◌, refl};
 ghost use Rattle.acpi_model.specs.Header.{FitsHead};
-ghost use Rattle.acpi_model.specs.Hpet.{hpet_body, hpet_of};
+ghost use Rattle.acpi_model.specs.Hpet.{hpet_fields, hpet_made, hpet_of, hpet_in};
 
-use crate::header::{GenericAddress, Head, head_of};
+use crate::generic_address::GenericAddress;
+use crate::header::{Head, head_of};
 use machine_desc::{Acpi, Hpet};
-use vt_layout::Row;
+use vt_layout::{Laid, RowList, Values};
 
 /// The table of a high precision event timer (IA-PC HPET 1.0a, 3.2.4).
 #[derive(Clone, Copy, Debug, PartialEq, Eq)]
@@ -23,30 +22,47 @@ pub struct HpetTable {
     pub min_tick: u16,
 }
 
-/// Returns the rows of `table` behind its header (IA-PC HPET 1.0a, 3.2.4).
-pub fn hpet_body(table: &HpetTable) -> [Row; 9]
-    ensures rows { result ≡ hpet_body table.now }
-    ensures fit { AllByRecursion IsRow result }
-{
-    let register = &table.address;
-    [
-        Row::Number(4, u64::from(table.block_id)),
-        Row::Number(1, u64::from(register.space)),
-        Row::Number(1, u64::from(register.width)),
-        Row::Number(1, u64::from(register.offset)),
-        Row::Number(1, u64::from(register.access)),
-        Row::Number(8, u64::from(register.address)),
-        Row::Number(1, u64::from(table.number)),
-        Row::Number(2, u64::from(table.min_tick)),
-        Row::Reserved(1),
-    ]
+impl Laid for HpetTable {
+    const ROWS: u8 = 18;
+
+    ghost ROWS = { 18 };
+
+    ghost fields = { hpet_fields };
+
+    ghost made = { hpet_made };
+
+    ghost lawful = { λ t u. record { back = refl; shaped = refl; counted = refl; readable = refl } };
+
+    fn put<'a>(&'a self, rows: &mut RowList<'a>) {
+        self.head.put(rows);
+        rows.dword(self.block_id);
+        self.address.put(rows);
+        rows.byte(self.number);
+        rows.word(self.min_tick);
+        rows.reserved(1);
+    }
+
+    fn take(values: &mut Values) -> HpetTable {
+        let table = HpetTable {
+            head: Head::take(values),
+            block_id: values.take_dword(),
+            address: GenericAddress::take(values),
+            number: values.take_byte(),
+            min_tick: values.take_word(),
+        };
+        values.pass();
+        table
+    }
 }
 
 /// Returns the HPET table of a machine's timer `hpet`. `acpi` is the maker; its `oem_id` has at most 6 bytes and its
 /// `oem_table_id` at most 8. The timer's registers are in memory, 64 bits wide.
 pub fn hpet_of(acpi: &Acpi, hpet: Hpet) -> HpetTable
     requires { FitsHead acpi.now }
-    ensures { result ≡ hpet_of acpi.now hpet }
+    ensures table { result ≡ hpet_of acpi.now hpet }
+
+    // A reader gets the timer back from it.
+    ensures back { hpet_in (hpet_of acpi.now hpet) ≡ hpet }
 {
     HpetTable {
         head: head_of(acpi, 1),

@@ -63,16 +63,16 @@ same_found number tables first second agree at field later None positions = refl
 same_found number tables first second agree at field later (Some node) positions = same_shaped number tables first second agree at field.shape later node
     positions
 
-same_fields : (number tables : ℕ) (first second : Inner) → Agree number tables first second → (place : Place) (n : ℕ) (fields : List Field)
+same_fields : (number tables : ℕ) (first second : Inner) → Agree number tables first second → (place : Place) (fields : List Field)
     → AreLater number tables fields → (table : Members) (positions : List ℕ)
-    → at_fields first place n fields table positions ≡ at_fields second place n fields table positions
+    → at_fields first place fields table positions ≡ at_fields second place fields table positions
 unfolding at_fields
-same_fields number tables first second agree place n [] later table positions = refl
-same_fields number tables first second agree place n (field ∷ fields) (here, later) table positions =
-    same_joined (at_field first (key_at place n) field table positions) (at_field second (key_at place n) field table positions)
-    (at_fields first place (n + 1) fields table) (at_fields second place (n + 1) fields table)
-    (same_found number tables first second agree (key_at place n) field here (get_member field.name table) positions)
-    (λ next. same_fields number tables first second agree place (n + 1) fields later table next)
+same_fields number tables first second agree place [] later table positions = refl
+same_fields number tables first second agree place (field ∷ fields) (here, later) table positions =
+    same_joined (at_field first place field table positions) (at_field second place field table positions)
+    (at_fields first place fields table) (at_fields second place fields table)
+    (same_found number tables first second agree (key_at place field.number) field here (get_member field.name table) positions)
+    (λ next. same_fields number tables first second agree place fields later table next)
 
 later_at : (k tables : ℕ) (schema : List (List Field)) (number : ℕ) → AscendFrom k tables schema → AreLater (k + number) tables (fields_at schema number)
 later_at k tables [] number ascends = tt
@@ -93,10 +93,10 @@ deeper schema ascends more (suc depth) place table positions within deep =
     let later : AreLater place.table (length schema) fields = subst (λ (n : ℕ). AreLater n (length schema) fields) here
     (later_at 0 (length schema) schema place.table ascends) in
     rw step
-    (same_bound (all_known place fields table) (λ known. at_fields (table_walked schema (depth + more)) place 0 fields table positions)
-    (λ known. at_fields (table_walked schema depth) place 0 fields table positions)
+    (same_bound (all_known place fields table) (λ known. at_fields (table_walked schema (depth + more)) place fields table positions)
+    (λ known. at_fields (table_walked schema depth) place fields table positions)
     (λ known. same_fields place.table (length schema) (table_walked schema (depth + more)) (table_walked schema depth)
-    (λ inner inside before after_it within_it. deeper schema ascends more depth inner inside before within_it (omega arith)) place 0 fields later table
+    (λ inner inside before after_it within_it. deeper schema ascends more depth inner inside before within_it (omega arith)) place fields later table
     positions))
 
 pub deep_enough : (schema : List (List Field)) (root : Members) (positions : List ℕ) (more : ℕ) → IsAscending schema

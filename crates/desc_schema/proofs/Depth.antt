@@ -17,7 +17,7 @@ walked_none front schema depth place table positions is = rw is (is_done front p
 walked_more : (schema : List (List Field)) (depth : ℕ) (place : Place) (table : Members) (positions : List ℕ) (fields : List Field) → 0 < depth
     → fields ≡ fields_at schema place.table
     → table_walked schema depth place table positions ≡
-    (all_known place fields table >>= λ known. at_fields (table_walked schema (depth - 1)) place 0 fields table positions)
+    (all_known place fields table >>= λ known. at_fields (table_walked schema (depth - 1)) place fields table positions)
 unfolding table_walked
 walked_more schema zero place table positions fields within is = absurd (omega arith)
 walked_more schema (suc depth) place table positions fields within is =
@@ -27,7 +27,7 @@ walked_more schema (suc depth) place table positions fields within is =
 pub walked_known : (schema : List (List Field)) (depth : ℕ) (place : Place) (table : Members) (positions : List ℕ) (fields : List Field) (known : Unit {0})
     → 0 < depth
     → fields ≡ fields_at schema place.table → all_known place fields table ≡ Ok known
-    → table_walked schema depth place table positions ≡ at_fields (table_walked schema (depth - 1)) place 0 fields table positions
+    → table_walked schema depth place table positions ≡ at_fields (table_walked schema (depth - 1)) place fields table positions
 walked_known schema depth place table positions fields known within is all = walked_more schema depth place table positions fields within is ∙ rw all refl
 
 pub walked_unknown : (error : WalkError) (front : List Value) (schema : List (List Field)) (depth : ℕ) (place : Place) (table : Members) (positions : List ℕ)
@@ -36,4 +36,4 @@ pub walked_unknown : (error : WalkError) (front : List Value) (schema : List (Li
     → Fails error (after front (table_walked schema depth place table positions))
 walked_unknown error front schema depth place table positions fields within is fails =
     rw (walked_more schema depth place table positions fields within is)
-    (fails_bound error front (all_known place fields table) (λ known. at_fields (table_walked schema (depth - 1)) place 0 fields table positions) fails)
+    (fails_bound error front (all_known place fields table) (λ known. at_fields (table_walked schema (depth - 1)) place fields table positions) fails)

@@ -10,3 +10,5 @@ pub mod Saying
 pub mod Fitting
 pub mod Writing
 pub mod UuidText
+pub mod EachTable
+pub mod Named

@@ -10,7 +10,7 @@ use Rattle.desc_schema.specs.declared.fault.Place.{Place}
 use Rattle.desc_schema.specs.declared.fault.KeyPlace.{KeyPlace}
 use Rattle.desc_schema.specs.declared.fault.WalkError.{WalkError}
 use Rattle.desc_schema.specs.Form.{Form, field_of, fields_of}
-use Rattle.desc_schema.specs.Faults.{Fails, key_at}
+use Rattle.desc_schema.specs.Faults.{Fails}
 use Rattle.desc_schema.specs.Single.{value_of}
 use Rattle.desc_schema.specs.Walk.{Part, Inner, after, one, element, elements, singles, at_field, at_fields, count_of}
 use Rattle.desc_schema.proofs.Parts.{goes_on, stops, is_done}
@@ -23,28 +23,28 @@ drop_all (x ∷ xs) (suc i) le = drop_all xs i (omega arith)
 
 pub fields_go_on : (front new : List Value) (before next : List ℕ) (inner : Inner) (place : Place) (i : ℕ) (keys : List Key) (key : Key) (table : Members)
     (total : Part) → i < length keys
-    → after front (at_field inner (key_at place i) (field_of (get_or keys i key)) table before) ≡ Ok (new, next)
-    → after front (at_fields inner place i (fields_of (drop i keys)) table before) ≡ total
-    → after new (at_fields inner place (i + 1) (fields_of (drop (i + 1) keys)) table next) ≡ total
+    → after front (at_field inner place (field_of (get_or keys i key)) table before) ≡ Ok (new, next)
+    → after front (at_fields inner place (fields_of (drop i keys)) table before) ≡ total
+    → after new (at_fields inner place (fields_of (drop (i + 1) keys)) table next) ≡ total
 unfolding at_fields
 fields_go_on front new before next inner place i keys key table total within is so_far =
-    goes_on front new (at_field inner (key_at place i) (field_of (get_or keys i key)) table before)
-    (at_fields inner place (i + 1) (fields_of (drop (i + 1) keys)) table) next total is
+    goes_on front new (at_field inner place (field_of (get_or keys i key)) table before)
+    (at_fields inner place (fields_of (drop (i + 1) keys)) table) next total is
     (rw (drop_more keys i key within) at so_far)
 
 pub fields_stop : (error : WalkError) (front : List Value) (before : List ℕ) (inner : Inner) (place : Place) (i : ℕ) (keys : List Key) (key : Key)
     (table : Members) (total : Part) → i < length keys
-    → Fails error (after front (at_field inner (key_at place i) (field_of (get_or keys i key)) table before))
-    → after front (at_fields inner place i (fields_of (drop i keys)) table before) ≡ total → Fails error total
+    → Fails error (after front (at_field inner place (field_of (get_or keys i key)) table before))
+    → after front (at_fields inner place (fields_of (drop i keys)) table before) ≡ total → Fails error total
 unfolding at_fields
 fields_stop error front before inner place i keys key table total within fails so_far =
-    stops error front (at_field inner (key_at place i) (field_of (get_or keys i key)) table before)
-    (at_fields inner place (i + 1) (fields_of (drop (i + 1) keys)) table) total fails
+    stops error front (at_field inner place (field_of (get_or keys i key)) table before)
+    (at_fields inner place (fields_of (drop (i + 1) keys)) table) total fails
     (rw (drop_more keys i key within) at so_far)
 
 pub fields_done : (front : List Value) (before : List ℕ) (inner : Inner) (place : Place) (i : ℕ) (keys : List Key) (table : Members) (total : Part)
     → length keys ≤ i
-    → after front (at_fields inner place i (fields_of (drop i keys)) table before) ≡ total → total ≡ Ok (front, before)
+    → after front (at_fields inner place (fields_of (drop i keys)) table before) ≡ total → total ≡ Ok (front, before)
 unfolding at_fields
 fields_done front before inner place i keys table total le so_far = is_done front before total (rw (drop_all keys i le) at so_far)
 

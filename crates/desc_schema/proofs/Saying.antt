@@ -227,15 +227,15 @@ field_given inner Inside all at field None positions =
     gives_one (otherwise_of at field.default) positions (λ found. field.default ≡ Some found) (default_given at field.default)
 field_given inner Inside all at field (Some node) positions = shape_given inner Inside all at field.shape node positions
 
-fields_given : (inner : Inner) (Inside : ℕ → Members → List Value → Type 0) (all : AllGive inner Inside) (place : Place) (number : ℕ) (fields : List Field)
-    (entries : Members) (positions : List ℕ) → GivesValues (at_fields inner place number fields entries positions) (SayFields Inside fields entries)
+fields_given : (inner : Inner) (Inside : ℕ → Members → List Value → Type 0) (all : AllGive inner Inside) (place : Place) (fields : List Field)
+    (entries : Members) (positions : List ℕ) → GivesValues (at_fields inner place fields entries positions) (SayFields Inside fields entries)
 unfolding at_fields
-fields_given inner Inside all place number [] entries positions = gives_these [] positions
-fields_given inner Inside all place number (field ∷ fields) entries positions =
-    gives_joined (at_field inner (key_at place number) field entries positions) (at_fields inner place (number + 1) fields entries)
+fields_given inner Inside all place [] entries positions = gives_these [] positions
+fields_given inner Inside all place (field ∷ fields) entries positions =
+    gives_joined (at_field inner place field entries positions) (at_fields inner place fields entries)
     (SaysField Inside field entries) (SayFields Inside fields entries)
-    (field_given inner Inside all (key_at place number) field (get_member field.name entries) positions)
-    (fields_given inner Inside all place (number + 1) fields entries)
+    (field_given inner Inside all (key_at place field.number) field (get_member field.name entries) positions)
+    (fields_given inner Inside all place fields entries)
 
 -- the keys of a table
 
@@ -271,9 +271,9 @@ unfolding table_walked
 tables_given schema zero place entries positions values = gives_these [] positions values
 tables_given schema (suc depth) place entries positions values =
     let fields = fields_at schema place.table in
-    let both = gives_bound (all_known place fields entries) (λ known. at_fields (table_walked schema depth) place 0 fields entries positions)
+    let both = gives_bound (all_known place fields entries) (λ known. at_fields (table_walked schema depth) place fields entries positions)
     (λ known. HasOnlyKeys (names fields) entries) (λ known. SayFields (SaysTo schema depth) fields entries) (keys_given place fields entries)
-    (λ known. fields_given (table_walked schema depth) (SaysTo schema depth) (tables_given schema depth) place 0 fields entries positions) values in
+    (λ known. fields_given (table_walked schema depth) (SaysTo schema depth) (tables_given schema depth) place fields entries positions) values in
     (λ gave. let (known, only, says) = both.0 gave in (only, says), λ says. both.1 (tt, says.0, says.1))
 
 pub walked_says : (schema : List (List Field)) (root : Members) (values : List Value) → (walked schema root ≡ Ok values) ↔ Says schema root values

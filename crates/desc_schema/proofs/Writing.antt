@@ -264,9 +264,9 @@ abbrev MembersOf : Spelling → Inner → Write → List Field → List Value �
 MembersOf spell inner write fields values more = (entries : Members) × (fields_written spell write fields (values ++ more) ≡ (entries, more))
     × ((name : List ℕ) → is_known fields name ≡ false → get_member name entries ≡ None)
     × ((every : List Field) → ((name : List ℕ) → is_known fields name ≡ true → is_known every name ≡ true) → least_unknown every entries ≡ None)
-    × ((place : Place) (number : ℕ) (whole : Members) (positions : List ℕ)
+    × ((place : Place) (whole : Members) (positions : List ℕ)
     → ((name : List ℕ) → is_known fields name ≡ true → get_member name whole ≡ get_member name entries)
-    → (next : List ℕ) × (at_fields inner place number fields whole positions ≡ Ok (values, next)))
+    → (next : List ℕ) × (at_fields inner place fields whole positions ≡ Ok (values, next)))
 
 none_unknown-with : (every : List Field) (name : List ℕ) (node : Option Data) (entries : Members) → is_known every name ≡ true
     → least_unknown every entries ≡ None → least_unknown every (with_member name node entries) ≡ None
@@ -279,7 +279,7 @@ fields_back : (spell : Spelling) (reads : IsReadBack spell) (inner : Inner) (wri
     → (more : List Value) → MembersOf spell inner write fields values more
 unfolding at_fields
 fields_back spell reads inner write Inside all [] values is sound differ more =
-    (no_members, rw is refl, λ name unknown. refl, λ every known. refl, λ place number whole positions agree. (positions, rw is refl))
+    (no_members, rw is refl, λ name unknown. refl, λ every known. refl, λ place whole positions agree. (positions, rw is refl))
 fields_back spell reads inner write Inside all (field ∷ fields) values (part, others, is, fits, fit) (shape, defaults, sound) differ more =
     let (alone, differs) = and_parts (not (is_known fields field.name)) (names_differ fields) differ in
     let away : is_known fields field.name ≡ false = not_true _ alone in
@@ -294,11 +294,11 @@ fields_back spell reads inner write Inside all (field ∷ fields) values (part, 
       λ every is_in.
           none_unknown-with every field.name node entries (is_in field.name (or_left _ _ (same_bytes field.name)))
           (known every (λ name there. is_in name (or_right (bytes_eq field.name name) (is_known fields name) there))),
-      λ place number whole positions agree.
+      λ place whole positions agree.
           let found : get_member field.name whole ≡ node =
           agree field.name (or_left _ _ (same_bytes field.name)) ∙ get_here field.name node entries (only field.name away) in
-          let (next, here) = walks (key_at place number) positions in
-          let (last, there) = walk place (number + 1) whole next (λ name there.
+          let (next, here) = walks (key_at place field.number) positions in
+          let (last, there) = walk place whole next (λ name there.
           agree name (or_right (bytes_eq field.name name) (is_known fields name) there) ∙ get_other name field.name node entries
           (differs_from fields field.name name away there)) in
           (last, rw (found, here, there, is) refl),
@@ -323,7 +323,7 @@ tables_back spell reads schema sound (suc depth) number values fits more =
       written,
       λ index positions.
           let place : Place = record { table = number; index = index } in
-          let (next, walks) = walk place 0 entries positions (λ name is. refl) in
+          let (next, walks) = walk place entries positions (λ name is. refl) in
           (next, rw (known (fields_at schema number) (λ name is. is)) walks),
     )
 

@@ -1,5 +1,5 @@
 -- Faults of a walk, and what a function of the code returns by what the walk gives.
-use Rattle.std.specs.Prelude.{◌≡◌, ℕ, nat_lt, Option, Some, None, Result, Ok, Err, if◌then◌else◌}
+use Rattle.std.specs.Prelude.{◌≡◌, ℕ, Option, Some, None, Result, Ok, Err}
 use Rattle.desc_schema.specs.declared.fault.Place.{Place}
 use Rattle.desc_schema.specs.declared.fault.KeyPlace.{KeyPlace}
 use Rattle.desc_schema.specs.declared.fault.WalkFault.{WalkFault}
@@ -7,9 +7,9 @@ use Rattle.desc_schema.specs.declared.fault.WalkFault.TheVariants.{WrongKind}
 use Rattle.desc_schema.specs.declared.fault.WalkError.{WalkError}
 use Rattle.desc_schema.specs.declared.fault.WalkError.TheVariants as errors
 
--- the place of the key of a number; a fault tells numbers of keys up to 255, and of a later key this last one
+-- the place of the key of a number
 abbrev pub key_at : Place → ℕ → KeyPlace
-key_at place number = record { table = place.table; index = place.index; key = if nat_lt number 0xFF then number else 0xFF }
+key_at place number = record { table = place.table; index = place.index; key = number }
 
 -- the place of a table of this number that stands alone
 abbrev pub alone : ℕ → Place

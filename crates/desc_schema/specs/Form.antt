@@ -1,4 +1,5 @@
--- A schema on plain lists: for each table its keys in order, each with its name, its kind, and what stands where it is left out.
+-- A schema on plain lists: for each table its keys in order, each with its number, its name, its kind, and what stands where it is left
+-- out.
 use Rattle.std.specs.Prelude.{ℕ, zero, suc, List, [], ◌∷◌, map, Option, Some, None}
 use Rattle.std.specs.Borrow.{Bor}
 use Rattle.desc_schema.specs.declared.schema.Key.{Key}
@@ -26,8 +27,9 @@ pub data Shape : Type 0 where
   Tables : ℕ → Shape
   Values : Form → Shape
 
--- a key of a table; its default is None where the key must be there
+-- a key of a table; faults tell it by its number, and its default is None where the key must be there
 pub record Field : Type 0 where
+  pub number : ℕ
   pub name : List ℕ
   pub shape : Shape
   pub default : Option Value
@@ -60,7 +62,7 @@ default_of others.Nothing = Some Value.Nothing
 default_of others.Empty = Some (Value.Count 0)
 
 abbrev pub field_of : Key → Field
-field_of key = record { name = key.name.now; shape = shape_of key.kind; default = default_of key.otherwise }
+field_of key = record { number = key.number; name = key.name.now; shape = shape_of key.kind; default = default_of key.otherwise }
 
 abbrev pub fields_of : List Key → List Field
 fields_of keys = map field_of keys

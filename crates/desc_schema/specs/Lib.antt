@@ -1,4 +1,5 @@
 pub mod Form
+pub mod Names
 pub mod Taken
 pub mod Faults
 pub mod Single

@@ -86,14 +86,13 @@ found_or inner at field None positions = one (otherwise_of at field.default) pos
 found_or inner at field (Some node) positions = shaped inner at field.shape node positions
 
 -- the values at a key of a table
-abbrev pub at_field : Inner → KeyPlace → Field → Members → Walk
-at_field inner at field table = found_or inner at field (get_member field.name table)
+abbrev pub at_field : Inner → Place → Field → Members → Walk
+at_field inner place field table = found_or inner (key_at place field.number) field (get_member field.name table)
 
--- the values at the keys, which count from a number
-unfoldable pub at_fields : Inner → Place → ℕ → List Field → Members → Walk
-at_fields inner place number [] table positions = Ok ([], positions)
-at_fields inner place number (field ∷ fields) table positions =
-    joined (at_field inner (key_at place number) field table positions) (at_fields inner place (number + 1) fields table)
+-- the values at the keys
+unfoldable pub at_fields : Inner → Place → List Field → Members → Walk
+at_fields inner place [] table positions = Ok ([], positions)
+at_fields inner place (field ∷ fields) table positions = joined (at_field inner place field table positions) (at_fields inner place fields table)
 
 abbrev pub is_known : List Field → List ℕ → Bool
 is_known fields name = list_any (λ field. bytes_eq field.name name) fields
@@ -136,7 +135,7 @@ unfoldable pub table_walked : List (List Field) → ℕ → Inner
 table_walked schema zero place table positions = Ok ([], positions)
 table_walked schema (suc depth) place table positions =
     all_known place (fields_at schema place.table) table
-    >>= λ known. at_fields (table_walked schema depth) place 0 (fields_at schema place.table) table positions
+    >>= λ known. at_fields (table_walked schema depth) place (fields_at schema place.table) table positions
 
 -- The walk of a document: its root is table 0. Where no table stands inside itself, no more tables are inside one another than the
 -- schema has.

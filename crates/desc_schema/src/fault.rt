@@ -15,19 +15,19 @@ pub struct Place {
 }
 
 impl Place {
-    /// Returns the place of the key of this number in the table. A key past number 255 is told as 255.
-    pub(crate) fn key(self, number: usize) -> KeyPlace
+    /// Returns the place of the key of this number in the table.
+    pub(crate) fn key(self, number: u8) -> KeyPlace
         ensures { result ≡ key_at self number }
     {
         KeyPlace {
             table: self.table,
             index: self.index,
-            key: if number < 0xFF { number as u8 } else { 0xFF },
+            key: number,
         }
     }
 }
 
-/// Says where a key stands: its table's number and position, as a `Place`, and the key's number in the schema, counted from 0.
+/// Says where a key stands: its table's number and position, as a `Place`, and the key's number, as `Key::number`.
 #[derive(Clone, Copy, Debug, PartialEq, Eq)]
 pub struct KeyPlace {
     /// Gives the table's number.

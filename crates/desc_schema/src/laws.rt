@@ -5,6 +5,7 @@ ghost use Rattle.toml.specs.Data.{Members};
 ghost use Rattle.desc_schema.specs.declared.fault.Place.{Place};
 ghost use Rattle.desc_schema.specs.declared.fault.WalkFault.TheVariants.{UnknownKey};
 ghost use Rattle.desc_schema.specs.Form.{Field};
+ghost use Rattle.desc_schema.specs.Names.{NumbersAscend, NumbersAreNames};
 ghost use Rattle.desc_schema.specs.Walk.{all_known, IsLeastUnknown};
 ghost use Rattle.desc_schema.specs.Answers.{OneAnswer};
 ghost use Rattle.desc_schema.specs.Deep.{WalksAreDeepEnough};
@@ -22,6 +23,11 @@ pub fn one_answer_is_given()
 pub fn least_unknown_key_is_named()
     ensures { (place : Place) (fields : List Field) (table : Members) (name : List ℕ) → all_known place fields table ≡ Err (UnknownKey place name)
         → IsLeastUnknown fields name table }
+{}
+
+/// Says that the number of a key is of that key alone, where in each table of the schema the numbers of the keys ascend: it names that key.
+pub fn keys_are_named_by_their_numbers()
+    ensures { (schema : List (List Field)) → NumbersAscend schema → NumbersAreNames schema }
 {}
 
 /// Says that a walk leaves out no inner table, where each table of the schema stands before the tables inside it: one that may go

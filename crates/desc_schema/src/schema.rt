@@ -1,14 +1,20 @@
+ghost use Rattle.std.specs.Prelude.{◌≡◌};
+ghost use Rattle.desc_schema.specs.Form.{fields_of, schema_of, fields_at};
+
 /// Says which keys a table has, in the order in which they are walked. A schema is a slice of these, and a table's number is its
 /// place there, counted from 0; the root is table 0.
 #[derive(Clone, Copy, Debug)]
 pub struct TableSchema {
-    /// Lists the keys, at most 256, whose names differ.
+    /// Lists the keys. Their names differ, and so do their numbers.
     pub keys: &'static [Key],
 }
 
-/// Describes a key of a table: its name, the kind of what stands there, and what stands for it where it is left out.
+/// Describes a key of a table: its number and its name, the kind of what stands there, and what stands for it where it is left out.
 #[derive(Clone, Copy, Debug)]
 pub struct Key {
+    /// Gives the number by which faults tell it. It needn't be its place among the keys, so that a key that comes later changes no
+    /// other's number.
+    pub number: u8,
     /// Gives the key as it stands in a document.
     pub name: &'static str,
     /// Says what stands there.
@@ -62,4 +68,14 @@ pub enum Otherwise {
     Nothing,
     /// No table, or an empty array.
     Empty,
+}
+
+/// Returns the keys of a table, by its number; a table that isn't the schema's has none.
+pub(crate) fn keys_at(schema: &[TableSchema], table: u8) -> &'static [Key]
+    ensures { fields_of result.now ≡ fields_at (schema_of schema.now) table }
+{
+    match schema.get(table as usize) {
+        Some(table) => table.keys,
+        None => &[],
+    }
 }

@@ -3,14 +3,14 @@ ghost use Rattle.std.specs.List.{list_any};
 ghost use Rattle.std.specs.Str.{bytes_eq};
 ghost use Rattle.toml.specs.Data.{get_member, as_table, as_array};
 ghost use Rattle.toml.specs.View.{view, table_view, items_view};
-ghost use Rattle.desc_schema.specs.Form.{form_of, shape_of, default_of, field_of, fields_of, schema_of, fields_at};
+ghost use Rattle.desc_schema.specs.Form.{form_of, shape_of, default_of, field_of, fields_of, schema_of};
 ghost use Rattle.desc_schema.specs.Faults.{Gives, of_kind};
 ghost use Rattle.desc_schema.specs.Single.{value_of, otherwise_of};
 ghost use Rattle.desc_schema.specs.Walk.{after, one, element, elements, singles, shaped, at_field, all_known, table_walked, walked};
 
 use crate::fault::{KeyPlace, Place, WalkError, WalkFault};
 use crate::positions::{first_positions, take_position};
-use crate::schema::{Key, Kind, Otherwise, Scalar, TableSchema};
+use crate::schema::{Key, Kind, Otherwise, Scalar, TableSchema, keys_at};
 use crate::single::{otherwise_of, text_of, value_of};
 use crate::value::{Value, Values};
 use std::alloc::Global;
@@ -63,11 +63,10 @@ fn push_table(
     let keys = keys_at(schema, place.table);
     only_known(alloc, place, keys, table)?;
     let inner = depth - 1;
-    let mut number = 0;
-    while number < keys.len() {
-        let at = place.key(number);
-        push_key(alloc, schema, inner, at, keys[number], table, progress)?;
-        number += 1;
+    let mut index = 0;
+    while index < keys.len() {
+        push_key(alloc, schema, inner, place, keys[index], table, progress)?;
+        index += 1;
     }
     Ok(())
 }
@@ -78,14 +77,15 @@ fn push_key(
     alloc: Global,
     schema: &[TableSchema],
     depth: usize,
-    at: KeyPlace,
+    place: Place,
     key: Key,
     table: &Table,
     progress: &mut Progress,
 ) -> Result<(), WalkError>
     ensures { Gives (λ _. (progress.new.values, progress.new.positions)) result
-        (after progress.old.values (at_field (table_walked (schema_of schema.now) depth) at (field_of key) (table_view table.now) progress.old.positions)) }
+        (after progress.old.values (at_field (table_walked (schema_of schema.now) depth) place (field_of key) (table_view table.now) progress.old.positions)) }
 {
+    let at = place.key(key.number);
     match node_at(table, key.name) {
         Some(node) => push_node(alloc, schema, depth, at, key.kind, node, progress),
         None => push_default(alloc, at, key.otherwise, progress),
@@ -217,16 +217,6 @@ fn push_default(
     let value = otherwise_of(alloc, at, otherwise)?;
     progress.values.push(value)?;
     Ok(())
-}
-
-// The keys of a table, by its number; a table that isn't the schema's has none.
-fn keys_at(schema: &[TableSchema], table: u8) -> &'static [Key]
-    ensures { fields_of result.now ≡ fields_at (schema_of schema.now) table }
-{
-    match schema.get(table as usize) {
-        Some(table) => table.keys,
-        None => &[],
-    }
 }
 
 fn table_of<'a>(at: KeyPlace, node: &'a toml::Value) -> Result<&'a Table, WalkError>

@@ -15,9 +15,10 @@ use Rattle.desc_schema.proofs.UuidText.{small_parsed}
 use Rattle.machine_desc.specs.declared.machine.Machine.{Machine}
 use Rattle.machine_desc.specs.Fields.{IsFittingFirmware, IsFittingSocket, IsFittingSlot, IsFittingHpet, HasFittingFields}
 use Rattle.desc_toml.specs.Keys.{schema}
-use Rattle.desc_toml.specs.Values.{part_of, each_of, list_of, one_text, firmware_of, chassis_of, socket_of, dimm_of, range_of, slot_of, acpi_of, hpet_of}
+use Rattle.desc_toml.specs.Values.{part_of, each_of, list_of, one_text, firmware_of, socket_of, slot_of, hpet_of}
 use Rattle.desc_toml.specs.Values.{front_of, arrays_of, machine_of}
 use Rattle.desc_toml.specs.Reading.{Reads}
+use Rattle.desc_schema.proofs.EachTable.{at_each}
 use Rattle.desc_toml.proofs.Says.{values_walked}
 
 -- a UUID has 128 bits
@@ -41,7 +42,7 @@ abbrev has_no_uuid : Field → Bool
 has_no_uuid field = option_map_or is_no_uuid field.default true
 
 abbrev have_no_uuid : List (List Field) → Bool
-have_no_uuid tables = list_all (λ fields. list_all has_no_uuid fields) tables
+have_no_uuid tables = list_all (list_all has_no_uuid) tables
 
 plain_fits : (value : Value) → is_no_uuid value ≡ true → IsFittingValue value
 plain_fits (Value.Uuid n) is = absurd (cc)
@@ -93,17 +94,12 @@ fields_fit Inside fit (field ∷ fields) values plain (part, others, is, here, t
     subst AreFitting (sym is)
     (fitting_append part others (field_fits Inside fit field part both.0 here) (fields_fit Inside fit fields others both.1 there))
 
--- no table has such defaults
-plain_at : (tables : List (List Field)) (table : ℕ) → have_no_uuid tables ≡ true → list_all has_no_uuid (fields_at tables table) ≡ true
-plain_at [] table plain = refl
-plain_at (fields ∷ tables) zero plain = (and_parts (list_all has_no_uuid fields) (have_no_uuid tables) plain).0
-plain_at (fields ∷ tables) (suc table) plain = plain_at tables table (and_parts (list_all has_no_uuid fields) (have_no_uuid tables) plain).1
-
 table_fits : (tables : List (List Field)) → have_no_uuid tables ≡ true → (depth table : ℕ) (values : List Value) → FitsTable tables depth table values
     → AreFitting values
 table_fits tables plain zero table values is = subst AreFitting (sym is) tt
 table_fits tables plain (suc depth) table values fits =
-    fields_fit (FitsTable tables depth) (table_fits tables plain depth) (fields_at tables table) values (plain_at tables table plain) fits
+    fields_fit (FitsTable tables depth) (table_fits tables plain depth) (fields_at tables table) values
+    (at_each (list_all has_no_uuid) refl tables table plain) fits
 
 -- what is left of fitting values is fitting, and so is the value at a place
 
@@ -190,21 +186,14 @@ machine_fits : (values : List Value) → AreFitting values → HasFittingFields 
 unfolding front_of arrays_of machine_of
 machine_fits values fit =
     let strings = list_of one_text 1 (skip 2 values) in
-    let firmware = part_of firmware_of 5 (skip 8 strings.1) in
-    let chassis = part_of chassis_of 6 firmware.1 in
-    let sockets = list_of socket_of 9 chassis.1 in
-    let dimms = list_of dimm_of 8 sockets.1 in
-    let ranges = list_of range_of 3 dimms.1 in
-    let slots = list_of slot_of 8 ranges.1 in
-    let acpi = part_of acpi_of 2 slots.1 in
     record {
       uuid = uuid_fits (value_at 6 (skip 1 strings.1))
           (first_fits (skip 6 (skip 1 strings.1)) (skip_fits 6 (skip 1 strings.1) (skip_fits 1 strings.1
           (list_left one_text 1 (skip 2 values) (skip_fits 2 values fit)))));
-      firmware = part_has IsFittingFirmware firmware_of 5 firmware_fits (skip 8 strings.1);
-      sockets = list_has IsFittingSocket socket_of 9 socket_fits chassis.1;
-      slots = list_has IsFittingSlot slot_of 8 slot_fits ranges.1;
-      hpet = part_has IsFittingHpet hpet_of 4 hpet_fits acpi.1;
+      firmware = part_has IsFittingFirmware firmware_of _ firmware_fits _;
+      sockets = list_has IsFittingSocket socket_of _ socket_fits _;
+      slots = list_has IsFittingSlot slot_of _ slot_fits _;
+      hpet = part_has IsFittingHpet hpet_of _ hpet_fits _;
     }
 
 -- and so one that is read

@@ -1,6 +1,6 @@
 -- The line that tells a fault to a person.
-use Rattle.std.specs.Prelude.{codes, ℕ, zero, suc, List, [], ◌∷◌, ◌++◌, map, take, decimal, nat_le, ◌&&◌, ◌==◌, if◌then◌else◌}
-use Rattle.desc_schema.specs.Form.{Field, fields_at}
+use Rattle.std.specs.Prelude.{codes, ℕ, List, [], ◌∷◌, ◌++◌, map, take, decimal, nat_le, ◌&&◌, ◌==◌, if◌then◌else◌}
+use Rattle.desc_schema.specs.Names.{key_name}
 use Rattle.desc_toml.specs.declared.fault.DescFault.{DescFault}
 use Rattle.desc_toml.specs.declared.fault.DescFault.TheVariants.{NotToml, UnknownKey, MissingKey, WrongKind, OutOfRange, Broken, OutOfMemory}
 use Rattle.desc_toml.specs.Keys.{schema}
@@ -12,15 +12,6 @@ table_name table =
     else if table == 3 then codes "chassis" else if table == 4 then codes "socket" else if table == 5 then codes "dimm"
     else if table == 6 then codes "range" else if table == 7 then codes "slot" else if table == 8 then codes "acpi"
     else if table == 10 then codes "hpet" else []
-
--- the name of the key of a number
-abbrev pub name_at : List Field → ℕ → List ℕ
-name_at [] n = []
-name_at (field ∷ fields) zero = field.name
-name_at (field ∷ fields) (suc n) = name_at fields n
-
-abbrev pub key_name : ℕ → ℕ → List ℕ
-key_name table key = name_at (fields_at schema table) key
 
 -- a byte of a key, or a question mark for one that doesn't show
 abbrev pub shown_byte : ℕ → ℕ
@@ -37,8 +28,8 @@ key_line cause table index key = cause ++ table_name table ++ 0x20 ∷ decimal i
 abbrev pub line_of : DescFault → List ℕ
 line_of NotToml = codes "description: not TOML" ++ 10 ∷ []
 line_of (UnknownKey table index key) = key_line (codes "description: unknown key ") table index key
-line_of (MissingKey table index key) = key_line (codes "description: missing key ") table index (key_name table key)
-line_of (WrongKind table index key) = key_line (codes "description: wrong kind ") table index (key_name table key)
-line_of (OutOfRange table index key) = key_line (codes "description: out of range ") table index (key_name table key)
+line_of (MissingKey table index key) = key_line (codes "description: missing key ") table index (key_name schema table key)
+line_of (WrongKind table index key) = key_line (codes "description: wrong kind ") table index (key_name schema table key)
+line_of (OutOfRange table index key) = key_line (codes "description: out of range ") table index (key_name schema table key)
 line_of (Broken rule index) = codes "description: rule " ++ decimal rule ++ codes " index " ++ decimal index ++ 10 ∷ []
 line_of OutOfMemory = codes "out of memory" ++ 10 ∷ []

@@ -1,7 +1,8 @@
 -- A machine from the values of its description, by their positions. A value of another kind stands for nothing: no walk gives one.
-use Rattle.std.specs.Prelude.{ℕ, zero, suc, List, [], ◌∷◌, Option, Some, None, ◌==◌, if◌then◌else◌}
+use Rattle.std.specs.Prelude.{ℕ, zero, suc, List, [], ◌∷◌, length, Option, Some, None, ◌==◌, if◌then◌else◌}
 use Rattle.desc_schema.specs.declared.value.Value.{Value}
 use Rattle.desc_schema.specs.Taken.{first, rest, skip, value_at, text_of, number_to, flag_of, uuid_if, count_of}
+use Rattle.desc_toml.specs.Keys.{system_keys, firmware_keys, chassis_keys, socket_keys, dimm_keys, range_keys, slot_keys, acpi_keys, hpet_keys}
 use Rattle.desc_toml.specs.declared.machine.Front.{Front}
 use Rattle.desc_toml.specs.declared.machine.Arrays.{Arrays}
 use Rattle.machine_desc.specs.declared.machine.Machine.{Machine}
@@ -119,13 +120,13 @@ hpet_of values = record {
   min_tick = number_to 0xFFFF (value_at 3 values);
 }
 
--- The version, the top, the texts of the maker, one table with the seven values of the system, and two tables that may be left out, each
--- behind what stands before it; and what follows them.
+-- The version, the top, the texts of the maker, the one table of the system, and two tables that may be left out, each behind what stands
+-- before it; and what follows them.
 unfoldable pub front_of : List Value → Front × List Value
 front_of values =
     let oem_strings = list_of one_text 1 (skip 2 values) in
-    let firmware = part_of firmware_of 5 (skip 8 oem_strings.1) in
-    let chassis = part_of chassis_of 6 firmware.1 in (
+    let firmware = part_of firmware_of (length firmware_keys) (skip (length system_keys) (skip 1 oem_strings.1)) in
+    let chassis = part_of chassis_of (length chassis_keys) firmware.1 in (
       record {
         top_mib = number_to 0xFFFFFFFF (value_at 1 values);
         oem_strings = oem_strings.0;
@@ -139,10 +140,10 @@ front_of values =
 -- the arrays, one after the other, and what follows them
 unfoldable pub arrays_of : List Value → Arrays × List Value
 arrays_of values =
-    let sockets = list_of socket_of 9 values in
-    let dimms = list_of dimm_of 8 sockets.1 in
-    let ranges = list_of range_of 3 dimms.1 in
-    let slots = list_of slot_of 8 ranges.1 in
+    let sockets = list_of socket_of (length socket_keys) values in
+    let dimms = list_of dimm_of (length dimm_keys) sockets.1 in
+    let ranges = list_of range_of (length range_keys) dimms.1 in
+    let slots = list_of slot_of (length slot_keys) ranges.1 in
     (record { sockets = sockets.0; dimms = dimms.0; ranges = ranges.0; slots = slots.0 }, slots.1)
 
 abbrev pub joined : Front → Arrays → Option Acpi → Option Hpet → Machine
@@ -165,6 +166,6 @@ unfoldable pub machine_of : List Value → Machine
 machine_of values =
     let front = front_of values in
     let arrays = arrays_of front.1 in
-    let acpi = part_of acpi_of 2 arrays.1 in
-    let hpet = part_of hpet_of 4 acpi.1 in
+    let acpi = part_of acpi_of (length acpi_keys) arrays.1 in
+    let hpet = part_of hpet_of (length hpet_keys) acpi.1 in
     joined front.0 arrays.0 acpi.0 hpet.0

@@ -7,6 +7,8 @@ ghost use Rattle.machine_desc.specs.Fields.{HasFittingFields};
 ghost use Rattle.desc_toml.specs.Reading.{Reads, Fails, read_of, fault_of};
 ghost use Rattle.desc_toml.specs.declared.fault.DescFault.{DescFault};
 ghost use Rattle.desc_toml.specs.declared.fault.DescFault.TheVariants.{OutOfMemory};
+ghost use Rattle.desc_schema.specs.Names.{NumbersAscend, NumbersAreNames};
+ghost use Rattle.desc_toml.specs.Keys.{schema};
 ghost use Rattle.desc_toml.specs.Tables.{Describes};
 
 /// Says that at most one machine is read from given bytes.
@@ -35,4 +37,11 @@ pub fn machine_is_read_as_the_tables_say()
 pub fn told_fault_is_of_the_bytes()
     ensures told { (bytes : List ℕ) (fault : DescFault) → Fails fault (read_of bytes) → ¬ (fault ≡ OutOfMemory) → fault_of bytes ≡ Some fault }
     ensures none { (bytes : List ℕ) (machine : Machine) → Reads bytes machine → fault_of bytes ≡ None }
+{}
+
+/// Says that a fault's number of a key is of that key alone: in each table the numbers of the keys ascend, and a line names the key that has
+/// the number.
+pub fn keys_are_named_by_their_numbers()
+    ensures ascend { NumbersAscend schema }
+    ensures named { NumbersAreNames schema }
 {}

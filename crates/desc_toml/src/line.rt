@@ -1,14 +1,15 @@
 //! The line that tells a fault to a person, put together on the stack.
 
 ghost use Rattle.std.specs.Prelude.{◌≡◌, ◌≤◌, ◌<◌, length};
-ghost use Rattle.desc_schema.specs.Form.{fields_of};
+ghost use Rattle.desc_schema.specs.Names.{key_name};
+ghost use Rattle.desc_toml.specs.Keys.{schema};
 ghost use Rattle.desc_toml.specs.declared.fault.DescFault.TheVariants.{Broken};
-ghost use Rattle.desc_toml.specs.Lines.{table_name, name_at, key_name, shown_byte, shown, key_line, line_of};
+ghost use Rattle.desc_toml.specs.Lines.{table_name, shown_byte, shown, key_line, line_of};
 
 use crate::fault::DescFault;
 use crate::schema::SCHEMA;
 use arrayvec::ArrayString;
-use desc_schema::Key;
+use desc_schema::key_name;
 use vt_outside::{Line, words};
 
 impl DescFault {
@@ -54,9 +55,10 @@ fn rule_line(rule: u16, index: u32) -> Line
 // The line of a key that the table has.
 fn known_line(cause: &str, table: u8, index: u32, key: u8) -> Line
     requires { length cause.now ≤ 32 }
-    ensures { result.bytes ≡ key_line cause.now table index (key_name table key) }
+    ensures { result.bytes ≡ key_line cause.now table index (key_name schema table key) }
 {
-    key_line(cause, table, index, key_name(table, key).as_bytes())
+    let name = key_name(SCHEMA, table, key);
+    key_line(cause, table, index, name.as_bytes())
 }
 
 fn key_line(cause: &str, table: u8, index: u32, key: &[u8]) -> Line
@@ -92,24 +94,6 @@ fn table_name(table: u8) -> &'static str
         8 => "acpi",
         10 => "hpet",
         _ => "",
-    }
-}
-
-fn key_name(table: u8, key: u8) -> &'static str
-    ensures { result.now ≡ key_name table key }
-{
-    match SCHEMA.get(table as usize) {
-        Some(table) => name_at(table.keys, key),
-        None => "",
-    }
-}
-
-fn name_at(keys: &[Key], key: u8) -> &'static str
-    ensures { result.now ≡ name_at (fields_of keys.now) key }
-{
-    match keys.get(key as usize) {
-        Some(key) => key.name,
-        None => "",
     }
 }
 

@@ -1,8 +1,9 @@
 //! The parts of a machine, each of so many values.
 
-ghost use Rattle.std.specs.Prelude.{◌≡◌, ℕ, List as ListOf};
+ghost use Rattle.std.specs.Prelude.{◌≡◌, ℕ, length, List as ListOf};
 ghost use Rattle.desc_schema.specs.declared.value.Value.{Value};
 ghost use Rattle.desc_schema.specs.Taken.{skip};
+ghost use Rattle.desc_toml.specs.Keys.{system_keys, firmware_keys, chassis_keys, socket_keys, dimm_keys, range_keys, slot_keys, acpi_keys, hpet_keys};
 ghost use Rattle.desc_toml.specs.Values.{one_text, system_of, firmware_of, chassis_of, socket_of, dimm_of, range_of, slot_of, acpi_of, hpet_of};
 
 use desc_schema::Values;
@@ -33,7 +34,7 @@ impl Part for Text {
 }
 
 impl Part for System {
-    ghost size = { 7 };
+    ghost size = { length system_keys };
 
     ghost make = { system_of };
 
@@ -51,7 +52,7 @@ impl Part for System {
 }
 
 impl Part for Firmware {
-    ghost size = { 5 };
+    ghost size = { length firmware_keys };
 
     ghost make = { firmware_of };
 
@@ -67,7 +68,7 @@ impl Part for Firmware {
 }
 
 impl Part for Chassis {
-    ghost size = { 6 };
+    ghost size = { length chassis_keys };
 
     ghost make = { chassis_of };
 
@@ -84,7 +85,7 @@ impl Part for Chassis {
 }
 
 impl Part for Socket {
-    ghost size = { 9 };
+    ghost size = { length socket_keys };
 
     ghost make = { socket_of };
 
@@ -104,7 +105,7 @@ impl Part for Socket {
 }
 
 impl Part for Dimm {
-    ghost size = { 8 };
+    ghost size = { length dimm_keys };
 
     ghost make = { dimm_of };
 
@@ -123,7 +124,7 @@ impl Part for Dimm {
 }
 
 impl Part for MemRange {
-    ghost size = { 3 };
+    ghost size = { length range_keys };
 
     ghost make = { range_of };
 
@@ -137,7 +138,7 @@ impl Part for MemRange {
 }
 
 impl Part for Slot {
-    ghost size = { 8 };
+    ghost size = { length slot_keys };
 
     ghost make = { slot_of };
 
@@ -156,7 +157,7 @@ impl Part for Slot {
 }
 
 impl Part for Acpi {
-    ghost size = { 2 };
+    ghost size = { length acpi_keys };
 
     ghost make = { acpi_of };
 
@@ -169,7 +170,7 @@ impl Part for Acpi {
 }
 
 impl Part for Hpet {
-    ghost size = { 4 };
+    ghost size = { length hpet_keys };
 
     ghost make = { hpet_of };
 

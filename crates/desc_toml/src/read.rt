@@ -69,7 +69,7 @@ fn root_in(alloc: Global, text: &str) -> Result<Table, DescFault>
 fn values_in(alloc: Global, root: &Table) -> Result<Values, DescFault>
     ensures { Gives (λ values. values) result (values_in (table_view root.now)) }
 {
-    match walk_document(alloc, &SCHEMA, root) {
+    match walk_document(alloc, SCHEMA, root) {
         Ok(values) => Ok(values),
         Err(WalkError::Fault(fault)) => Err(told(fault)),
         Err(WalkError::OutOfMemory) => Err(DescFault::OutOfMemory),

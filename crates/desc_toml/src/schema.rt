@@ -3,8 +3,9 @@
 use desc_schema::{Key, Kind, Otherwise, Scalar, TableSchema};
 
 macro_rules! key {
-    ($name:literal, $kind:expr, $otherwise:expr) => {
+    ($number:literal, $name:literal, $kind:expr, $otherwise:expr) => {
         Key {
+            number: $number,
             name: $name,
             kind: $kind,
             otherwise: $otherwise,
@@ -13,24 +14,31 @@ macro_rules! key {
 }
 
 macro_rules! text {
-    ($name:literal) => {
-        text!($name, "")
+    ($number:literal, $name:literal) => {
+        text!($number, $name, "")
     };
-    ($name:literal, $default:literal) => {
-        key!($name, Kind::One(Scalar::Text), Otherwise::Text($default))
+    ($number:literal, $name:literal, $default:literal) => {
+        key!(
+            $number,
+            $name,
+            Kind::One(Scalar::Text),
+            Otherwise::Text($default)
+        )
     };
 }
 
 macro_rules! number {
-    ($name:literal, $most:literal) => {
+    ($number:literal, $name:literal, $most:literal) => {
         key!(
+            $number,
             $name,
             Kind::One(Scalar::Number(0, $most)),
             Otherwise::Required
         )
     };
-    ($name:literal, $most:literal, $default:literal) => {
+    ($number:literal, $name:literal, $most:literal, $default:literal) => {
         key!(
+            $number,
             $name,
             Kind::One(Scalar::Number(0, $most)),
             Otherwise::Number($default)
@@ -38,112 +46,130 @@ macro_rules! number {
     };
 }
 
-const ROOT: [Key; 12] = [
-    key!(
-        "version",
-        Kind::One(Scalar::Number(1, 1)),
-        Otherwise::Required
-    ),
-    number!("top_mib", 0xFFFF_FFFF),
-    key!("oem_strings", Kind::Values(Scalar::Text), Otherwise::Empty),
-    key!("system", Kind::Table(1), Otherwise::Required),
-    key!("firmware", Kind::Table(2), Otherwise::Empty),
-    key!("chassis", Kind::Table(3), Otherwise::Empty),
-    key!("socket", Kind::Tables(4), Otherwise::Empty),
-    key!("dimm", Kind::Tables(5), Otherwise::Empty),
-    key!("range", Kind::Tables(6), Otherwise::Empty),
-    key!("slot", Kind::Tables(7), Otherwise::Empty),
-    key!("acpi", Kind::Table(8), Otherwise::Empty),
-    key!("hpet", Kind::Table(10), Otherwise::Empty),
+// A table that may be left out.
+macro_rules! part {
+    ($number:literal, $name:literal, $table:literal) => {
+        key!($number, $name, Kind::Table($table), Otherwise::Empty)
+    };
+}
+
+// An array of tables.
+macro_rules! parts {
+    ($number:literal, $name:literal, $table:literal) => {
+        key!($number, $name, Kind::Tables($table), Otherwise::Empty)
+    };
+}
+
+const VERSION: Kind = Kind::One(Scalar::Number(1, 1));
+
+const TEXTS: Kind = Kind::Values(Scalar::Text);
+
+// A line for each key, which begins with its number. Numbers that no line has are those of keys that are still to come.
+const ROOT: &[Key] = &[
+    key!(0, "version", VERSION, Otherwise::Required),
+    number!(1, "top_mib", 0xFFFF_FFFF),
+    key!(2, "oem_strings", TEXTS, Otherwise::Empty),
+    key!(4, "system", Kind::Table(1), Otherwise::Required),
+    part!(5, "firmware", 2),
+    part!(6, "chassis", 3),
+    parts!(7, "socket", 4),
+    parts!(8, "dimm", 5),
+    parts!(9, "range", 6),
+    parts!(10, "slot", 7),
+    part!(11, "acpi", 8),
+    part!(13, "hpet", 10),
 ];
 
-const SYSTEM: [Key; 7] = [
-    text!("manufacturer"),
-    text!("product"),
-    text!("version"),
-    text!("serial"),
-    text!("sku"),
-    text!("family"),
-    key!("uuid", Kind::One(Scalar::Uuid), Otherwise::Nothing),
+const SYSTEM: &[Key] = &[
+    text!(0, "manufacturer"),
+    text!(1, "product"),
+    text!(2, "version"),
+    text!(3, "serial"),
+    text!(4, "sku"),
+    text!(5, "family"),
+    key!(6, "uuid", Kind::One(Scalar::Uuid), Otherwise::Nothing),
 ];
 
-const FIRMWARE: [Key; 5] = [
-    text!("vendor"),
-    text!("version"),
-    text!("date"),
-    number!("major", 0xFF, 0),
-    number!("minor", 0xFF, 0),
+const FIRMWARE: &[Key] = &[
+    text!(0, "vendor"),
+    text!(1, "version"),
+    text!(2, "date"),
+    number!(3, "major", 0xFF, 0),
+    number!(4, "minor", 0xFF, 0),
 ];
 
-const CHASSIS: [Key; 6] = [
-    text!("manufacturer"),
-    text!("version"),
-    text!("serial"),
-    text!("asset"),
-    text!("sku"),
-    number!("kind", 0xFF, 1),
+const CHASSIS: &[Key] = &[
+    text!(0, "manufacturer"),
+    text!(1, "version"),
+    text!(2, "serial"),
+    text!(3, "asset"),
+    text!(4, "sku"),
+    number!(5, "kind", 0xFF, 1),
 ];
 
-const SOCKET: [Key; 9] = [
-    text!("designation"),
-    text!("manufacturer"),
-    text!("version"),
-    text!("serial"),
-    text!("asset"),
-    text!("part"),
-    number!("cores", 0xFFFF),
-    number!("threads", 0xFFFF),
-    number!("mhz", 0xFFFF, 0),
+const SOCKET: &[Key] = &[
+    text!(0, "designation"),
+    text!(1, "manufacturer"),
+    text!(2, "version"),
+    text!(3, "serial"),
+    text!(4, "asset"),
+    text!(5, "part"),
+    number!(6, "cores", 0xFFFF),
+    number!(7, "threads", 0xFFFF),
+    number!(8, "mhz", 0xFFFF, 0),
 ];
 
-const DIMM: [Key; 8] = [
-    text!("locator"),
-    text!("bank"),
-    text!("manufacturer"),
-    text!("serial"),
-    text!("asset"),
-    text!("part"),
-    number!("size_mib", 0xFFFF_FFFF),
-    number!("speed", 0xFFFF, 0),
+const DIMM: &[Key] = &[
+    text!(0, "locator"),
+    text!(1, "bank"),
+    text!(2, "manufacturer"),
+    text!(3, "serial"),
+    text!(4, "asset"),
+    text!(5, "part"),
+    number!(6, "size_mib", 0xFFFF_FFFF),
+    number!(7, "speed", 0xFFFF, 0),
 ];
 
-const RANGE: [Key; 3] = [
-    number!("base_mib", 0xFFFF_FFFF),
-    number!("size_mib", 0xFFFF_FFFF),
-    number!("node", 0xFF, 0),
+const RANGE: &[Key] = &[
+    number!(0, "base_mib", 0xFFFF_FFFF),
+    number!(1, "size_mib", 0xFFFF_FFFF),
+    number!(2, "node", 0xFF, 0),
 ];
 
-const SLOT: [Key; 8] = [
-    text!("designation"),
-    number!("kind", 0xFF, 1),
-    number!("width", 0xFF, 1),
-    key!("used", Kind::One(Scalar::Flag), Otherwise::Flag(false)),
-    number!("id", 0xFFFF, 0),
-    number!("bus", 0xFF, 0),
-    number!("device", 0xFF, 0),
-    number!("function", 0xFF, 0),
+const SLOT: &[Key] = &[
+    text!(0, "designation"),
+    number!(1, "kind", 0xFF, 1),
+    number!(2, "width", 0xFF, 1),
+    key!(3, "used", Kind::One(Scalar::Flag), Otherwise::Flag(false)),
+    number!(4, "id", 0xFFFF, 0),
+    number!(5, "bus", 0xFF, 0),
+    number!(6, "device", 0xFF, 0),
+    number!(7, "function", 0xFF, 0),
 ];
 
-const ACPI: [Key; 2] = [text!("oem_id", "BOCHS"), text!("oem_table_id", "BXPC")];
+const ACPI: &[Key] = &[
+    text!(0, "oem_id", "BOCHS"),
+    text!(1, "oem_table_id", "BXPC"),
+];
 
-const HPET: [Key; 4] = [
-    number!("address", 0xFFFF_FFFF, 0xFED0_0000),
-    number!("block_id", 0xFFFF_FFFF, 0x8086_A201),
-    number!("number", 0xFF, 0),
-    number!("min_tick", 0xFFFF, 100),
+const HPET: &[Key] = &[
+    number!(0, "address", 0xFFFF_FFFF, 0xFED0_0000),
+    number!(1, "block_id", 0xFFFF_FFFF, 0x8086_A201),
+    number!(2, "number", 0xFF, 0),
+    number!(3, "min_tick", 0xFFFF, 100),
 ];
 
 // A table's number is its place here. A table that is still to come has its number, and no keys: no key leads to it.
-pub(crate) const SCHEMA: [TableSchema; 11] = [
-    TableSchema { keys: &ROOT },
-    TableSchema { keys: &SYSTEM },
-    TableSchema { keys: &FIRMWARE },
-    TableSchema { keys: &CHASSIS },
-    TableSchema { keys: &SOCKET },
-    TableSchema { keys: &DIMM },
-    TableSchema { keys: &RANGE },
-    TableSchema { keys: &SLOT },
-    TableSchema { keys: &ACPI },
+pub(crate) const SCHEMA: &[TableSchema] = &[
+    TableSchema { keys: ROOT },
+    TableSchema { keys: SYSTEM },
+    TableSchema { keys: FIRMWARE },
+    TableSchema { keys: CHASSIS },
+    TableSchema { keys: SOCKET },
+    TableSchema { keys: DIMM },
+    TableSchema { keys: RANGE },
+    TableSchema { keys: SLOT },
+    TableSchema { keys: ACPI },
     TableSchema { keys: &[] },
-    TableSchema { keys: &HPET },
+    TableSchema { keys: HPET },
 ];

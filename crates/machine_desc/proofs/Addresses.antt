@@ -48,7 +48,7 @@ held_behind from (r ∷ ranges) address are held =
 
 -- joined ranges hold what lies between
 
-joined_up : (from to : ℕ) (ranges : List MemRange) → are_joined from to ranges ≡ true → from ≤ to
+pub joined_up : (from to : ℕ) (ranges : List MemRange) → are_joined from to ranges ≡ true → from ≤ to
 joined_up from to [] joined = omega (arith, eqb-true from to joined)
 joined_up from to (r ∷ ranges) joined =
     let (begins, others) = and_parts (r.base_mib == from) (are_joined (end_of r) to ranges) joined in

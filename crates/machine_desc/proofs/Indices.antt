@@ -1,14 +1,14 @@
 -- The index at which a machine breaks a rule is a small number.
-use Rattle.std.proofs.Common.{◌≡◌, ℕ, ◌<◌, ◌≤◌, Bool, true, false, nat_le, List, [], ◌∷◌, length, get_or, drop, map, Option, Some, None, refl, ◌∙◌, subst, arith, if◌then◌else◌}
+use Rattle.std.proofs.Common.{◌≡◌, ℕ, ◌<◌, ◌≤◌, Bool, true, false, List, [], ◌∷◌, length, get_or, drop, map, Option, Some, None, refl, ◌∙◌, subst, arith, if◌then◌else◌}
 use Rattle.std.proofs.lemmas.List.{at_drop_more}
 use Rattle.std.proofs.lemmas.Option.{same_Some}
-use Rattle.std.proofs.lemmas.Bool.{and_parts, leb-true}
-use Rattle.std.specs.List.{list_all, zip}
+use Rattle.std.proofs.lemmas.Bool.{leb-true}
+use Rattle.std.specs.List.{zip}
 use Rattle.std.specs.Option.{option_map_or}
 use Rattle.machine_desc.specs.declared.machine.Machine.{Machine}
 use Rattle.machine_desc.specs.declared.machine.Acpi.{Acpi}
 use Rattle.machine_desc.specs.declared.machine.Broken.{Broken}
-use Rattle.machine_desc.proofs.Passing.{failing_within, all_pass}
+use Rattle.machine_desc.proofs.Passing.{failing_within, all_pass, passing_at, ◌⨾◌}
 use Rattle.machine_desc.specs.Rules.{first_broken, only_at, first_failing, is_padded_text, breach_of_acpi, breaches, broken_rule, counts, is_within, with_ends, end_of, is_some_text, is_lawful_socket, is_lawful_dimm, is_lawful_range, is_lawful_slot, is_on_node_0}
 
 -- the rule at a place is the first broken one of those that are left
@@ -67,74 +67,37 @@ some_below most [] broken small is = absurd (no_rule broken is)
 some_below most (rule ∷ rules) broken small is =
     first_below most rule.0 rule.1 (first_broken rules) broken small.0 (λ none. some_below most rules broken small.1) is
 
--- the lists of a machine are short where none is too long
-pub record AreShort (m : Machine) : Type 0 where
-  pub oem_strings : length m.oem_strings ≤ 256
-  pub sockets : length m.sockets ≤ 256
-  pub dimms : length m.dimms ≤ 256
-  pub ranges : length m.ranges ≤ 256
-  pub slots : length m.slots ≤ 256
+-- the list of an index of the rule on their lengths has at most so many elements
+pub within : (m : Machine) (index : ℕ) → first_failing is_within (counts m) ≡ None → (get_or (counts m) index (0, 0)).0 ≤ (get_or (counts m) index (0, 0)).1
+within m index none =
+    let count : ℕ × ℕ = get_or (counts m) index (0, 0) in
+    leb-true count.0 count.1 (passing_at is_within (counts m) index (0, 0) (all_pass is_within (counts m) none) refl)
 
-are_short : (m : Machine) → first_failing is_within (counts m) ≡ None → AreShort m
-are_short m none =
-    let all = all_pass is_within (counts m) none in
-    let oem_strings = and_parts (nat_le (length m.oem_strings) 32) (list_all is_within (drop 1 (counts m))) all in
-    let sockets = and_parts (nat_le (length m.sockets) 256) (list_all is_within (drop 2 (counts m))) oem_strings.1 in
-    let dimms = and_parts (nat_le (length m.dimms) 256) (list_all is_within (drop 3 (counts m))) sockets.1 in
-    let ranges = and_parts (nat_le (length m.ranges) 64) (list_all is_within (drop 4 (counts m))) dimms.1 in
-    let slots = and_parts (nat_le (length m.slots) 64) true ranges.1 in
-    record {
-      oem_strings = omega (arith, leb-true (length m.oem_strings) 32 oem_strings.0);
-      sockets = leb-true (length m.sockets) 256 sockets.0;
-      dimms = leb-true (length m.dimms) 256 dimms.0;
-      ranges = omega (arith, leb-true (length m.ranges) 64 ranges.0);
-      slots = omega (arith, leb-true (length m.slots) 64 slots.0);
-    }
-
--- the rules behind the one on the lengths of lists
-others_below : (m : Machine) → AreShort m → AreBelow 256 (drop 2 (breaches m))
+-- the rules behind that one
+others_below : (m : Machine) → first_failing is_within (counts m) ≡ None → AreBelow 256 (drop 2 (breaches m))
 others_below m short =
     let only : (at : ℕ) (holds : Bool) → at < 2 → IsBelow 256 (only_at at holds) = λ at holds small. only_below 256 at holds (omega arith) in
     let first : 0 < 2 = omega arith in
     let second : 1 < 2 = omega arith in
-    let ranges : length (with_ends m.ranges) ≤ 256 = omega (arith, zip_short (0 ∷ map end_of m.ranges) m.ranges, short.ranges) in (
-      only 0 _ first,
-      (
-        only 0 _ first,
-        (
-          failing_below 256 is_some_text m.oem_strings short.oem_strings,
-          (
-            only 0 _ first,
-            (
-              failing_below 256 is_lawful_socket m.sockets short.sockets,
-              (
-                failing_below 256 is_lawful_dimm m.dimms short.dimms,
-                (
-                  only 0 _ first,
-                  (
-                    failing_below 256 is_lawful_range (with_ends m.ranges) ranges,
-                    (
-                      only 0 _ first,
-                      (
-                        failing_below 256 is_lawful_slot m.slots short.slots,
-                        (
-                          only 1 _ second,
-                          (acpi_below m.acpi, (only 0 _ first, (failing_below 256 is_on_node_0 m.ranges short.ranges, tt))),
-                        ),
-                      ),
-                    ),
-                  ),
-                ),
-              ),
-            ),
-          ),
-        ),
-      ),
-    )
+    only 0 _ first
+    ⨾ only 0 _ first
+    ⨾ failing_below 256 is_some_text m.oem_strings (omega (arith, within m 0 short))
+    ⨾ only 0 _ first
+    ⨾ failing_below 256 is_lawful_socket m.sockets (within m 1 short)
+    ⨾ failing_below 256 is_lawful_dimm m.dimms (within m 2 short)
+    ⨾ only 0 _ first
+    ⨾ failing_below 256 is_lawful_range (with_ends m.ranges) (omega (arith, zip_short (0 ∷ map end_of m.ranges) m.ranges, within m 3 short))
+    ⨾ only 0 _ first
+    ⨾ failing_below 256 is_lawful_slot m.slots (omega (arith, within m 4 short))
+    ⨾ only 1 _ second
+    ⨾ acpi_below m.acpi
+    ⨾ only 0 _ first
+    ⨾ failing_below 256 is_on_node_0 m.ranges (omega (arith, within m 3 short))
+    ⨾ tt
 
 pub index_is_small : (m : Machine) (broken : Broken) → broken_rule m ≡ Some broken → broken.index < 256
 index_is_small m broken is =
     first_below 256 1 _ (first_broken (drop 1 (breaches m))) broken (only_below 256 0 _ (omega arith))
     (λ _. first_below 256 2 (first_failing is_within (counts m)) (first_broken (drop 2 (breaches m))) broken
     (failing_below 256 is_within (counts m) (omega arith))
-    (λ none. some_below 256 (drop 2 (breaches m)) broken (others_below m (are_short m none)))) is
+    (λ none. some_below 256 (drop 2 (breaches m)) broken (others_below m none))) is

@@ -1,7 +1,7 @@
 pub mod Addresses
+pub mod Accepted
 pub mod AllTexts
 pub mod Kept
 pub mod Indices
 pub mod InOrder
 pub mod Passing
-pub mod SameSystem

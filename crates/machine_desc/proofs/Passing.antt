@@ -1,6 +1,6 @@
 -- Lists in which no element fails a test.
-use Rattle.std.proofs.Common.{◌≡◌, ℕ, suc, ◌+◌, ◌<◌, ◌≤◌, Bool, true, false, not, ◌&&◌, List, [], ◌∷◌, length, Some, None, cond, nat_lt, refl, arith, if◌then◌else◌}
-use Rattle.std.proofs.lemmas.Bool.{ltb-true, ltb-false}
+use Rattle.std.proofs.Common.{◌≡◌, ℕ, zero, suc, ◌+◌, ◌<◌, ◌≤◌, Bool, true, false, not, ◌&&◌, List, [], ◌∷◌, length, get_or, Some, None, cond, nat_lt, refl, arith, if◌then◌else◌}
+use Rattle.std.proofs.lemmas.Bool.{and_parts, ltb-true, ltb-false}
 use Rattle.std.proofs.lemmas.Option.{cond_some}
 use Rattle.std.specs.List.{list_all, position_or_len, prefix_len}
 use Rattle.machine_desc.specs.Rules.{first_failing}
@@ -31,3 +31,15 @@ pub all_pass : {A : Type 0} (test : A → Bool) (xs : List A) → first_failing 
 all_pass test xs none =
     let here = position_or_len (λ x. not (test x)) xs in
     all_before test xs (ltb-false here (length xs) (none_within (nat_lt here (length xs)) here none))
+
+-- the element at a place passes, where there is one
+pub passing_at : {A : Type 0} (test : A → Bool) (xs : List A) (place : ℕ) (other : A) → list_all test xs ≡ true → test other ≡ true
+    → test (get_or xs place other) ≡ true
+passing_at test [] place other all none = none
+passing_at test (x ∷ xs) zero other all none = (and_parts (test x) (list_all test xs) all).0
+passing_at test (x ∷ xs) (suc place) other all none = passing_at test xs place other (and_parts (test x) (list_all test xs) all).1 none
+
+-- a fact and others, in a line each
+infixr 2 ◌⨾◌
+pub ◌⨾◌ : {A B : Type 0} → A → B → A × B
+a ⨾ b = (a, b)

@@ -1,5 +1,5 @@
 -- The rules that an accepted machine keeps.
-use Rattle.std.specs.Prelude.{◌≡◌, ℕ, ◌+◌, ◌-◌, ◌%◌, ◌^◌, Bool, true, false, not, ◌&&◌, ◌||◌, List, [], ◌∷◌, ◌++◌, length, map, filter, Option, Some, None, IfSome, ◌<◌}
+use Rattle.std.specs.Prelude.{◌≡◌, ℕ, ◌+◌, ◌-◌, ◌%◌, ◌^◌, Bool, true, false, not, ◌&&◌, ◌||◌, List, [], ◌∷◌, length, map, filter, Option, Some, None, IfSome, ◌<◌}
 use Rattle.std.specs.Prelude.{is_some, nat_le, nat_lt, ◌==◌, slice_get, if◌then◌else◌}
 use Rattle.std.specs.List.{list_all, flat_map, position, zip}
 use Rattle.std.specs.Option.{option_map_or}
@@ -55,11 +55,14 @@ acpi_texts acpi = acpi.oem_id ∷ acpi.oem_table_id ∷ []
 abbrev pub texts_if : {Part : Type 0} → (Part → List (List ℕ)) → Option Part → List (List ℕ)
 texts_if texts part = option_map_or texts part []
 
--- the texts of a machine
+-- The texts of a machine, part by part. A place here is what proofs name a part's texts by, so a part that comes stands last.
+abbrev pub text_parts : Machine → List (List (List ℕ))
+text_parts m =
+    m.oem_strings ∷ system_texts m.system ∷ texts_if firmware_texts m.firmware ∷ texts_if chassis_texts m.chassis
+    ∷ flat_map socket_texts m.sockets ∷ flat_map dimm_texts m.dimms ∷ flat_map slot_texts m.slots ∷ texts_if acpi_texts m.acpi ∷ []
+
 abbrev pub texts_of : Machine → List (List ℕ)
-texts_of m =
-    m.oem_strings ++ system_texts m.system ++ texts_if firmware_texts m.firmware ++ texts_if chassis_texts m.chassis
-    ++ flat_map socket_texts m.sockets ++ flat_map dimm_texts m.dimms ++ flat_map slot_texts m.slots ++ texts_if acpi_texts m.acpi
+texts_of m = flat_map (λ texts. texts) (text_parts m)
 
 -- How many elements each list of a machine has, and how many it may have at most: texts of the maker, sockets, modules, ranges, and slots.
 abbrev pub counts : Machine → List (ℕ × ℕ)

@@ -1,9 +1,11 @@
 //! Laws over the definitions, each the contract of a function that does nothing.
 
 ghost use Rattle.std.specs.Prelude.{◌≡◌, ◌↔◌, ◌<◌, ℕ, List, None, true};
+ghost use Rattle.std.specs.List.{AllByRecursion};
 ghost use Rattle.machine_desc.specs.declared.machine.Machine.{Machine};
 ghost use Rattle.machine_desc.specs.declared.smbios_parts.MemRange.{MemRange};
 ghost use Rattle.machine_desc.specs.Rules.{IsAccepted, breach_of, is_memory};
+ghost use Rattle.machine_desc.specs.Fields.{IsFittingRange};
 ghost use Rattle.machine_desc.specs.Memory.{AreInOrder, IsLowMemory};
 
 /// States that an accepted machine keeps the rule of each number.
@@ -16,4 +18,9 @@ pub fn accepted_machine_keeps_each_rule()
 pub fn memory_is_what_lies_below_the_top()
     ensures { (top : ℕ) (ranges : List MemRange) → AreInOrder ranges
         → (is_memory top ranges ≡ true) ↔ ((address : ℕ) → IsLowMemory ranges address ↔ (address < top)) }
+{}
+
+/// States that the numbers of an accepted machine's ranges fit 32 bits.
+pub fn ranges_of_an_accepted_machine_fit()
+    ensures { (machine : Machine) → IsAccepted machine → AllByRecursion IsFittingRange machine.ranges }
 {}

@@ -2,7 +2,7 @@
 //!
 //! The contract is exact: `Machine::check` gives the first broken rule with the least index at which it is
 //! broken, and a machine is accepted exactly where there is none. The laws say that an accepted machine keeps the rule of each
-//! number, and what the rule on its memory means for each address.
+//! number, what the rule on its memory means for each address, and that the numbers of its ranges fit 32 bits.
 #![tactic(auto)]
 
 pub mod laws;

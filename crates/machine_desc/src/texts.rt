@@ -1,9 +1,8 @@
 //! The texts of a machine.
 
-ghost use Rattle.std.specs.Prelude.{◌≡◌, true};
+ghost use Rattle.std.specs.Prelude.{◌≡◌, ℕ, List};
 ghost use Rattle.std.specs.List.{list_all};
-ghost use Rattle.std.specs.Option.{option_map_or};
-ghost use Rattle.machine_desc.specs.Rules.{is_text, is_some_text, first_failing, texts_of, system_texts, firmware_texts};
+ghost use Rattle.machine_desc.specs.Rules.{is_text, is_some_text, first_failing, texts_if, texts_of, system_texts, firmware_texts};
 ghost use Rattle.machine_desc.specs.Rules.{chassis_texts, socket_texts, dimm_texts, slot_texts, acpi_texts};
 
 use crate::machine::{Acpi, Machine, System};
@@ -14,14 +13,17 @@ impl Machine {
     pub(crate) fn has_lawful_texts(&self) -> bool
         ensures { result ≡ list_all is_text (texts_of self.now) }
     {
-        are_lawful(self.oem_strings.as_slice())
-            && self.system.has_lawful_texts()
-            && has_lawful_firmware(&self.firmware)
-            && has_lawful_chassis(&self.chassis)
-            && have_lawful_sockets(self.sockets.as_slice())
-            && have_lawful_dimms(self.dimms.as_slice())
-            && have_lawful_slots(self.slots.as_slice())
-            && has_lawful_acpi(&self.acpi)
+        let parts = [
+            are_lawful(self.oem_strings.as_slice()),
+            self.system.has_lawful_texts(),
+            has_lawful_texts_if(&self.firmware),
+            has_lawful_texts_if(&self.chassis),
+            have_lawful_texts(self.sockets.as_slice()),
+            have_lawful_texts(self.dimms.as_slice()),
+            have_lawful_texts(self.slots.as_slice()),
+            has_lawful_texts_if(&self.acpi),
+        ];
+        all_hold(&parts)
     }
 }
 
@@ -32,49 +34,33 @@ pub(crate) fn empty_text(texts: &[Text]) -> Option<usize>
     texts.iter().position(|text| text.len() == 0)
 }
 
-fn has_lawful_firmware(firmware: &Option<Firmware>) -> bool
-    ensures { result ≡ option_map_or (λ firmware. list_all is_text (firmware_texts firmware)) firmware.now true }
+fn all_hold(tests: &[bool]) -> bool
+    ensures { result ≡ list_all (λ test. test) tests.now }
 {
-    match firmware {
+    tests.iter().all(|test| *test)
+}
+
+// A part of a machine that has texts.
+trait HasTexts {
+    ghost texts: { Self → List (List ℕ) };
+
+    fn has_lawful_texts(&self) -> bool
+        ensures { result ≡ list_all is_text (texts self.now) };
+}
+
+fn has_lawful_texts_if<P: HasTexts>(part: &Option<P>) -> bool
+    ensures { result ≡ list_all is_text (texts_if P.texts part.now) }
+{
+    match part {
         None => true,
-        Some(firmware) => firmware.has_lawful_texts(),
+        Some(part) => part.has_lawful_texts(),
     }
 }
 
-fn has_lawful_chassis(chassis: &Option<Chassis>) -> bool
-    ensures { result ≡ option_map_or (λ chassis. list_all is_text (chassis_texts chassis)) chassis.now true }
+fn have_lawful_texts<P: HasTexts>(parts: &[P]) -> bool
+    ensures { result ≡ list_all (λ part. list_all is_text (P.texts part)) parts.now }
 {
-    match chassis {
-        None => true,
-        Some(chassis) => chassis.has_lawful_texts(),
-    }
-}
-
-fn has_lawful_acpi(acpi: &Option<Acpi>) -> bool
-    ensures { result ≡ option_map_or (λ acpi. list_all is_text (acpi_texts acpi)) acpi.now true }
-{
-    match acpi {
-        None => true,
-        Some(acpi) => acpi.has_lawful_texts(),
-    }
-}
-
-fn have_lawful_sockets(sockets: &[Socket]) -> bool
-    ensures { result ≡ list_all (λ socket. list_all is_text (socket_texts socket)) sockets.now }
-{
-    sockets.iter().all(|socket| socket.has_lawful_texts())
-}
-
-fn have_lawful_dimms(dimms: &[Dimm]) -> bool
-    ensures { result ≡ list_all (λ dimm. list_all is_text (dimm_texts dimm)) dimms.now }
-{
-    dimms.iter().all(|dimm| dimm.has_lawful_texts())
-}
-
-fn have_lawful_slots(slots: &[Slot]) -> bool
-    ensures { result ≡ list_all (λ slot. list_all is_text (slot_texts slot)) slots.now }
-{
-    slots.iter().all(|slot| slot.has_lawful_texts())
+    parts.iter().all(|part| part.has_lawful_texts())
 }
 
 fn are_lawful(texts: &[Text]) -> bool
@@ -83,10 +69,10 @@ fn are_lawful(texts: &[Text]) -> bool
     texts.iter().all(|text| is_lawful(text))
 }
 
-impl System {
-    fn has_lawful_texts(&self) -> bool
-        ensures { result ≡ list_all is_text (system_texts self.now) }
-    {
+impl HasTexts for System {
+    ghost texts = { system_texts };
+
+    fn has_lawful_texts(&self) -> bool {
         is_lawful(&self.manufacturer)
             && is_lawful(&self.product)
             && is_lawful(&self.version)
@@ -96,18 +82,18 @@ impl System {
     }
 }
 
-impl Firmware {
-    fn has_lawful_texts(&self) -> bool
-        ensures { result ≡ list_all is_text (firmware_texts self.now) }
-    {
+impl HasTexts for Firmware {
+    ghost texts = { firmware_texts };
+
+    fn has_lawful_texts(&self) -> bool {
         is_lawful(&self.vendor) && is_lawful(&self.version) && is_lawful(&self.date)
     }
 }
 
-impl Chassis {
-    fn has_lawful_texts(&self) -> bool
-        ensures { result ≡ list_all is_text (chassis_texts self.now) }
-    {
+impl HasTexts for Chassis {
+    ghost texts = { chassis_texts };
+
+    fn has_lawful_texts(&self) -> bool {
         is_lawful(&self.manufacturer)
             && is_lawful(&self.version)
             && is_lawful(&self.serial)
@@ -116,10 +102,10 @@ impl Chassis {
     }
 }
 
-impl Socket {
-    fn has_lawful_texts(&self) -> bool
-        ensures { result ≡ list_all is_text (socket_texts self.now) }
-    {
+impl HasTexts for Socket {
+    ghost texts = { socket_texts };
+
+    fn has_lawful_texts(&self) -> bool {
         is_lawful(&self.designation)
             && is_lawful(&self.manufacturer)
             && is_lawful(&self.version)
@@ -129,10 +115,10 @@ impl Socket {
     }
 }
 
-impl Dimm {
-    fn has_lawful_texts(&self) -> bool
-        ensures { result ≡ list_all is_text (dimm_texts self.now) }
-    {
+impl HasTexts for Dimm {
+    ghost texts = { dimm_texts };
+
+    fn has_lawful_texts(&self) -> bool {
         is_lawful(&self.locator)
             && is_lawful(&self.bank)
             && is_lawful(&self.manufacturer)
@@ -142,18 +128,18 @@ impl Dimm {
     }
 }
 
-impl Slot {
-    fn has_lawful_texts(&self) -> bool
-        ensures { result ≡ list_all is_text (slot_texts self.now) }
-    {
+impl HasTexts for Slot {
+    ghost texts = { slot_texts };
+
+    fn has_lawful_texts(&self) -> bool {
         is_lawful(&self.designation)
     }
 }
 
-impl Acpi {
-    fn has_lawful_texts(&self) -> bool
-        ensures { result ≡ list_all is_text (acpi_texts self.now) }
-    {
+impl HasTexts for Acpi {
+    ghost texts = { acpi_texts };
+
+    fn has_lawful_texts(&self) -> bool {
         is_lawful(&self.oem_id) && is_lawful(&self.oem_table_id)
     }
 }

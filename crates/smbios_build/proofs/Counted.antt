@@ -6,19 +6,13 @@ use Rattle.std.proofs.lemmas.List.{take_more, append-nil}
 use Rattle.std.proofs.lemmas.List.Elements.{filter-append}
 use Rattle.std.proofs.lemmas.Grind.{flat_map-append}
 use Rattle.vt_bytes.specs.Numbers.{le_bytes}
-use Rattle.vt_layout.specs.declared.row.Row.{Row}
-use Rattle.vt_layout.specs.declared.row.Row.TheVariants.{Bytes}
-use Rattle.vt_layout.specs.Rows.{IsRow, size, spelled}
+use Rattle.vt_layout.specs.Fields.{Field, field_rows, field_texts, field_bytes, field_strings}
 use Rattle.smbios_model.specs.declared.smbios.Body.{Body}
-use Rattle.smbios_model.specs.declared.smbios.Body.TheVariants.{Raw}
 use Rattle.smbios_model.specs.declared.smbios.Structure.{Structure}
-use Rattle.vt_layout.specs.Strings.{HasNoNul, IsString, with_nuls, string_set, numbers_from, strings_of}
-use Rattle.vt_layout.specs.Numbered.{numbered}
-use Rattle.smbios_model.specs.Structures.{layout_of}
-use Rattle.smbios_model.proofs.WrittenBodies.{length-numbered}
+use Rattle.vt_layout.specs.Strings.{HasNoNul, IsString, with_nuls, string_set, strings_of}
+use Rattle.smbios_model.specs.Structures.{area_of, layout_of}
 use Rattle.smbios_model.specs.Smbios.{formatted}
 use Rattle.smbios_build.specs.Spelling.{layout_bytes, structure_bytes, structures_bytes}
-use Rattle.smbios_build.specs.Buildable.{IsRaw, IsBuildable}
 use Rattle.vt_layout.proofs.NamedTexts.{each_string}
 use Rattle.smbios_build.proofs.Texts.{strings_of-strings}
 
@@ -66,36 +60,31 @@ one_counted texts count total after most within was is =
 
 -- a structure is counted by its area and its strings
 counted : (number handle : ℕ) (bytes : List ℕ) (texts : List (List ℕ)) (area strings total most : ℕ) → AllByRecursion IsString texts
-    → area ≡ length bytes → strings ≡ min (length (with_nuls texts)) most → total ≡ min (4 + area + max 2 (strings + 1)) most
+    → area ≡ min (length bytes) most → strings ≡ min (length (with_nuls texts)) most → total ≡ min (4 + area + max 2 (strings + 1)) most
     → total ≡ min (length (formatted number handle bytes ++ string_set texts)) most
 counted number handle bytes texts area strings total most each area_is strings_are is =
     omega (arith, length-structure number handle bytes texts, length-string_set texts each)
 
-pub typed_counted : (number handle : ℕ) (rows : List Row) (texts : List (List ℕ)) (area strings total most : ℕ) → AllByRecursion IsRow rows
-    → length texts ≤ 255 → AllByRecursion HasNoNul texts → area ≡ size rows → strings ≡ min (length (with_nuls (strings_of texts))) most
-    → total ≡ min (4 + area + max 2 (strings + 1)) most → total ≡ min (length (layout_bytes number handle rows texts)) most
-typed_counted number handle rows texts area strings total most are few none area_is =
-    counted number handle (spelled (numbered (numbers_from 1 texts) rows)) (strings_of texts) area strings total most (each_string texts none)
-    (area_is ∙ sym (length-numbered texts rows few are))
+pub record_counted : (number handle : ℕ) (fields : List Field) (area strings total most : ℕ) → AllByRecursion HasNoNul (field_texts fields)
+    → area ≡ min (length (field_bytes fields)) most → strings ≡ min (length (with_nuls (field_strings fields))) most
+    → total ≡ min (4 + area + max 2 (strings + 1)) most
+    → total ≡ min (length (layout_bytes number handle (field_rows fields) (field_texts fields))) most
+record_counted number handle fields area strings total most none =
+    counted number handle (field_bytes fields) (field_strings fields) area strings total most (each_string (field_texts fields) none)
 
--- the count of a structure whose body was found out
-pub counted_as : (s : Structure) (body : Body) (rows : List Row) (texts : List (List ℕ)) (total most : ℕ) → s.body ≡ body
-    → rows ≡ (layout_of body).rows → texts ≡ (layout_of body).texts → total ≡ min (length (layout_bytes 0 0 rows texts)) most
+-- the count of a structure whose body was found out, by the bytes of its area and its strings
+pub area_counted : (s : Structure) (body : Body) (bytes : List ℕ) (texts : List (List ℕ)) (area strings total most : ℕ) → s.body ≡ body
+    → AllByRecursion IsString texts → bytes ≡ area_of body → texts ≡ (layout_of body).texts → area ≡ length bytes
+    → strings ≡ min (length (with_nuls (strings_of texts))) most → total ≡ min (4 + area + max 2 (strings + 1)) most → area ≤ most
     → total ≡ min (length (structure_bytes s)) most
-counted_as s body rows texts total most is rows_are texts_are total_is =
-    total_is ∙ ap (λ r. min (length (layout_bytes 0 0 r texts)) most) (rows_are ∙ ap (λ b. (layout_of b).rows) (sym is))
-    ∙ ap (λ t. min (length (layout_bytes 0 0 (layout_of s.body).rows t)) most) (texts_are ∙ ap (λ b. (layout_of b).texts) (sym is))
-
-pub raw_counted : (s : Structure) (number : ℕ) (bytes : List ℕ) (texts : List (List ℕ)) (area strings total most : ℕ)
-    → s.body ≡ Raw number bytes texts → IsBuildable s.body → area ≡ length bytes → strings ≡ min (length (with_nuls (strings_of texts))) most
-    → total ≡ min (4 + area + max 2 (strings + 1)) most → total ≡ min (length (structure_bytes s)) most
-raw_counted s number bytes texts area strings total most is able area_is strings_are total_is =
-    let raw : IsRaw number bytes texts = subst IsBuildable is able in
-    let same = strings_of-strings texts raw.texts in
-    let row : List Row = Bytes (length bytes) bytes ∷ [] in
-    counted_as s (Raw number bytes texts) row texts total most is refl refl
-    (counted 0 0 (spelled (numbered (numbers_from 1 texts) row)) (strings_of texts) area strings total most
-    (subst (AllByRecursion IsString) (sym same) raw.texts) (area_is ∙ ap length (sym (append-nil bytes))) strings_are total_is)
+area_counted s body bytes texts area strings total most is each bytes_are texts_are area_is strings_are total_is small =
+    let same = strings_of-strings texts each in
+    let all : total ≡ min (length (formatted 0 0 bytes ++ string_set (strings_of texts))) most =
+    counted 0 0 bytes (strings_of texts) area strings total most (subst (AllByRecursion IsString) (sym same) each) (omega (arith, area_is, small))
+    strings_are total_is in
+    all ∙ ap (λ b. min (length (formatted 0 0 b ++ string_set (strings_of texts))) most) bytes_are
+    ∙ ap (λ all. min (length (formatted 0 0 (area_of body) ++ string_set (strings_of all))) most) texts_are
+    ∙ ap (λ b. min (length (structure_bytes (record { handle = s.handle; body = b }))) most) (sym is)
 
 -- one structure more
 length-structures_bytes-more : (structures : List Structure) (k : ℕ) (other : Structure) → k < length structures

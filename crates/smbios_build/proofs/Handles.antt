@@ -1,13 +1,14 @@
 -- No two structures of an accepted machine have the same handle.
-use Rattle.std.proofs.Common.{◌≡◌, ℕ, zero, suc, ◌+◌, ◌≤◌, List, [], ◌∷◌, ◌++◌, length, Some, arith, refl, ap}
-use Rattle.std.specs.List.{slice_get, flat_map}
+use Rattle.std.proofs.Common.{◌≡◌, ℕ, zero, suc, ◌+◌, ◌≤◌, Bool, true, ◌&&◌, nat_le, List, [], ◌∷◌, ◌++◌, length, Some, arith, refl, ap}
+use Rattle.std.specs.List.{slice_get, flat_map, AllByRecursion}
+use Rattle.std.proofs.lemmas.Bool.{and_parts, leb-true}
+use Rattle.vt_bytes.proofs.Each.{each_push, each_weaker}
 use Rattle.machine_desc.specs.declared.machine.Machine.{Machine}
 use Rattle.machine_desc.specs.Rules.{IsAccepted}
 use Rattle.smbios_model.specs.declared.smbios.Body.{Body}
 use Rattle.smbios_model.specs.declared.smbios.Structure.{Structure}
-use Rattle.smbios_model.specs.MachineStructures.{Part, with_handles, structures_in, parts_of, structures_of}
-use Rattle.smbios_model.proofs.AcceptedParts.{lawful_parts}
-use Rattle.smbios_build.proofs.Accepted.{HasFewStructures, few_structures}
+use Rattle.smbios_model.specs.MachineStructures.{Part, with_handles, structures_in, told_parts, end_part, parts_of, structures_of}
+use Rattle.smbios_model.proofs.LawfulParts.{IsLawfulPart, lawful_parts}
 
 -- handles that ascend, from one on
 abbrev AreAscending : ℕ → List Structure → Type 0
@@ -51,53 +52,31 @@ part_before from first (body ∷ bodies) more low ascend = (
       (ascending_from (first + suc (length bodies)) (first + 1 + length bodies) more (omega arith) ascend),
 )
 
--- each part begins behind the one before it
-abbrev AreApart : ℕ → List Part → Type 0
-AreApart from [] = Unit {0}
-AreApart from (part ∷ parts) = (from ≤ part.first) × AreApart (part.first + length part.bodies) parts
+-- The test of parts that are apart: each begins behind the one before it, where that has as many structures as it may have, and the last one
+-- ends within 16 bits.
+abbrev pub are_apart : ℕ → List Part → Bool
+are_apart from [] = nat_le from 65536
+are_apart from (part ∷ parts) = nat_le from part.first && are_apart (part.first + part.most) parts
 
-parts_ascend : (from : ℕ) (parts : List Part) → AreApart from parts → AreAscending from (flat_map structures_in parts)
-parts_ascend from [] apart = tt
-parts_ascend from (part ∷ parts) apart =
-    part_before from part.first part.bodies (flat_map structures_in parts) apart.0 (parts_ascend (part.first + length part.bodies) parts apart.1)
+abbrev pub AreFew : List Part → Type 0
+AreFew parts = AllByRecursion (λ (part : Part). length part.bodies ≤ part.most) parts
 
-are_apart : (m : Machine) → HasFewStructures m → AreApart 0 (parts_of m)
-are_apart m few = (
-  omega arith,
-  (
-    omega (arith, few.bios),
-    (
-      omega arith,
-      (
-        omega (arith, few.chassis),
-        (
-          omega (arith, few.processors),
-          (
-            omega (arith, few.slots),
-            (
-              omega (arith, few.oem_strings),
-              (
-                omega (arith, few.arrays),
-                (
-                  omega (arith, few.devices),
-                  (
-                    omega (arith, few.mapped),
-                    (
-                      omega (arith, few.boot),
-                      tt,
-                    ),
-                  ),
-                ),
-              ),
-            ),
-          ),
-        ),
-      ),
-    ),
-  ),
-)
+pub are_few : (m : Machine) → IsAccepted m → AreFew (parts_of m)
+are_few m accepted =
+    each_push (λ (part : Part). length part.bodies ≤ part.most) (told_parts m) end_part
+    (each_weaker (IsLawfulPart m) (λ (part : Part). length part.bodies ≤ part.most) (λ part is. is.few) (told_parts m) (lawful_parts m accepted))
+    (omega arith)
+
+parts_ascend : (from lower : ℕ) (parts : List Part) → lower ≤ from → are_apart from parts ≡ true → AreFew parts
+    → AreAscending lower (flat_map structures_in parts)
+parts_ascend from lower [] low apart few = tt
+parts_ascend from lower (part ∷ parts) low apart few =
+    let tests = and_parts (nat_le from part.first) (are_apart (part.first + part.most) parts) apart in
+    let first = leb-true from part.first tests.0 in
+    part_before lower part.first part.bodies (flat_map structures_in parts) (omega arith)
+    (parts_ascend (part.first + part.most) (part.first + length part.bodies) parts (omega (arith, few.0)) tests.1 few.1)
 
 pub handles_differ : (m : Machine) (i j : ℕ) (s t : Structure) → IsAccepted m → slice_get (structures_of m) i ≡ Some s
     → slice_get (structures_of m) j ≡ Some t → s.handle ≡ t.handle → i ≡ j
 handles_differ m i j s t accepted =
-    one_place 0 i j (structures_of m) s t (parts_ascend 0 (parts_of m) (are_apart m (few_structures m (lawful_parts m accepted))))
+    one_place 0 i j (structures_of m) s t (parts_ascend 0 0 (parts_of m) (omega arith) refl (are_few m accepted))

@@ -1,5 +1,4 @@
 pub mod Cuts
-pub mod PutRows
 pub mod PutStructures
 pub mod Texts
 pub mod Read

@@ -1,13 +1,14 @@
 -- Structures that can be written so that a reader finds the same ones (DMTF DSP0134, version 3.0.0, 6.1.2, 6.1.3).
 use Rattle.std.specs.Prelude.{◌≡◌, ◌≢◌, ℕ, ◌^◌, ◌<◌, ◌≤◌, List, [], ◌∷◌, ◌++◌, length, None}
 use Rattle.std.specs.List.{AllByRecursion}
+use Rattle.vt_layout.specs.declared.row.Row.{Row}
 use Rattle.vt_layout.specs.Rows.{IsRow}
 use Rattle.smbios_model.specs.declared.smbios.Body.{Body}
 use Rattle.smbios_model.specs.declared.smbios.Body.TheVariants.{OemStrings, End, Raw}
 use Rattle.smbios_model.specs.declared.smbios.Structure.{Structure}
 use Rattle.vt_layout.specs.Strings.{HasNoNul, IsString}
 use Rattle.smbios_model.specs.Structures.{kind_for, layout_of}
-use Rattle.smbios_build.specs.Spelling.{structure_bytes}
+use Rattle.smbios_build.specs.Spelling.{layout_bytes, structure_bytes}
 
 -- A raw structure: it isn't the end, its length fits a byte, it is of no known kind, none of its strings is empty or holds a NUL, and
 -- their numbers fit a byte.
@@ -34,6 +35,11 @@ AreBuildable (s ∷ next ∷ others) = (s.body ≢ End) × IsBuildable s.body ×
 pub record HasFittingNumbers (s : Structure) : Type 0 where
   pub handle : s.handle < 2 ^ 16
   pub rows : AllByRecursion IsRow (layout_of s.body).rows
+
+-- The bytes of a structure of a type with these rows, which fit, and texts are put behind others.
+pub record IsPutAs (number handle : ℕ) (rows : List Row) (texts : List (List ℕ)) (old new : List ℕ) : Type 0 where
+  pub written : new ≡ old ++ layout_bytes number handle rows texts
+  pub fits : AllByRecursion IsRow rows
 
 -- The bytes of a structure, whose numbers fit their fields, are put behind others.
 pub record IsPut (s : Structure) (old new : List ℕ) : Type 0 where

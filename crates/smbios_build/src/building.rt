@@ -45,7 +45,7 @@ pub fn build_smbios(alloc: Global, structures: &[Structure]) -> Result<Bytes, Sm
     // What is too large is refused, and nothing else.
     ensures too_large { (result ≡ Err SmbiosBuildFault.TableTooLarge) ↔ (4194304 < length (structures_bytes structures.now)) }
 {
-    if structures_size(structures) > LARGEST {
+    if structures_size(alloc, structures) > LARGEST {
         return Err(SmbiosBuildFault::TableTooLarge);
     }
     Ok(spell(alloc, structures)?)

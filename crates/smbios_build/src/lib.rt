@@ -8,7 +8,6 @@
 mod anchor;
 mod building;
 pub mod laws;
-mod numbered_rows;
 mod sizes;
 mod string_set;
 mod structure;

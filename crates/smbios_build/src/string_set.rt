@@ -1,4 +1,4 @@
-ghost use Rattle.std.specs.Prelude.{◌≡◌, ◌<◌, ◌≤◌, ◌+◌, ◌==◌, [], ◌∷◌, ◌++◌, length, IfOk, OnOk, OnErr, if◌then◌else◌};
+ghost use Rattle.std.specs.Prelude.{◌≡◌, ◌<◌, ◌≤◌, ◌+◌, ◌==◌, [], ◌∷◌, ◌++◌, length, map, IfOk, OnOk, OnErr, if◌then◌else◌};
 ghost use Rattle.std.specs.List.{AllByRecursion};
 ghost use Rattle.vt_layout.specs.Strings.{HasNoNul, IsString, strings_of, string_set};
 
@@ -82,6 +82,20 @@ pub(crate) fn set_of(alloc: Global, strings: &[Text]) -> Result<StringSet, OutOf
 {
     let mut set = StringSet::new(alloc);
     for text in strings {
+        set.add(text)?;
+    }
+    Ok(set)
+}
+
+/// Returns the set of `texts`, in order, without those that are empty. There are at most 255 of them, and none holds a NUL. The set
+/// takes its memory from `alloc`. Returns `OutOfMemory` when memory runs out.
+pub(crate) fn set_of_texts(alloc: Global, texts: &[&Text]) -> Result<StringSet, OutOfMemory>
+    requires few { length texts.now ≤ 255 }
+    requires no_nuls { AllByRecursion HasNoNul (map (λ text. text.now) texts.now) }
+    ensures { IfOk result (λ set. set ≡ strings_of (map (λ text. text.now) texts.now)) }
+{
+    let mut set = StringSet::new(alloc);
+    for text in texts {
         set.add(text)?;
     }
     Ok(set)

@@ -1,25 +1,23 @@
-ghost use Rattle.std.specs.Prelude.{◌≡◌, ◌<◌, ◌≤◌, ◌+◌, [], ◌∷◌, ◌++◌, length, map, OnOk};
+ghost use Rattle.std.specs.Prelude.{◌≡◌, ◌≤◌, ◌+◌, ◌∷◌, ◌++◌, length, map, OnOk};
 ghost use Rattle.std.specs.List.{AllByRecursion};
 ghost use Rattle.vt_bytes.specs.Numbers.{le_bytes};
-ghost use Rattle.vt_layout.specs.Rows.{IsRow, size, string_numbers};
-ghost use Rattle.vt_layout.specs.Strings.{HasNoNul, IsString, string_set};
+ghost use Rattle.vt_layout.specs.Rows.{IsRow, size, spelled};
+ghost use Rattle.vt_layout.specs.Strings.{HasNoNul, IsString, strings_of, string_set};
+ghost use Rattle.vt_layout.specs.Fields.{field_rows, field_texts};
+ghost use Rattle.smbios_model.specs.Structures.{number_of, layout_of};
 ghost use Rattle.smbios_model.specs.Smbios.{formatted};
-ghost use Rattle.smbios_build.specs.Spelling.{layout_bytes};
-ghost use Rattle.smbios_build.specs.Buildable.{IsBuildable, IsPut};
+ghost use Rattle.smbios_build.specs.Buildable.{IsBuildable, IsPut, IsPutAs};
 
-use crate::numbered_rows::put_numbered;
-use crate::string_set::{StringSet, set_of};
+use crate::string_set::{set_of, set_of_texts};
 use smbios_model::{
     ARRAY_TYPE, BIOS_TYPE, BOOT_TYPE, Body, CHASSIS_TYPE, DEVICE_TYPE, END_TYPE, MAPPED_TYPE,
-    OEM_STRINGS_TYPE, PROCESSOR_TYPE, SLOT_TYPE, SYSTEM_TYPE, Structure, array_rows, bios_rows,
-    bios_texts, boot_rows, chassis_rows, chassis_texts, device_rows, device_texts, mapped_rows,
-    oem_rows, processor_rows, processor_texts, slot_rows, slot_texts, system_rows, system_texts,
+    OEM_STRINGS_TYPE, PROCESSOR_TYPE, SLOT_TYPE, SYSTEM_TYPE, Structure,
 };
 use std::alloc::Global;
-use vt_layout::{Row, put_rows, size_of};
+use vt_layout::{Laid, Row, put_rows, rows_of, size_of};
 use vt_outside::{Bytes, OutOfMemory, Text};
 
-/// Appends the bytes of `structure`, which can be built, to `bytes`. The set of its strings takes memory from `alloc`
+/// Appends the bytes of `structure`, which can be built, to `bytes`. Its rows and the set of its strings take memory from `alloc`
 /// meanwhile. Returns `OutOfMemory` when memory runs out; what `bytes` then holds is unspecified.
 pub(crate) fn put_structure(
     alloc: Global,
@@ -29,68 +27,33 @@ pub(crate) fn put_structure(
     requires { IsBuildable structure.now.body }
     ensures { OnOk result (IsPut structure.now bytes.old bytes.new) }
 {
-    let handle = structure.handle;
-    match &structure.body {
-        Body::Bios(info) => put_typed(
-            alloc,
-            bytes,
-            BIOS_TYPE,
-            handle,
-            &bios_rows(info),
-            &bios_texts(info),
-        ),
-        Body::System(info) => put_typed(
-            alloc,
-            bytes,
-            SYSTEM_TYPE,
-            handle,
-            &system_rows(info),
-            &system_texts(info),
-        ),
-        Body::Chassis(info) => put_typed(
-            alloc,
-            bytes,
-            CHASSIS_TYPE,
-            handle,
-            &chassis_rows(info),
-            &chassis_texts(info),
-        ),
-        Body::Processor(info) => put_typed(
-            alloc,
-            bytes,
-            PROCESSOR_TYPE,
-            handle,
-            &processor_rows(info),
-            &processor_texts(info),
-        ),
-        Body::Slot(info) => put_typed(
-            alloc,
-            bytes,
-            SLOT_TYPE,
-            handle,
-            &slot_rows(info),
-            &slot_texts(info),
-        ),
-        Body::OemStrings(texts) => put_listed(
+    put_body(alloc, bytes, structure.handle, &structure.body)
+}
+
+// Appends a structure with this handle that says this.
+fn put_body(alloc: Global, bytes: &mut Bytes, handle: u16, body: &Body) -> Result<(), OutOfMemory>
+    requires { IsBuildable body.now }
+    ensures { OnOk result (IsPutAs (number_of body.now) handle (layout_of body.now).rows (layout_of body.now).texts bytes.old bytes.new) }
+{
+    match body {
+        Body::Bios(info) => put_record(alloc, bytes, BIOS_TYPE, handle, info),
+        Body::System(info) => put_record(alloc, bytes, SYSTEM_TYPE, handle, info),
+        Body::Chassis(info) => put_record(alloc, bytes, CHASSIS_TYPE, handle, info),
+        Body::Processor(info) => put_record(alloc, bytes, PROCESSOR_TYPE, handle, info),
+        Body::Slot(info) => put_record(alloc, bytes, SLOT_TYPE, handle, info),
+        Body::OemStrings(texts) => put_raw(
             alloc,
             bytes,
             OEM_STRINGS_TYPE,
             handle,
-            &oem_rows(texts.as_slice()),
+            &[texts.len() as u8],
             texts.as_slice(),
         ),
-        Body::Array(info) => put_typed(alloc, bytes, ARRAY_TYPE, handle, &array_rows(info), &[]),
-        Body::Device(info) => put_typed(
-            alloc,
-            bytes,
-            DEVICE_TYPE,
-            handle,
-            &device_rows(info),
-            &device_texts(info),
-        ),
-        Body::Mapped(info) => put_typed(alloc, bytes, MAPPED_TYPE, handle, &mapped_rows(info), &[]),
-        Body::Boot(info) => put_typed(alloc, bytes, BOOT_TYPE, handle, &boot_rows(info), &[]),
-        Body::End => put_typed(alloc, bytes, END_TYPE, handle, &[], &[]),
+        Body::Array(info) => put_record(alloc, bytes, ARRAY_TYPE, handle, info),
+        Body::Device(info) => put_record(alloc, bytes, DEVICE_TYPE, handle, info),
+        Body::Mapped(info) => put_record(alloc, bytes, MAPPED_TYPE, handle, info),
+        Body::Boot(info) => put_record(alloc, bytes, BOOT_TYPE, handle, info),
+        Body::End => put_raw(alloc, bytes, END_TYPE, handle, &[], &[]),
         Body::Raw {
             kind,
             area,
@@ -106,8 +69,24 @@ pub(crate) fn put_structure(
     }
 }
 
-// Appends a structure of the type `number` whose area has these rows, and in which the numbers of these texts stand.
-fn put_typed(
+// Appends a structure of the type `number` that says what `info` does.
+fn put_record<T: Laid>(
+    alloc: Global,
+    bytes: &mut Bytes,
+    number: u8,
+    handle: u16,
+    info: &T,
+) -> Result<(), OutOfMemory>
+    requires short { size (field_rows (T.fields info.now)) ≤ 251 }
+    requires no_nuls { AllByRecursion HasNoNul (field_texts (T.fields info.now)) }
+    ensures { OnOk result (IsPutAs number handle (field_rows (T.fields info.now)) (field_texts (T.fields info.now)) bytes.old bytes.new) }
+{
+    let rows = rows_of(alloc, info)?;
+    put_rows_and_strings(alloc, bytes, number, handle, rows.rows(), rows.texts())
+}
+
+// Appends a structure of the type `number` whose area has these rows, and whose strings are those of these texts that aren't empty.
+fn put_rows_and_strings(
     alloc: Global,
     bytes: &mut Bytes,
     number: u8,
@@ -117,35 +96,12 @@ fn put_typed(
 ) -> Result<(), OutOfMemory>
     requires fit { AllByRecursion IsRow rows.now }
     requires short { size rows.now ≤ 251 }
-    requires each { length (string_numbers rows.now) ≡ length texts.now }
     requires few { length texts.now ≤ 255 }
     requires no_nuls { AllByRecursion HasNoNul (map (λ text. text.now) texts.now) }
-    ensures { OnOk result (bytes.new ≡ bytes.old ++ layout_bytes number handle rows.now (map (λ text. text.now) texts.now)) }
+    ensures { OnOk result (bytes.new
+        ≡ bytes.old ++ (formatted number handle (spelled rows.now) ++ string_set (strings_of (map (λ text. text.now) texts.now)))) }
 {
-    let mut strings = StringSet::new(alloc);
-    put_header(bytes, number, size_of(rows) as u8, handle)?;
-    put_numbered(bytes, &mut strings, rows, texts)?;
-    strings.put_after(bytes)
-}
-
-// Appends a structure of the type `number` whose area has these rows, none of them for the number of a string, and whose strings
-// are these.
-fn put_listed(
-    alloc: Global,
-    bytes: &mut Bytes,
-    number: u8,
-    handle: u16,
-    rows: &[Row],
-    strings: &[Text],
-) -> Result<(), OutOfMemory>
-    requires fit { AllByRecursion IsRow rows.now }
-    requires short { size rows.now ≤ 251 }
-    requires none { string_numbers rows.now ≡ [] }
-    requires few { length strings.now ≤ 255 }
-    requires texts { AllByRecursion IsString strings.now }
-    ensures { OnOk result (bytes.new ≡ bytes.old ++ layout_bytes number handle rows.now strings.now) }
-{
-    let set = set_of(alloc, strings)?;
+    let set = set_of_texts(alloc, texts)?;
     put_header(bytes, number, size_of(rows) as u8, handle)?;
     put_rows(bytes, rows)?;
     set.put_after(bytes)

@@ -1,72 +1,52 @@
 -- What an area and strings of a known kind are read as.
-use Rattle.std.proofs.Common.{◌≡◌, ℕ, ◌+◌, ◌<◌, ◌≤◌, List, [], ◌∷◌, length, get_or, take, Some, None, Result, Ok, Err, arith, sym, subst}
+use Rattle.std.proofs.Common.{◌≡◌, ◌⊎◌, ℕ, List, [], ◌∷◌, length, get_or, take, Some, Result, Ok, Err, arith, inl, inr, sym, subst}
 use Rattle.std.specs.Prelude.{IfOk, IfErr}
 use Rattle.vt_bytes.specs.Numbers.{le}
-use Rattle.vt_layout.specs.Rows.{size}
+use Rattle.vt_layout.specs.declared.record_reader.RecordFault.{RecordFault}
+use Rattle.vt_layout.specs.declared.record_reader.RecordFault.TheVariants.{TooShort, NoSuchString, OutOfMemory}
 use Rattle.smbios_model.specs.declared.smbios.Body.{Body}
-use Rattle.smbios_model.specs.declared.smbios.Body.TheVariants.{OemStrings}
-use Rattle.vt_layout.specs.Strings.{AreNamed}
-use Rattle.smbios_model.specs.StructureKinds.{StructureKind}
-use Rattle.smbios_model.specs.OemStrings.{counted_from, oem_strings_kind}
-use Rattle.smbios_model.specs.Structures.{kind_for, IsBodyOf, IsTyped}
+use Rattle.smbios_model.specs.Structures.{kind_for, IsBodyOf}
+use Rattle.smbios_model.proofs.KnownKinds.{known_sized}
 use Rattle.smbios_decode.specs.declared.kind.Kind.{Kind}
-use Rattle.smbios_decode.specs.declared.kind.Kind.TheVariants.{OemStrings as OemStringsKind}
-use Rattle.smbios_decode.specs.declared.fields.TextFault.{TextFault}
-use Rattle.smbios_decode.specs.declared.fields.TextFault.TheVariants.{NoSuchString, OutOfMemory}
-use Rattle.smbios_decode.specs.Texts.{FieldsLeft, AreAsked}
-use Rattle.smbios_decode.specs.Faults.{IsFirstMissing}
-use Rattle.smbios_decode.specs.Kinds.{kind_of, named_in, IsTaken, IsTypedOr, IsBodyOr}
-use Rattle.smbios_decode.proofs.Asked.{asked_named, asked_missing}
-use Rattle.smbios_decode.proofs.Typed.{readable, typed}
-use Rattle.smbios_decode.proofs.Counted.{counted_named, counted_missing}
-
--- the fields of an area, none of which is taken
-abbrev whole : List ℕ → List (List ℕ) → FieldsLeft
-whole area strings = record { area = area; strings = strings; fault = None }
-
--- a body all of whose texts were there
-pub taken_typed : (kind : Kind) (area : List ℕ) (strings : List (List ℕ)) (before after : FieldsLeft) (body : Body)
-    → before ≡ whole area strings → after.fault ≡ None → length area ≡ size (kind_of kind).shape → IsTaken (kind_of kind) before after body
-    → IsTyped (kind_of kind) area strings body
-taken_typed kind area strings before after body begun none sized taken =
-    let is = subst (λ f. IsTaken (kind_of kind) f after body) begun taken in
-    let asked = subst (λ f. AreAsked strings (named_in (kind_of kind) area) is.texts None f) none is.asked in
-    typed (kind_of kind) area strings is.texts body (readable kind) sized is.says
-    (asked_named strings (named_in (kind_of kind) area) is.texts asked)
-
--- the fault where one wasn't
-pub taken_fault : (kind : Kind) (area : List ℕ) (strings : List (List ℕ)) (before after : FieldsLeft) (body : Body) (fault : TextFault)
-    → before ≡ whole area strings → after.fault ≡ Some fault → IsTaken (kind_of kind) before after body
-    → IsTypedOr (kind_of kind) area strings (Err fault)
-taken_fault kind area strings before after body (NoSuchString number) begun some taken =
-    let is = subst (λ f. IsTaken (kind_of kind) f after body) begun taken in
-    let asked = subst (λ f. AreAsked strings (named_in (kind_of kind) area) is.texts None f) some is.asked in
-    asked_missing strings (named_in (kind_of kind) area) is.texts number asked
-taken_fault kind area strings before after body OutOfMemory begun some taken = tt
+use Rattle.smbios_decode.specs.declared.kind.Kind.TheVariants.{OemStrings}
+use Rattle.smbios_decode.specs.Kinds.{kind_of, counted_in, body_in, IsTypedOr, IsBodyOr}
+use Rattle.smbios_decode.proofs.Typed.{typed}
 
 -- an area of a known kind says what it says of the kind
-pub known_body : (kind : StructureKind) (number : ℕ) (area : List ℕ) (strings : List (List ℕ)) (result : Result Body TextFault)
-    → kind_for number (length area) ≡ Some kind → IsTypedOr kind area strings result → IsBodyOr number area strings result
-known_body kind number area strings (Ok body) known is = subst (λ k. IsBodyOf k number area strings body) (sym known) is
-known_body kind number area strings (Err (NoSuchString missing)) known is = (kind, known, is)
-known_body kind number area strings (Err OutOfMemory) known is = tt
+pub known_body : (kind : Kind) (number : ℕ) (area : List ℕ) (strings : List (List ℕ)) (result : Result Body RecordFault)
+    → kind_for number (length area) ≡ Some (kind_of kind) → IfOk result (λ body. body_in kind area strings ≡ Ok body)
+    → IfErr result (λ fault. (fault ≡ OutOfMemory) ⊎ (body_in kind area strings ≡ Err fault)) → IsBodyOr number area strings result
+known_body kind number area strings result known ok err =
+    by_result result ok err (typed kind area strings (sym (known_sized (kind_of kind) number (length area) known)))
+  where
+    by_result : (result : Result Body RecordFault) → IfOk result (λ body. body_in kind area strings ≡ Ok body)
+        → IfErr result (λ fault. (fault ≡ OutOfMemory) ⊎ (body_in kind area strings ≡ Err fault))
+        → IsTypedOr (kind_of kind) area strings (body_in kind area strings) → IsBodyOr number area strings result
+    by_result (Ok body) ok err is =
+        subst (λ k. IsBodyOf k number area strings body) (sym known) (subst (IsTypedOr (kind_of kind) area strings) ok is)
+    by_result (Err (NoSuchString missing)) ok (inl none) is = absurd (cc none)
+    by_result (Err (NoSuchString missing)) ok (inr told) is = (kind_of kind, known, subst (IsTypedOr (kind_of kind) area strings) told is)
+    by_result (Err TooShort) ok (inl none) is = absurd (cc none)
+    by_result (Err TooShort) ok (inr told) is = subst (IsTypedOr (kind_of kind) area strings) told is
+    by_result (Err OutOfMemory) ok err is = tt
 
 -- the one byte of the area of OEM Strings
-one_byte : (area : List ℕ) (count : ℕ) → length area ≡ 1 → get_or area 0 0 ≡ count → le (take 1 area) ≡ count
-one_byte [] count one is = absurd (omega (arith, one))
-one_byte (byte ∷ []) count one is = omega (arith, is)
-one_byte (byte ∷ next ∷ bytes) count one is = absurd (omega (arith, one))
+one_byte : (area : List ℕ) → length area ≡ 1 → get_or area 0 0 ≡ le (take 1 area)
+one_byte [] one = absurd (omega (arith, one))
+one_byte (byte ∷ []) one = omega arith
+one_byte (byte ∷ next ∷ bytes) one = absurd (omega (arith, one))
 
--- OEM Strings are as many strings as are counted, or the first that is missing is told
-pub oem_body : (area : List ℕ) (strings : List (List ℕ)) (count : ℕ) (result : Result Body TextFault) → length area ≡ 1 → get_or area 0 0 ≡ count
-    → IfOk result (λ body. (count ≤ length strings) × (body ≡ OemStrings (take count strings)))
-    → IfErr result (λ fault. (length strings < count) × (fault ≡ NoSuchString (length strings + 1)))
-    → IsTypedOr oem_strings_kind area strings result
-oem_body area strings count (Ok body) one is ok err =
-    let named = subst (λ n. AreNamed strings (counted_from 1 n) (take count strings)) (sym (one_byte area count one is)) (counted_named strings count ok.0) in
-    typed oem_strings_kind area strings (take count strings) body (readable OemStringsKind) one ok.1 named
-oem_body area strings count (Err (NoSuchString number)) one is ok err =
-    let number_is : number ≡ length strings + 1 = cc err.1 in
-    subst (λ n. IsFirstMissing strings (counted_from 1 n) number) (sym (one_byte area count one is))
-    (subst (λ n. IsFirstMissing strings (counted_from 1 count) n) (sym number_is) (counted_missing strings count err.0))
-oem_body area strings count (Err OutOfMemory) one is ok err = tt
+-- want of memory aside
+or_memory : {A : Type 0} (result : Result A RecordFault) (Is : RecordFault → Type 0) → IfErr result Is
+    → IfErr result (λ fault. (fault ≡ OutOfMemory) ⊎ Is fault)
+or_memory (Ok a) Is err = tt
+or_memory (Err fault) Is err = inr err
+
+pub counted_body : (number : ℕ) (area : List ℕ) (strings : List (List ℕ)) (result : Result Body RecordFault)
+    → kind_for number (length area) ≡ Some (kind_of OemStrings) → IfOk result (λ body. counted_in (get_or area 0 0) strings ≡ Ok body)
+    → IfErr result (λ fault. counted_in (get_or area 0 0) strings ≡ Err fault) → IsBodyOr number area strings result
+counted_body number area strings result known ok err =
+    let count = one_byte area (sym (known_sized (kind_of OemStrings) number (length area) known)) in
+    known_body OemStrings number area strings result known (subst (λ n. IfOk result (λ body. counted_in n strings ≡ Ok body)) count ok)
+    (or_memory result (λ fault. counted_in (le (take 1 area)) strings ≡ Err fault)
+    (subst (λ n. IfErr result (λ fault. counted_in n strings ≡ Err fault)) count err))

@@ -3,9 +3,8 @@ use Rattle.std.proofs.Common.{◌≡◌, ◌≢◌, ℕ, zero, suc, ◌+◌, ◌
 use Rattle.std.proofs.Common.{arith, refl, ap, sym, subst, ◌∙◌}
 use Rattle.std.proofs.lemmas.List.{drop_more}
 use Rattle.std.proofs.lemmas.Option.{slice_get-get_or, slice_get_past}
-use Rattle.vt_layout.specs.Strings.{string_of, AreNamed}
+use Rattle.vt_layout.specs.Strings.{string_of, AreNamed, IsFirstMissing}
 use Rattle.smbios_model.specs.OemStrings.{counted_from}
-use Rattle.smbios_decode.specs.Faults.{IsFirstMissing}
 
 -- the string of a number from one on
 string_at : (strings : List (List ℕ)) (place first : ℕ) → first ≡ suc place → place < length strings

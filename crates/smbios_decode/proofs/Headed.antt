@@ -5,11 +5,11 @@ use Rattle.std.proofs.lemmas.List.{take_all, take-append-drop, drop-drop, drop_a
 use Rattle.vt_bytes.specs.Numbers.{le_bytes}
 use Rattle.smbios_model.specs.declared.smbios.Body.{Body}
 use Rattle.smbios_model.specs.StructureKinds.{StructureKind}
-use Rattle.vt_layout.specs.Strings.{AreStrings, string_set}
+use Rattle.vt_layout.specs.Strings.{AreStrings, string_set, IsFirstMissing}
 use Rattle.smbios_model.specs.Structures.{kind_for, IsBody}
 use Rattle.smbios_model.specs.Smbios.{formatted}
 use Rattle.smbios_decode.specs.declared.fault.SmbiosFault.TheVariants.{Truncated}
-use Rattle.smbios_decode.specs.Faults.{IsWhole, BeginsWhole, IsShort, IsFirstMissing, NamesNoString, IsFault}
+use Rattle.smbios_decode.specs.Faults.{IsWhole, BeginsWhole, IsShort, NamesNoString, IsFault}
 use Rattle.smbios_decode.specs.Found.{IsFound}
 use Rattle.smbios_decode.specs.Kinds.{named_in}
 

@@ -1,6 +1,3 @@
-pub mod FieldNumbers
-pub mod Taken
-pub mod Asked
 pub mod Typed
 pub mod Counted
 pub mod Bodies

@@ -9,12 +9,11 @@ use Rattle.vt_layout.specs.Reading.{rows_in}
 use Rattle.vt_layout.proofs.AsRows.{bytes_shown, bytes_shaped}
 use Rattle.vt_layout.proofs.Same.{same_rows}
 use Rattle.smbios_model.specs.declared.smbios.Body.{Body}
-use Rattle.vt_layout.specs.Strings.{AreNamed, string_of}
+use Rattle.vt_layout.specs.Strings.{AreNamed, string_of, IsFirstMissing}
 use Rattle.smbios_model.specs.StructureKinds.{StructureKind}
 use Rattle.smbios_model.specs.Structures.{kind_for, IsTyped, IsBodyOf, IsBody}
 use Rattle.vt_layout.proofs.NumberedRows.{size-shape}
 use Rattle.smbios_model.proofs.KnownKinds.{known_readable}
-use Rattle.smbios_decode.specs.Faults.{IsFirstMissing}
 
 -- numbers of which some is missing name no texts
 all_named : (strings : List (List ℕ)) (before after : List ℕ) (number : ℕ) (texts : List (List ℕ)) → string_of strings number ≡ None

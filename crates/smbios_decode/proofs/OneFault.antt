@@ -1,13 +1,14 @@
 -- Bytes begin with at most one fault, and with none where a structure stands.
 use Rattle.std.proofs.Common.{◌≡◌, ℕ, List, [], ◌++◌, length, Some, refl, ap, sym, ◌∙◌, subst}
 use Rattle.vt_layout.specs.Reading.{rows_in}
+use Rattle.vt_layout.specs.Strings.{IsFirstMissing}
 use Rattle.smbios_model.specs.declared.smbios.Structure.{Structure}
 use Rattle.smbios_model.specs.StructureKinds.{StructureKind}
 use Rattle.smbios_model.specs.Structures.{kind_for, IsBody}
 use Rattle.smbios_model.specs.Smbios.{IsStructure}
 use Rattle.smbios_decode.specs.declared.fault.SmbiosFault.{SmbiosFault}
 use Rattle.smbios_decode.specs.declared.fault.SmbiosFault.TheVariants.{Truncated, ShortStructure, NoEnd, NoSuchString, OutOfMemory}
-use Rattle.smbios_decode.specs.Faults.{IsWhole, IsShort, IsFirstMissing, NamesNoString, IsFault}
+use Rattle.smbios_decode.specs.Faults.{IsWhole, IsShort, NamesNoString, IsFault}
 use Rattle.smbios_decode.proofs.Wholes.{same_whole, no_short_whole, structure_whole}
 use Rattle.smbios_decode.proofs.Missing.{one_missing, none_missing}
 

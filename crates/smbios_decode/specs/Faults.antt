@@ -1,9 +1,8 @@
 -- What bytes are read as: structures up to their end, or the first fault (DMTF DSP0134, version 3.0.0, 6.1.2, 6.1.3).
-use Rattle.std.specs.Prelude.{◌≡◌, ◌≢◌, ℕ, ◌+◌, ◌<◌, ◌⊎◌, List, [], ◌∷◌, ◌++◌, length, Some, None, Result, Ok, Err}
-use Rattle.std.specs.List.{AllByRecursion}
+use Rattle.std.specs.Prelude.{◌≡◌, ◌≢◌, ℕ, ◌+◌, ◌<◌, ◌⊎◌, List, [], ◌∷◌, ◌++◌, length, Some, Result, Ok, Err}
 use Rattle.vt_layout.specs.Reading.{rows_in}
 use Rattle.smbios_model.specs.declared.smbios.Structure.{Structure}
-use Rattle.vt_layout.specs.Strings.{AreStrings, string_set, string_of}
+use Rattle.vt_layout.specs.Strings.{AreStrings, string_set, IsFirstMissing}
 use Rattle.smbios_model.specs.StructureKinds.{StructureKind}
 use Rattle.smbios_model.specs.Structures.{kind_for}
 use Rattle.smbios_model.specs.Smbios.{formatted, IsStructure, AreStructures}
@@ -33,14 +32,6 @@ pub record IsShort (bytes : List ℕ) : Type 0 where
   pub rest : List ℕ
   pub begins : bytes ≡ number ∷ told ∷ low ∷ high ∷ rest
   pub too_short : told < 4
-
--- the first of some numbers that is no string's
-pub record IsFirstMissing (strings : List (List ℕ)) (numbers : List ℕ) (number : ℕ) : Type 0 where
-  pub before : List ℕ
-  pub after : List ℕ
-  pub asked : numbers ≡ before ++ number ∷ after
-  pub there : AllByRecursion (λ n. string_of strings n ≢ None) before
-  pub missing : string_of strings number ≡ None
 
 -- The bytes begin with a structure of a known kind that names a string that it doesn't have. This is the number of the first, in
 -- the order of the structure's rows.

@@ -1,6 +1,5 @@
 pub mod Ends
 pub mod Faults
-pub mod Texts
 pub mod Kinds
 pub mod Found
 pub use Rattle.vt_bytes.specs.Numbers

@@ -6,10 +6,8 @@
 
 mod body;
 mod fault;
-mod fields;
 mod kind;
 pub mod laws;
-mod records;
 mod strings;
 mod structure;
 mod table;

@@ -6,10 +6,10 @@ ghost use Rattle.smbios_decode.specs.Found.{IsFound};
 
 use crate::body::read_body;
 use crate::fault::SmbiosFault;
-use crate::fields::TextFault;
 use crate::strings::read_strings;
 use smbios_model::{END_TYPE, Structure};
 use std::alloc::Global;
+use vt_layout::RecordFault;
 
 // The bytes of a structure's header (6.1.2).
 const HEADER_SIZE: usize = 4;
@@ -64,8 +64,10 @@ pub(crate) fn read_structure(alloc: Global, bytes: &[u8], place: u32) -> Result<
             size,
             is_last: header.number == END_TYPE,
         }),
-        Err(TextFault::NoSuchString(number)) => Err(SmbiosFault::NoSuchString { place, number }),
-        Err(TextFault::OutOfMemory) => Err(SmbiosFault::OutOfMemory),
+        Err(RecordFault::NoSuchString(number)) => Err(SmbiosFault::NoSuchString { place, number }),
+        Err(RecordFault::OutOfMemory) => Err(SmbiosFault::OutOfMemory),
+        // The area of a known kind is as long as its record.
+        Err(RecordFault::TooShort) => unreachable!(),
     }
 }
 

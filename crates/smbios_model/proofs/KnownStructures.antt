@@ -1,28 +1,31 @@
 -- What holds of each body of a known kind: a line for each.
-use Rattle.std.proofs.Common.{◌≡◌, ℕ, ◌+◌, Bool, true, false, List, [], ◌∷◌, length, Some, arith, refl, ap, sym, ◌∙◌}
-use Rattle.std.specs.List.{list_all, AllByRecursion}
-use Rattle.std.proofs.lemmas.Bool.{and_parts}
+use Rattle.std.proofs.Common.{◌≡◌, ℕ, ◌+◌, List, [], ◌∷◌, length, Some, arith, refl, ap, sym, ◌∙◌}
+use Rattle.std.specs.List.{AllByRecursion}
 use Rattle.vt_layout.specs.declared.row.Row.{Row}
-use Rattle.vt_layout.specs.declared.row.Row.TheVariants.{Pointer, Sum}
+use Rattle.vt_layout.specs.declared.value.Value.{Value}
 use Rattle.vt_layout.specs.Rows.{size, shape, string_numbers, IsPlain}
+use Rattle.vt_layout.specs.Fields.{Field, field_rows, field_texts}
+use Rattle.vt_layout.specs.Records.{IsLawful, kinds_of}
 use Rattle.smbios_model.specs.declared.smbios.Body.{Body}
 use Rattle.smbios_model.specs.declared.smbios.Body.TheVariants.{Bios, System, Chassis, Processor, Slot, OemStrings}
 use Rattle.smbios_model.specs.declared.smbios.Body.TheVariants.{Array, Device, Mapped, Boot, End, Raw}
 use Rattle.vt_layout.specs.Strings.{IsString, numbers_from}
 use Rattle.vt_layout.specs.Numbered.{numbered}
-use Rattle.smbios_model.specs.StructureKinds.{StructureLayout, kind_with_rows}
-use Rattle.smbios_model.specs.BiosInformation.{bios_rows, bios_in, bios_texts}
-use Rattle.smbios_model.specs.SystemInformation.{system_rows, system_in, system_texts}
-use Rattle.smbios_model.specs.ChassisInformation.{chassis_rows, chassis_in, chassis_texts}
-use Rattle.smbios_model.specs.ProcessorInformation.{processor_rows, processor_in, processor_texts}
-use Rattle.smbios_model.specs.SlotInformation.{slot_rows, slot_in, slot_texts}
+use Rattle.smbios_model.specs.StructureKinds.{StructureLayout, kind_with, layout_with}
+use Rattle.smbios_model.specs.BiosInformation.{bios_fields, bios_in}
+use Rattle.smbios_model.specs.SystemInformation.{system_fields, system_in}
+use Rattle.smbios_model.specs.ChassisInformation.{chassis_fields, chassis_in}
+use Rattle.smbios_model.specs.ProcessorInformation.{processor_fields, processor_in}
+use Rattle.smbios_model.specs.SlotInformation.{slot_fields, slot_in}
 use Rattle.smbios_model.specs.OemStrings.{counted_from}
-use Rattle.smbios_model.specs.MemoryArray.{array_rows, array_in}
-use Rattle.smbios_model.specs.MemoryDevice.{device_rows, device_in, device_texts}
-use Rattle.smbios_model.specs.MappedAddress.{mapped_rows, mapped_in}
-use Rattle.smbios_model.specs.BootInformation.{boot_rows, boot_in}
+use Rattle.smbios_model.specs.MemoryArray.{array_fields, array_in}
+use Rattle.smbios_model.specs.MemoryDevice.{device_fields, device_in}
+use Rattle.smbios_model.specs.MappedAddress.{mapped_fields, mapped_in}
+use Rattle.smbios_model.specs.BootInformation.{boot_fields, boot_in}
 use Rattle.smbios_model.specs.Structures.{kind_for, layout_of}
-use Rattle.vt_layout.proofs.NumberedRows.{string_numbers-numbered}
+use Rattle.vt_layout.proofs.NumberedRows.{string_numbers-numbered, shape-numbered}
+use Rattle.vt_layout.proofs.ReadableFields.{all_readable}
+use Rattle.vt_layout.proofs.WrittenRecords.{all_fields, values_back}
 use Rattle.vt_layout.proofs.NamedTexts.{numbers_from-next, length-numbers_from}
 
 -- Its kind is that of its type and of the length of its area, its rows have the shape of the kind and stand as they are written, and with
@@ -33,24 +36,6 @@ pub record IsKnownBody (body : Body) (l : StructureLayout) : Type 0 where
   pub plain : AllByRecursion IsPlain l.rows
   pub back : (numbers : List ℕ) → l.kind.body (numbered numbers l.rows) l.texts ≡ body
   pub named : l.kind.named (numbered (numbers_from 1 l.texts) l.rows) ≡ numbers_from 1 l.texts
-
--- the test of rows that are plain
-is_plain : Row → Bool
-is_plain (Pointer width target offset) = false
-is_plain (Sum covers) = false
-is_plain row = true
-
-plain_row : (row : Row) → is_plain row ≡ true → IsPlain row
-unfolding is_plain
-plain_row (Pointer width target offset) is = absurd (cc)
-plain_row (Sum covers) is = absurd (cc)
-plain_row row is = tt
-
-plain_rows : (rows : List Row) → list_all is_plain rows ≡ true → AllByRecursion IsPlain rows
-plain_rows [] are = tt
-plain_rows (row ∷ rows) are =
-    let parts = and_parts (is_plain row) (list_all is_plain rows) are in
-    (plain_row row parts.0, plain_rows rows parts.1)
 
 -- as many rows for numbers as there are texts name these
 names : (texts : List (List ℕ)) (rows : List Row) → length (string_numbers rows) ≡ length texts
@@ -70,34 +55,32 @@ IsOfKind (Raw number area strings) = ⊥
 IsOfKind (OemStrings texts) = AllByRecursion IsString texts
 IsOfKind body = Unit {0}
 
--- a kind in whose rows the numbers of its strings stand
-with_rows : {Info : Type 0} (number : ℕ) (rows_of : Info → List Row) (info_of : List Row → List (List ℕ) → Info) (body_of : Info → Body)
-    (texts_of : Info → List (List ℕ)) (i : Info)
-    → kind_for number (size (shape (rows_of (info_of [] [])))) ≡ Some (kind_with_rows number rows_of info_of body_of)
-    → shape (rows_of i) ≡ shape (rows_of (info_of [] [])) → list_all is_plain (rows_of i) ≡ true
-    → ((numbers : List ℕ) → body_of (info_of (numbered numbers (rows_of i)) (texts_of i)) ≡ body_of i)
-    → length (string_numbers (rows_of i)) ≡ length (texts_of i)
-    → IsKnownBody (body_of i) (record { kind = kind_with_rows number rows_of info_of body_of; rows = rows_of i; texts = texts_of i })
-with_rows number rows_of info_of body_of texts_of i listed shaped plain back long = record {
-  listed = listed;
-  shaped = shaped;
-  plain = plain_rows (rows_of i) plain;
-  back = back;
-  named = names (texts_of i) (rows_of i) long;
-}
+-- a kind of records
+known_record : {Info : Type 0} (count number : ℕ) (fields : Info → List Field) (made : List Value → Info) (body_of : Info → Body) (i : Info)
+    → IsLawful count fields made i (made [])
+    → kind_for number (size (shape (kinds_of fields made))) ≡ Some (kind_with number fields made body_of)
+    → IsKnownBody (body_of i) (layout_with (kind_with number fields made body_of) (fields i))
+known_record count number fields made body_of i lawful listed =
+    let are = all_fields (fields i) (all_readable (fields i) lawful.readable) in
+    record {
+      listed = listed;
+      shaped = lawful.shaped ∙ sym (shape-numbered (numbers_from 1 (field_texts (fields (made [])))) (field_rows (fields (made []))));
+      plain = are.plain;
+      back = λ numbers. ap body_of (values_back count fields made i (made []) lawful numbers);
+      named = names (field_texts (fields i)) (field_rows (fields i)) are.counted;
+    }
 
 pub is_known : (body : Body) → IsOfKind body → IsKnownBody body (layout_of body)
-unfolding is_plain
-is_known (Bios i) known = with_rows 0 bios_rows bios_in Bios bios_texts i refl refl refl (λ numbers. refl) refl
-is_known (System i) known = with_rows 1 system_rows system_in System system_texts i refl refl refl (λ numbers. refl) refl
-is_known (Chassis i) known = with_rows 3 chassis_rows chassis_in Chassis chassis_texts i refl refl refl (λ numbers. refl) refl
-is_known (Processor i) known = with_rows 4 processor_rows processor_in Processor processor_texts i refl refl refl (λ numbers. refl) refl
-is_known (Slot i) known = with_rows 9 slot_rows slot_in Slot slot_texts i refl refl refl (λ numbers. refl) refl
+is_known (Bios i) known = known_record 12 0 bios_fields bios_in Bios i (record { back = refl; shaped = refl; counted = refl; readable = refl }) refl
+is_known (System i) known = known_record 8 1 system_fields system_in System i (record { back = refl; shaped = refl; counted = refl; readable = refl }) refl
+is_known (Chassis i) known = known_record 15 3 chassis_fields chassis_in Chassis i (record { back = refl; shaped = refl; counted = refl; readable = refl }) refl
+is_known (Processor i) known = known_record 26 4 processor_fields processor_in Processor i (record { back = refl; shaped = refl; counted = refl; readable = refl }) refl
+is_known (Slot i) known = known_record 11 9 slot_fields slot_in Slot i (record { back = refl; shaped = refl; counted = refl; readable = refl }) refl
 is_known (OemStrings texts) known =
     record { listed = refl; shaped = refl; plain = (tt, tt); back = λ numbers. refl; named = counted_texts 1 texts known }
-is_known (Array i) known = with_rows 16 array_rows array_in Array (λ info. []) i refl refl refl (λ numbers. refl) refl
-is_known (Device i) known = with_rows 17 device_rows device_in Device device_texts i refl refl refl (λ numbers. refl) refl
-is_known (Mapped i) known = with_rows 19 mapped_rows mapped_in Mapped (λ info. []) i refl refl refl (λ numbers. refl) refl
-is_known (Boot i) known = with_rows 32 boot_rows boot_in Boot (λ info. []) i refl refl refl (λ numbers. refl) refl
+is_known (Array i) known = known_record 7 16 array_fields array_in Array i (record { back = refl; shaped = refl; counted = refl; readable = refl }) refl
+is_known (Device i) known = known_record 22 17 device_fields device_in Device i (record { back = refl; shaped = refl; counted = refl; readable = refl }) refl
+is_known (Mapped i) known = known_record 6 19 mapped_fields mapped_in Mapped i (record { back = refl; shaped = refl; counted = refl; readable = refl }) refl
+is_known (Boot i) known = known_record 2 32 boot_fields boot_in Boot i (record { back = refl; shaped = refl; counted = refl; readable = refl }) refl
 is_known End known = record { listed = refl; shaped = refl; plain = tt; back = λ numbers. refl; named = refl }
 is_known (Raw number area strings) known = absurd known

@@ -8,6 +8,8 @@ pub mod WrittenAreas
 pub mod KnownStructures
 pub mod WrittenBodies
 pub mod PushedParts
-pub mod AcceptedParts
+pub mod LawfulBodies
+pub mod LawfulParts
 pub mod PartsByType
-pub mod SameParts
+pub mod GotBack
+pub mod WayBack

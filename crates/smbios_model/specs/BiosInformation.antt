@@ -1,43 +1,41 @@
 -- BIOS Information, type 0 (DMTF DSP0134, version 3.0.0, 7.1).
-use Rattle.std.specs.Prelude.{ℕ, List, [], ◌∷◌}
-use Rattle.vt_layout.specs.declared.row.Row.{Row}
-use Rattle.vt_layout.specs.declared.row.Row.TheVariants.{Number, StringNumber}
-use Rattle.vt_layout.specs.Rows.{number}
+use Rattle.std.specs.Prelude.{List, [], ◌∷◌}
+use Rattle.vt_layout.specs.declared.value.Value.{Value}
+use Rattle.vt_layout.specs.Values.{value_at, byte_of, word_of, qword_of, text_of}
+use Rattle.vt_layout.specs.Fields.{Field, Text, byte, word, qword}
 use Rattle.machine_desc.specs.declared.smbios_parts.Firmware.{Firmware}
 use Rattle.smbios_model.specs.declared.bios_information.BiosInfo.{BiosInfo}
 use Rattle.smbios_model.specs.declared.smbios.Body.TheVariants.{Bios}
-use Rattle.vt_layout.specs.Strings.{text_at}
-use Rattle.smbios_model.specs.StructureKinds.{StructureKind, StructureLayout, kind_with_rows}
+use Rattle.smbios_model.specs.StructureKinds.{StructureKind, StructureLayout, kind_with, layout_with}
 
-abbrev pub bios_texts : BiosInfo → List (List ℕ)
-bios_texts i = i.vendor ∷ i.version ∷ i.date ∷ []
+-- what it says in the rows of its area behind the structure's header
+abbrev pub bios_fields : BiosInfo → List Field
+bios_fields i =
+    Text i.vendor ∷ Text i.version ∷ word i.segment ∷ Text i.date ∷ byte i.rom_size ∷ qword i.characteristics ∷ byte i.ext1 ∷ byte i.ext2
+    ∷ byte i.major ∷ byte i.minor ∷ byte i.ec_major ∷ byte i.ec_minor ∷ []
 
-abbrev pub bios_rows : BiosInfo → List Row
-bios_rows i =
-    StringNumber 0 ∷ StringNumber 0 ∷ Number 2 i.segment ∷ StringNumber 0 ∷ Number 1 i.rom_size ∷ Number 8 i.characteristics ∷ Number 1 i.ext1
-    ∷ Number 1 i.ext2 ∷ Number 1 i.major ∷ Number 1 i.minor ∷ Number 1 i.ec_major ∷ Number 1 i.ec_minor ∷ []
-
-abbrev pub bios_in : List Row → List (List ℕ) → BiosInfo
-bios_in rows texts = record {
-  vendor = text_at 0 texts;
-  version = text_at 1 texts;
-  segment = number 2 rows;
-  date = text_at 2 texts;
-  rom_size = number 4 rows;
-  characteristics = number 5 rows;
-  ext1 = number 6 rows;
-  ext2 = number 7 rows;
-  major = number 8 rows;
-  minor = number 9 rows;
-  ec_major = number 10 rows;
-  ec_minor = number 11 rows;
+-- the record of the values of these rows
+abbrev pub bios_in : List Value → BiosInfo
+bios_in values = record {
+  vendor = text_of (value_at 0 values);
+  version = text_of (value_at 1 values);
+  segment = word_of (value_at 2 values);
+  date = text_of (value_at 3 values);
+  rom_size = byte_of (value_at 4 values);
+  characteristics = qword_of (value_at 5 values);
+  ext1 = byte_of (value_at 6 values);
+  ext2 = byte_of (value_at 7 values);
+  major = byte_of (value_at 8 values);
+  minor = byte_of (value_at 9 values);
+  ec_major = byte_of (value_at 10 values);
+  ec_minor = byte_of (value_at 11 values);
 }
 
 abbrev pub bios_kind : StructureKind
-bios_kind = kind_with_rows 0 bios_rows bios_in Bios
+bios_kind = kind_with 0 bios_fields bios_in Bios
 
 abbrev pub bios_layout : BiosInfo → StructureLayout
-bios_layout i = record { kind = bios_kind; rows = bios_rows i; texts = bios_texts i }
+bios_layout i = layout_with bios_kind (bios_fields i)
 
 -- what a machine's firmware is written as: in the segment 0xE800, and in a virtual machine
 abbrev pub bios_of : Firmware → BiosInfo
@@ -55,3 +53,7 @@ bios_of f = record {
   ec_major = 0xFF;
   ec_minor = 0xFF;
 }
+
+-- the way back: the firmware that BIOS Information tells
+abbrev pub firmware_in : BiosInfo → Firmware
+firmware_in i = record { vendor = i.vendor; version = i.version; date = i.date; major = i.major; minor = i.minor }

@@ -1,34 +1,37 @@
 -- Memory Array Mapped Address, type 19 (DMTF DSP0134, version 3.0.0, 7.20).
-use Rattle.std.specs.Prelude.{ℕ, ◌-◌, ◌*◌, List, [], ◌∷◌, nat_lt, if◌then◌else◌}
-use Rattle.vt_layout.specs.declared.row.Row.{Row}
-use Rattle.vt_layout.specs.declared.row.Row.TheVariants.{Number}
-use Rattle.vt_layout.specs.Rows.{number}
+use Rattle.std.specs.Prelude.{ℕ, ◌+◌, ◌-◌, ◌*◌, ◌/◌, List, [], ◌∷◌, nat_lt, ◌==◌, if◌then◌else◌}
+use Rattle.vt_layout.specs.declared.value.Value.{Value}
+use Rattle.vt_layout.specs.Values.{value_at, byte_of, word_of, dword_of, qword_of}
+use Rattle.vt_layout.specs.Fields.{Field, byte, word, dword, qword}
 use Rattle.machine_desc.specs.declared.smbios_parts.MemRange.{MemRange}
 use Rattle.machine_desc.specs.Rules.{end_of}
+use Rattle.machine_desc.specs.Fields.{fitted}
 use Rattle.smbios_model.specs.declared.mapped_address.MappedInfo.{MappedInfo}
 use Rattle.smbios_model.specs.declared.smbios.Body.TheVariants.{Mapped}
 use Rattle.smbios_model.specs.MemoryArray.{array_handle}
-use Rattle.smbios_model.specs.StructureKinds.{StructureKind, StructureLayout, kind_with_rows}
+use Rattle.smbios_model.specs.StructureKinds.{StructureKind, StructureLayout, kind_with, layout_with}
 
-abbrev pub mapped_rows : MappedInfo → List Row
-mapped_rows i =
-    Number 4 i.start ∷ Number 4 i.end ∷ Number 2 i.array ∷ Number 1 i.width ∷ Number 8 i.ext_start ∷ Number 8 i.ext_end ∷ []
+-- what it says in the rows of its area behind the structure's header
+abbrev pub mapped_fields : MappedInfo → List Field
+mapped_fields i =
+    dword i.start ∷ dword i.end ∷ word i.array ∷ byte i.width ∷ qword i.ext_start ∷ qword i.ext_end ∷ []
 
-abbrev pub mapped_in : List Row → List (List ℕ) → MappedInfo
-mapped_in rows texts = record {
-  start = number 0 rows;
-  end = number 1 rows;
-  array = number 2 rows;
-  width = number 3 rows;
-  ext_start = number 4 rows;
-  ext_end = number 5 rows;
+-- the record of the values of these rows
+abbrev pub mapped_in : List Value → MappedInfo
+mapped_in values = record {
+  start = dword_of (value_at 0 values);
+  end = dword_of (value_at 1 values);
+  array = word_of (value_at 2 values);
+  width = byte_of (value_at 3 values);
+  ext_start = qword_of (value_at 4 values);
+  ext_end = qword_of (value_at 5 values);
 }
 
 abbrev pub mapped_kind : StructureKind
-mapped_kind = kind_with_rows 19 mapped_rows mapped_in Mapped
+mapped_kind = kind_with 19 mapped_fields mapped_in Mapped
 
 abbrev pub mapped_layout : MappedInfo → StructureLayout
-mapped_layout i = record { kind = mapped_kind; rows = mapped_rows i; texts = [] }
+mapped_layout i = layout_with mapped_kind (mapped_fields i)
 
 -- A range from one MiB to the end before another, in KiB: the first one and the last one.
 abbrev pub in_kib : ℕ → ℕ → MappedInfo
@@ -49,3 +52,13 @@ in_bytes base end = record {
 -- what a machine's range is written as, in the machine's array: in the extended fields where its last KiB isn't below 0xFFFFFFFF
 abbrev pub mapped_of : MemRange → MappedInfo
 mapped_of r = if nat_lt (end_of r * 1024 - 1) 0xFFFFFFFF then in_kib r.base_mib (end_of r) else in_bytes r.base_mib (end_of r)
+
+-- The way back. A range is told by its first number and its last one, in a unit that so many of make a MiB. Both of its numbers in MiB are
+-- rounded down, the size once the first number is taken from the last one; one that doesn't fit 32 bits is 0. No node is told.
+abbrev pub told_in : ℕ → ℕ → ℕ → MemRange
+told_in unit first last =
+    record { base_mib = fitted 32 (first / unit); size_mib = fitted 32 ((last - first + 1) / unit); node = 0 }
+
+-- the range that a mapped address tells: in the extended fields, where the first one says so
+abbrev pub range_in : MappedInfo → MemRange
+range_in i = if i.start == 0xFFFFFFFF then told_in 0x100000 i.ext_start i.ext_end else told_in 1024 i.start i.end

@@ -1,35 +1,36 @@
 -- Physical Memory Array, type 16 (DMTF DSP0134, version 3.0.0, 7.17).
 use Rattle.std.specs.Prelude.{ℕ, ◌*◌, List, [], ◌∷◌, length, nat_lt, if◌then◌else◌}
 use Rattle.std.specs.List.{sum_by}
-use Rattle.vt_layout.specs.declared.row.Row.{Row}
-use Rattle.vt_layout.specs.declared.row.Row.TheVariants.{Number}
-use Rattle.vt_layout.specs.Rows.{number}
+use Rattle.vt_layout.specs.declared.value.Value.{Value}
+use Rattle.vt_layout.specs.Values.{value_at, byte_of, word_of, dword_of, qword_of}
+use Rattle.vt_layout.specs.Fields.{Field, byte, word, dword, qword}
 use Rattle.machine_desc.specs.declared.smbios_parts.Dimm.{Dimm}
 use Rattle.smbios_model.specs.declared.memory_array.ArrayInfo.{ArrayInfo}
 use Rattle.smbios_model.specs.declared.smbios.Body.TheVariants.{Array}
-use Rattle.smbios_model.specs.StructureKinds.{StructureKind, StructureLayout, kind_with_rows}
+use Rattle.smbios_model.specs.StructureKinds.{StructureKind, StructureLayout, kind_with, layout_with}
 
-abbrev pub array_rows : ArrayInfo → List Row
-array_rows i =
-    Number 1 i.location ∷ Number 1 i.purpose ∷ Number 1 i.correction ∷ Number 4 i.capacity ∷ Number 2 i.error ∷ Number 2 i.devices
-    ∷ Number 8 i.extended ∷ []
+-- what it says in the rows of its area behind the structure's header
+abbrev pub array_fields : ArrayInfo → List Field
+array_fields i =
+    byte i.location ∷ byte i.purpose ∷ byte i.correction ∷ dword i.capacity ∷ word i.error ∷ word i.devices ∷ qword i.extended ∷ []
 
-abbrev pub array_in : List Row → List (List ℕ) → ArrayInfo
-array_in rows texts = record {
-  location = number 0 rows;
-  purpose = number 1 rows;
-  correction = number 2 rows;
-  capacity = number 3 rows;
-  error = number 4 rows;
-  devices = number 5 rows;
-  extended = number 6 rows;
+-- the record of the values of these rows
+abbrev pub array_in : List Value → ArrayInfo
+array_in values = record {
+  location = byte_of (value_at 0 values);
+  purpose = byte_of (value_at 1 values);
+  correction = byte_of (value_at 2 values);
+  capacity = dword_of (value_at 3 values);
+  error = word_of (value_at 4 values);
+  devices = word_of (value_at 5 values);
+  extended = qword_of (value_at 6 values);
 }
 
 abbrev pub array_kind : StructureKind
-array_kind = kind_with_rows 16 array_rows array_in Array
+array_kind = kind_with 16 array_fields array_in Array
 
 abbrev pub array_layout : ArrayInfo → StructureLayout
-array_layout i = record { kind = array_kind; rows = array_rows i; texts = [] }
+array_layout i = layout_with array_kind (array_fields i)
 
 -- the handle of a machine's array, by which its devices and its mapped addresses name it
 abbrev pub array_handle : ℕ

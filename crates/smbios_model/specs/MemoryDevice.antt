@@ -1,56 +1,53 @@
 -- Memory Device, type 17 (DMTF DSP0134, version 3.0.0, 7.18).
-use Rattle.std.specs.Prelude.{ℕ, List, [], ◌∷◌, nat_lt, if◌then◌else◌}
-use Rattle.vt_layout.specs.declared.row.Row.{Row}
-use Rattle.vt_layout.specs.declared.row.Row.TheVariants.{Number, StringNumber}
-use Rattle.vt_layout.specs.Rows.{number}
+use Rattle.std.specs.Prelude.{ℕ, List, [], ◌∷◌, nat_lt, ◌==◌, if◌then◌else◌}
+use Rattle.vt_layout.specs.declared.value.Value.{Value}
+use Rattle.vt_layout.specs.Values.{value_at, byte_of, word_of, dword_of, text_of}
+use Rattle.vt_layout.specs.Fields.{Field, Text, byte, word, dword}
 use Rattle.machine_desc.specs.declared.smbios_parts.Dimm.{Dimm}
 use Rattle.smbios_model.specs.declared.memory_device.DeviceInfo.{DeviceInfo}
 use Rattle.smbios_model.specs.declared.smbios.Body.TheVariants.{Device}
-use Rattle.vt_layout.specs.Strings.{text_at}
 use Rattle.smbios_model.specs.MemoryArray.{array_handle}
-use Rattle.smbios_model.specs.StructureKinds.{StructureKind, StructureLayout, kind_with_rows}
+use Rattle.smbios_model.specs.StructureKinds.{StructureKind, StructureLayout, kind_with, layout_with}
 
-abbrev pub device_texts : DeviceInfo → List (List ℕ)
-device_texts i = i.locator ∷ i.bank ∷ i.manufacturer ∷ i.serial ∷ i.asset ∷ i.part ∷ []
+-- what it says in the rows of its area behind the structure's header
+abbrev pub device_fields : DeviceInfo → List Field
+device_fields i =
+    word i.array ∷ word i.error ∷ word i.total_width ∷ word i.data_width ∷ word i.size ∷ byte i.form ∷ byte i.set ∷ Text i.locator ∷ Text i.bank
+    ∷ byte i.kind ∷ word i.detail ∷ word i.speed ∷ Text i.manufacturer ∷ Text i.serial ∷ Text i.asset ∷ Text i.part ∷ byte i.attributes
+    ∷ dword i.extended ∷ word i.configured ∷ word i.min_voltage ∷ word i.max_voltage ∷ word i.voltage ∷ []
 
-abbrev pub device_rows : DeviceInfo → List Row
-device_rows i =
-    Number 2 i.array ∷ Number 2 i.error ∷ Number 2 i.total_width ∷ Number 2 i.data_width ∷ Number 2 i.size ∷ Number 1 i.form ∷ Number 1 i.set
-    ∷ StringNumber 0 ∷ StringNumber 0 ∷ Number 1 i.kind ∷ Number 2 i.detail ∷ Number 2 i.speed ∷ StringNumber 0 ∷ StringNumber 0
-    ∷ StringNumber 0 ∷ StringNumber 0 ∷ Number 1 i.attributes ∷ Number 4 i.extended ∷ Number 2 i.configured ∷ Number 2 i.min_voltage
-    ∷ Number 2 i.max_voltage ∷ Number 2 i.voltage ∷ []
-
-abbrev pub device_in : List Row → List (List ℕ) → DeviceInfo
-device_in rows texts = record {
-  array = number 0 rows;
-  error = number 1 rows;
-  total_width = number 2 rows;
-  data_width = number 3 rows;
-  size = number 4 rows;
-  form = number 5 rows;
-  set = number 6 rows;
-  locator = text_at 0 texts;
-  bank = text_at 1 texts;
-  kind = number 9 rows;
-  detail = number 10 rows;
-  speed = number 11 rows;
-  manufacturer = text_at 2 texts;
-  serial = text_at 3 texts;
-  asset = text_at 4 texts;
-  part = text_at 5 texts;
-  attributes = number 16 rows;
-  extended = number 17 rows;
-  configured = number 18 rows;
-  min_voltage = number 19 rows;
-  max_voltage = number 20 rows;
-  voltage = number 21 rows;
+-- the record of the values of these rows
+abbrev pub device_in : List Value → DeviceInfo
+device_in values = record {
+  array = word_of (value_at 0 values);
+  error = word_of (value_at 1 values);
+  total_width = word_of (value_at 2 values);
+  data_width = word_of (value_at 3 values);
+  size = word_of (value_at 4 values);
+  form = byte_of (value_at 5 values);
+  set = byte_of (value_at 6 values);
+  locator = text_of (value_at 7 values);
+  bank = text_of (value_at 8 values);
+  kind = byte_of (value_at 9 values);
+  detail = word_of (value_at 10 values);
+  speed = word_of (value_at 11 values);
+  manufacturer = text_of (value_at 12 values);
+  serial = text_of (value_at 13 values);
+  asset = text_of (value_at 14 values);
+  part = text_of (value_at 15 values);
+  attributes = byte_of (value_at 16 values);
+  extended = dword_of (value_at 17 values);
+  configured = word_of (value_at 18 values);
+  min_voltage = word_of (value_at 19 values);
+  max_voltage = word_of (value_at 20 values);
+  voltage = word_of (value_at 21 values);
 }
 
 abbrev pub device_kind : StructureKind
-device_kind = kind_with_rows 17 device_rows device_in Device
+device_kind = kind_with 17 device_fields device_in Device
 
 abbrev pub device_layout : DeviceInfo → StructureLayout
-device_layout i = record { kind = device_kind; rows = device_rows i; texts = device_texts i }
+device_layout i = layout_with device_kind (device_fields i)
 
 -- A size in MiB, which the second field tells from 32,767 on (7.18.4).
 abbrev pub size_field : ℕ → ℕ
@@ -84,4 +81,21 @@ device_of d = record {
   min_voltage = 0;
   max_voltage = 0;
   voltage = 0;
+}
+
+-- the way back: the size in MiB, which the second field tells where the first one says so
+abbrev pub mib_in : ℕ → ℕ → ℕ
+mib_in size extended = if size == 0x7FFF then extended else size
+
+-- the module that a Memory Device tells
+abbrev pub dimm_in : DeviceInfo → Dimm
+dimm_in i = record {
+  locator = i.locator;
+  bank = i.bank;
+  manufacturer = i.manufacturer;
+  serial = i.serial;
+  asset = i.asset;
+  part = i.part;
+  size_mib = mib_in i.size i.extended;
+  speed = i.speed;
 }

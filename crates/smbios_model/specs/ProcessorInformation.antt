@@ -1,59 +1,57 @@
 -- Processor Information, type 4 (DMTF DSP0134, version 3.0.0, 7.5).
 use Rattle.std.specs.Prelude.{ℕ, List, [], ◌∷◌, min}
-use Rattle.vt_layout.specs.declared.row.Row.{Row}
-use Rattle.vt_layout.specs.declared.row.Row.TheVariants.{Number, StringNumber}
-use Rattle.vt_layout.specs.Rows.{number}
+use Rattle.vt_layout.specs.declared.value.Value.{Value}
+use Rattle.vt_layout.specs.Values.{value_at, byte_of, word_of, qword_of, text_of}
+use Rattle.vt_layout.specs.Fields.{Field, Text, byte, word, qword}
 use Rattle.machine_desc.specs.declared.smbios_parts.Socket.{Socket}
 use Rattle.smbios_model.specs.declared.processor_information.ProcessorInfo.{ProcessorInfo}
 use Rattle.smbios_model.specs.declared.smbios.Body.TheVariants.{Processor}
-use Rattle.vt_layout.specs.Strings.{text_at}
-use Rattle.smbios_model.specs.StructureKinds.{StructureKind, StructureLayout, kind_with_rows}
+use Rattle.smbios_model.specs.StructureKinds.{StructureKind, StructureLayout, kind_with, layout_with}
 
-abbrev pub processor_texts : ProcessorInfo → List (List ℕ)
-processor_texts i = i.designation ∷ i.manufacturer ∷ i.version ∷ i.serial ∷ i.asset ∷ i.part ∷ []
+-- what it says in the rows of its area behind the structure's header
+abbrev pub processor_fields : ProcessorInfo → List Field
+processor_fields i =
+    Text i.designation ∷ byte i.kind ∷ byte i.family ∷ Text i.manufacturer ∷ qword i.id ∷ Text i.version ∷ byte i.voltage ∷ word i.clock
+    ∷ word i.max_speed ∷ word i.speed ∷ byte i.status ∷ byte i.upgrade ∷ word i.l1 ∷ word i.l2 ∷ word i.l3 ∷ Text i.serial ∷ Text i.asset
+    ∷ Text i.part ∷ byte i.cores ∷ byte i.enabled ∷ byte i.threads ∷ word i.characteristics ∷ word i.family2 ∷ word i.cores2 ∷ word i.enabled2
+    ∷ word i.threads2 ∷ []
 
-abbrev pub processor_rows : ProcessorInfo → List Row
-processor_rows i =
-    StringNumber 0 ∷ Number 1 i.kind ∷ Number 1 i.family ∷ StringNumber 0 ∷ Number 8 i.id ∷ StringNumber 0 ∷ Number 1 i.voltage ∷ Number 2 i.clock
-    ∷ Number 2 i.max_speed ∷ Number 2 i.speed ∷ Number 1 i.status ∷ Number 1 i.upgrade ∷ Number 2 i.l1 ∷ Number 2 i.l2 ∷ Number 2 i.l3
-    ∷ StringNumber 0 ∷ StringNumber 0 ∷ StringNumber 0 ∷ Number 1 i.cores ∷ Number 1 i.enabled ∷ Number 1 i.threads ∷ Number 2 i.characteristics
-    ∷ Number 2 i.family2 ∷ Number 2 i.cores2 ∷ Number 2 i.enabled2 ∷ Number 2 i.threads2 ∷ []
-
-abbrev pub processor_in : List Row → List (List ℕ) → ProcessorInfo
-processor_in rows texts = record {
-  designation = text_at 0 texts;
-  kind = number 1 rows;
-  family = number 2 rows;
-  manufacturer = text_at 1 texts;
-  id = number 4 rows;
-  version = text_at 2 texts;
-  voltage = number 6 rows;
-  clock = number 7 rows;
-  max_speed = number 8 rows;
-  speed = number 9 rows;
-  status = number 10 rows;
-  upgrade = number 11 rows;
-  l1 = number 12 rows;
-  l2 = number 13 rows;
-  l3 = number 14 rows;
-  serial = text_at 3 texts;
-  asset = text_at 4 texts;
-  part = text_at 5 texts;
-  cores = number 18 rows;
-  enabled = number 19 rows;
-  threads = number 20 rows;
-  characteristics = number 21 rows;
-  family2 = number 22 rows;
-  cores2 = number 23 rows;
-  enabled2 = number 24 rows;
-  threads2 = number 25 rows;
+-- the record of the values of these rows
+abbrev pub processor_in : List Value → ProcessorInfo
+processor_in values = record {
+  designation = text_of (value_at 0 values);
+  kind = byte_of (value_at 1 values);
+  family = byte_of (value_at 2 values);
+  manufacturer = text_of (value_at 3 values);
+  id = qword_of (value_at 4 values);
+  version = text_of (value_at 5 values);
+  voltage = byte_of (value_at 6 values);
+  clock = word_of (value_at 7 values);
+  max_speed = word_of (value_at 8 values);
+  speed = word_of (value_at 9 values);
+  status = byte_of (value_at 10 values);
+  upgrade = byte_of (value_at 11 values);
+  l1 = word_of (value_at 12 values);
+  l2 = word_of (value_at 13 values);
+  l3 = word_of (value_at 14 values);
+  serial = text_of (value_at 15 values);
+  asset = text_of (value_at 16 values);
+  part = text_of (value_at 17 values);
+  cores = byte_of (value_at 18 values);
+  enabled = byte_of (value_at 19 values);
+  threads = byte_of (value_at 20 values);
+  characteristics = word_of (value_at 21 values);
+  family2 = word_of (value_at 22 values);
+  cores2 = word_of (value_at 23 values);
+  enabled2 = word_of (value_at 24 values);
+  threads2 = word_of (value_at 25 values);
 }
 
 abbrev pub processor_kind : StructureKind
-processor_kind = kind_with_rows 4 processor_rows processor_in Processor
+processor_kind = kind_with 4 processor_fields processor_in Processor
 
 abbrev pub processor_layout : ProcessorInfo → StructureLayout
-processor_layout i = record { kind = processor_kind; rows = processor_rows i; texts = processor_texts i }
+processor_layout i = layout_with processor_kind (processor_fields i)
 
 -- the byte of a count, which stands whole in the word; from 255 on the byte is 0xFF (7.5.6 to 7.5.8)
 abbrev pub count_byte : ℕ → ℕ
@@ -88,4 +86,18 @@ processor_of s = record {
   cores2 = s.cores;
   enabled2 = s.cores;
   threads2 = s.threads;
+}
+
+-- The way back: the socket that Processor Information tells. The words tell the counts whole.
+abbrev pub socket_in : ProcessorInfo → Socket
+socket_in i = record {
+  designation = i.designation;
+  manufacturer = i.manufacturer;
+  version = i.version;
+  serial = i.serial;
+  asset = i.asset;
+  part = i.part;
+  cores = i.cores2;
+  threads = i.threads2;
+  mhz = i.max_speed;
 }

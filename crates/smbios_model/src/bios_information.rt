@@ -1,12 +1,9 @@
-ghost use Rattle.std.specs.Prelude.{◌≡◌, map, IfOk};
-ghost use Rattle.std.specs.List.{AllByRecursion};
-ghost use Rattle.vt_layout.specs.Rows.{IsRow};
-ghost use Rattle.smbios_model.specs.BiosInformation.{bios_rows, bios_texts, bios_of};
+ghost use Rattle.std.specs.Prelude.{◌≡◌, IfOk, refl};
+ghost use Rattle.smbios_model.specs.BiosInformation.{bios_fields, bios_in, bios_of};
 
-use crate::fields::{byte, qword, string, word};
 use crate::texts::three_copies_of;
 use machine_desc::Firmware;
-use vt_layout::Row;
+use vt_layout::{Laid, RowList, Values};
 use vt_outside::{OutOfMemory, Text};
 
 /// BIOS Information (DSP0134 7.1). An empty text is no text.
@@ -38,32 +35,48 @@ pub struct BiosInfo {
     pub ec_minor: u8,
 }
 
-/// Returns the rows of the area of `info` behind its header (DSP0134 7.1), with 0 for the number of each string.
-pub fn bios_rows(info: &BiosInfo) -> [Row; 12]
-    ensures rows { result ≡ bios_rows info.now }
-    ensures fit { AllByRecursion IsRow result }
-{
-    [
-        string(),
-        string(),
-        word(info.segment),
-        string(),
-        byte(info.rom_size),
-        qword(info.characteristics),
-        byte(info.ext1),
-        byte(info.ext2),
-        byte(info.major),
-        byte(info.minor),
-        byte(info.ec_major),
-        byte(info.ec_minor),
-    ]
-}
+impl Laid for BiosInfo {
+    const ROWS: u8 = 12;
 
-/// Returns the texts of `info`, in the order of the rows of their numbers.
-pub fn bios_texts(info: &BiosInfo) -> [&Text; 3]
-    ensures { map (λ text. text.now) result ≡ bios_texts info.now }
-{
-    [&info.vendor, &info.version, &info.date]
+    ghost ROWS = { 12 };
+
+    ghost fields = { bios_fields };
+
+    ghost made = { bios_in };
+
+    ghost lawful = { λ t u. record { back = refl; shaped = refl; counted = refl; readable = refl } };
+
+    fn put<'a>(&'a self, rows: &mut RowList<'a>) {
+        rows.text(&self.vendor);
+        rows.text(&self.version);
+        rows.word(self.segment);
+        rows.text(&self.date);
+        rows.byte(self.rom_size);
+        rows.qword(self.characteristics);
+        rows.byte(self.ext1);
+        rows.byte(self.ext2);
+        rows.byte(self.major);
+        rows.byte(self.minor);
+        rows.byte(self.ec_major);
+        rows.byte(self.ec_minor);
+    }
+
+    fn take(values: &mut Values) -> BiosInfo {
+        BiosInfo {
+            vendor: values.take_text(),
+            version: values.take_text(),
+            segment: values.take_word(),
+            date: values.take_text(),
+            rom_size: values.take_byte(),
+            characteristics: values.take_qword(),
+            ext1: values.take_byte(),
+            ext2: values.take_byte(),
+            major: values.take_byte(),
+            minor: values.take_byte(),
+            ec_major: values.take_byte(),
+            ec_minor: values.take_byte(),
+        }
+    }
 }
 
 /// Returns the BIOS Information of a machine's `firmware`, with copies of its texts. It lies in the segment 0xE800, and tells of

@@ -1,10 +1,7 @@
-ghost use Rattle.std.specs.Prelude.{◌≡◌};
-ghost use Rattle.std.specs.List.{AllByRecursion};
-ghost use Rattle.vt_layout.specs.Rows.{IsRow};
-ghost use Rattle.smbios_model.specs.BootInformation.{boot_rows, boot_info};
+ghost use Rattle.std.specs.Prelude.{◌≡◌, refl};
+ghost use Rattle.smbios_model.specs.BootInformation.{boot_fields, boot_in, boot_info};
 
-use crate::fields::byte;
-use vt_layout::Row;
+use vt_layout::{Laid, RowList, Values};
 
 /// System Boot Information (DSP0134 7.33).
 #[derive(Clone, Copy, Debug, PartialEq, Eq)]
@@ -13,12 +10,28 @@ pub struct BootInfo {
     pub status: u8,
 }
 
-/// Returns the rows of the area of `info` behind its header (DSP0134 7.33).
-pub fn boot_rows(info: &BootInfo) -> [Row; 2]
-    ensures rows { result ≡ boot_rows info.now }
-    ensures fit { AllByRecursion IsRow result }
-{
-    [Row::Reserved(6), byte(info.status)]
+impl Laid for BootInfo {
+    const ROWS: u8 = 2;
+
+    ghost ROWS = { 2 };
+
+    ghost fields = { boot_fields };
+
+    ghost made = { boot_in };
+
+    ghost lawful = { λ t u. record { back = refl; shaped = refl; counted = refl; readable = refl } };
+
+    fn put<'a>(&'a self, rows: &mut RowList<'a>) {
+        rows.reserved(6);
+        rows.byte(self.status);
+    }
+
+    fn take(values: &mut Values) -> BootInfo {
+        values.pass();
+        BootInfo {
+            status: values.take_byte(),
+        }
+    }
 }
 
 /// Returns the Boot Information of a machine, which tells of no error.

@@ -1,12 +1,9 @@
-ghost use Rattle.std.specs.Prelude.{◌≡◌, map, IfOk};
-ghost use Rattle.std.specs.List.{AllByRecursion};
-ghost use Rattle.vt_layout.specs.Rows.{IsRow};
-ghost use Rattle.smbios_model.specs.ChassisInformation.{chassis_rows, chassis_texts, chassis_of};
+ghost use Rattle.std.specs.Prelude.{◌≡◌, IfOk, refl};
+ghost use Rattle.smbios_model.specs.ChassisInformation.{chassis_fields, chassis_in, chassis_of};
 
-use crate::fields::{byte, dword, string};
 use crate::texts::{three_copies_of, two_copies_of};
 use machine_desc::Chassis;
-use vt_layout::Row;
+use vt_layout::{Laid, RowList, Values};
 use vt_outside::{OutOfMemory, Text};
 
 /// System Enclosure or Chassis (DSP0134 7.4). An empty text is no text.
@@ -44,41 +41,54 @@ pub struct ChassisInfo {
     pub sku: Text,
 }
 
-/// Returns the rows of the area of `info` behind its header (DSP0134 7.4), with 0 for the number of each string.
-pub fn chassis_rows(info: &ChassisInfo) -> [Row; 15]
-    ensures rows { result ≡ chassis_rows info.now }
-    ensures fit { AllByRecursion IsRow result }
-{
-    [
-        string(),
-        byte(info.kind),
-        string(),
-        string(),
-        string(),
-        byte(info.boot),
-        byte(info.supply),
-        byte(info.thermal),
-        byte(info.security),
-        dword(info.oem),
-        byte(info.height),
-        byte(info.cords),
-        byte(info.elements),
-        byte(info.element_length),
-        string(),
-    ]
-}
+impl Laid for ChassisInfo {
+    const ROWS: u8 = 15;
 
-/// Returns the texts of `info`, in the order of the rows of their numbers.
-pub fn chassis_texts(info: &ChassisInfo) -> [&Text; 5]
-    ensures { map (λ text. text.now) result ≡ chassis_texts info.now }
-{
-    [
-        &info.manufacturer,
-        &info.version,
-        &info.serial,
-        &info.asset,
-        &info.sku,
-    ]
+    ghost ROWS = { 15 };
+
+    ghost fields = { chassis_fields };
+
+    ghost made = { chassis_in };
+
+    ghost lawful = { λ t u. record { back = refl; shaped = refl; counted = refl; readable = refl } };
+
+    fn put<'a>(&'a self, rows: &mut RowList<'a>) {
+        rows.text(&self.manufacturer);
+        rows.byte(self.kind);
+        rows.text(&self.version);
+        rows.text(&self.serial);
+        rows.text(&self.asset);
+        rows.byte(self.boot);
+        rows.byte(self.supply);
+        rows.byte(self.thermal);
+        rows.byte(self.security);
+        rows.dword(self.oem);
+        rows.byte(self.height);
+        rows.byte(self.cords);
+        rows.byte(self.elements);
+        rows.byte(self.element_length);
+        rows.text(&self.sku);
+    }
+
+    fn take(values: &mut Values) -> ChassisInfo {
+        ChassisInfo {
+            manufacturer: values.take_text(),
+            kind: values.take_byte(),
+            version: values.take_text(),
+            serial: values.take_text(),
+            asset: values.take_text(),
+            boot: values.take_byte(),
+            supply: values.take_byte(),
+            thermal: values.take_byte(),
+            security: values.take_byte(),
+            oem: values.take_dword(),
+            height: values.take_byte(),
+            cords: values.take_byte(),
+            elements: values.take_byte(),
+            element_length: values.take_byte(),
+            sku: values.take_text(),
+        }
+    }
 }
 
 /// Returns the enclosure of a machine's `chassis`, with copies of its texts. Its states are safe, its security is unknown, and it

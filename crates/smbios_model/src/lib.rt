@@ -2,16 +2,15 @@
 //! its anchor on.
 //!
 //! The definitions say which records bytes are read as, and which table a view shows (DSP0134, 5.2.2, 6.1.2 and chapter 7). The
-//! contract is that each record, the rows of its area and its texts, and the structures of an accepted machine are those of the
-//! definitions; and the law is that the area and the strings of a structure, as they are written, are read as its texts. A kind of
-//! structures is a record with its rows and its texts.
+//! contract is that each record, what it puts into its area and its strings and what is taken of them, and the structures of an accepted
+//! machine are those of the definitions; and the laws are that the area and the strings of a structure, as they are written, are read
+//! as its texts, and that each part of a machine is got back from its record.
 #![tactic(auto)]
 
 mod anchor;
 mod bios_information;
 mod boot_information;
 mod chassis_information;
-mod fields;
 pub mod laws;
 mod machine_structures;
 mod mapped_address;
@@ -27,20 +26,19 @@ mod texts;
 mod units;
 
 pub use anchor::{Anchor, anchor_of, anchor_rows};
-pub use bios_information::{BiosInfo, bios_of, bios_rows, bios_texts};
-pub use boot_information::{BootInfo, boot_info, boot_rows};
-pub use chassis_information::{ChassisInfo, chassis_of, chassis_rows, chassis_texts};
+pub use bios_information::{BiosInfo, bios_of};
+pub use boot_information::{BootInfo, boot_info};
+pub use chassis_information::{ChassisInfo, chassis_of};
 pub use machine_structures::structures_of;
-pub use mapped_address::{MappedInfo, mapped_of, mapped_rows};
-pub use memory_array::{ArrayInfo, array_of, array_rows};
-pub use memory_device::{DeviceInfo, device_of, device_rows, device_texts};
-pub use oem_strings::oem_rows;
-pub use processor_information::{ProcessorInfo, processor_of, processor_rows, processor_texts};
-pub use slot_information::{SlotInfo, slot_of, slot_rows, slot_texts};
+pub use mapped_address::{MappedInfo, mapped_of};
+pub use memory_array::{ArrayInfo, array_of};
+pub use memory_device::{DeviceInfo, device_of};
+pub use processor_information::{ProcessorInfo, processor_of};
+pub use slot_information::{SlotInfo, slot_of};
 pub use smbios::{Body, SmbiosTable, Structure, smbios_of};
 pub use structure_types::{
     ARRAY_TYPE, BIOS_TYPE, BOOT_TYPE, CHASSIS_TYPE, DEVICE_TYPE, END_TYPE, MAPPED_TYPE,
     OEM_STRINGS_TYPE, PROCESSOR_TYPE, SLOT_TYPE, SYSTEM_TYPE,
 };
-pub use system_information::{SystemInfo, system_of, system_rows, system_texts, uuid_field};
+pub use system_information::{SystemInfo, system_of, uuid_field};
 pub use units::BYTES_IN_MIB;

@@ -1,8 +1,11 @@
-ghost use Rattle.std.specs.Prelude.{◌≡◌, ◌≤◌, ◌++◌, ◌∷◌, [], length, IfOk, OnOk, true};
+ghost use Rattle.std.specs.Prelude.{◌≡◌, ◌+◌, ◌^◌, ◌<◌, ◌≤◌, ◌++◌, ◌∷◌, [], map, length, IfOk, OnOk, Bool, true};
 ghost use Rattle.std.specs.List.{flat_map, list_all};
-ghost use Rattle.machine_desc.specs.Rules.{IsAccepted, is_lawful_slot};
-ghost use Rattle.smbios_model.specs.MachineStructures.{structures_in, bios_part, system_part, chassis_part, processor_part, slot_part};
-ghost use Rattle.smbios_model.specs.MachineStructures.{oem_strings_part, array_part, device_part, mapped_part, boot_part, structures_of};
+ghost use Rattle.std.specs.Option.{option_map_or, option_to_list};
+ghost use Rattle.machine_desc.specs.Rules.{IsAccepted, is_lawful_chassis, is_lawful_socket, is_lawful_slot, is_lawful_dimm, is_on_node_0};
+ghost use Rattle.smbios_model.specs.declared.smbios.Body.{Body as ABody};
+ghost use Rattle.smbios_model.specs.MachineStructures.{with_handles, structures_in, structures_of, bios_part, system_part, chassis_part};
+ghost use Rattle.smbios_model.specs.MachineStructures.{processor_part, slot_part, oem_strings_part, array_part, device_part, mapped_part, boot_part};
+ghost use Rattle.smbios_model.specs.MachineStructures.{bios_body, system_body, chassis_body, processor_body, slot_body, device_body, mapped_body};
 
 use crate::bios_information::bios_of;
 use crate::boot_information::boot_info;
@@ -47,17 +50,20 @@ fn push_structures(
 }
 
 // Appends those of the machine's firmware, its system and its chassis.
+#[tactic(auto, using(crate::proofs::LawfulParts::lawful_chassis))]
 fn push_product(structures: &mut List<Structure>, machine: &Machine) -> Result<(), OutOfMemory>
+    requires { IsAccepted machine.now }
     ensures { OnOk result (structures.new ≡ structures.old
         ++ flat_map structures_in
         (bios_part machine.now.firmware ∷ system_part machine.now.system ∷ chassis_part machine.now.chassis ∷ [])) }
 {
-    push_bios(structures, &machine.firmware)?;
-    push_system(structures, &machine.system)?;
-    push_chassis(structures, &machine.chassis)
+    push_if(structures, 0x0000, &machine.firmware)?;
+    push_told(structures, 0x0100, &machine.system)?;
+    push_if(structures, 0x0300, &machine.chassis)
 }
 
 // Appends those of its processors, its slots and its maker's texts.
+#[tactic(auto, using(crate::proofs::LawfulParts::lawful_sockets, crate::proofs::LawfulParts::lawful_slots))]
 fn push_board(
     alloc: Global,
     structures: &mut List<Structure>,
@@ -67,20 +73,21 @@ fn push_board(
     ensures { OnOk result (structures.new ≡ structures.old ++ flat_map structures_in
         (processor_part machine.now.sockets ∷ slot_part machine.now.slots ∷ oem_strings_part machine.now.oem_strings ∷ [])) }
 {
-    push_processors(structures, machine.sockets.as_slice())?;
-    push_slots(structures, machine.slots.as_slice())?;
+    push_each(structures, 0x0400, &machine.sockets)?;
+    push_each(structures, 0x0900, &machine.slots)?;
     push_oem_strings(alloc, structures, machine.oem_strings.as_slice())
 }
 
 // Appends those of its memory.
+#[tactic(auto, using(crate::proofs::LawfulParts::lawful_dimms, crate::proofs::LawfulParts::on_node_0))]
 fn push_memory(structures: &mut List<Structure>, machine: &Machine) -> Result<(), OutOfMemory>
     requires { IsAccepted machine.now }
     ensures { OnOk result (structures.new ≡ structures.old
         ++ flat_map structures_in (array_part machine.now.dimms ∷ device_part machine.now.dimms ∷ mapped_part machine.now.ranges ∷ [])) }
 {
     push_array(structures, machine.dimms.as_slice())?;
-    push_devices(structures, machine.dimms.as_slice())?;
-    push_mapped(structures, machine.ranges.as_slice())
+    push_each(structures, 0x1100, &machine.dimms)?;
+    push_each(structures, 0x1300, &machine.ranges)
 }
 
 fn push(structures: &mut List<Structure>, handle: u16, body: Body) -> Result<(), OutOfMemory>
@@ -89,59 +96,128 @@ fn push(structures: &mut List<Structure>, handle: u16, body: Body) -> Result<(),
     structures.push(Structure { handle, body })
 }
 
-fn push_bios(
+// A part of a machine that has a structure of its own.
+trait Told: Drop {
+    // Whether it keeps the rule that a caller must know of it.
+    ghost is_lawful: { Self → Bool };
+
+    ghost says: { Self → ABody };
+
+    fn body(&self) -> Result<Body, OutOfMemory>
+        requires { is_lawful self.now ≡ true }
+        ensures { IfOk result (λ body. body ≡ says self.now) };
+}
+
+fn push_told<P: Told>(
     structures: &mut List<Structure>,
-    firmware: &Option<Firmware>,
+    handle: u16,
+    part: &P,
 ) -> Result<(), OutOfMemory>
-    ensures { OnOk result (structures.new ≡ structures.old ++ structures_in (bios_part firmware.now)) }
+    requires { P.is_lawful part.now ≡ true }
+    ensures { OnOk result (structures.new ≡ structures.old ++ record { handle = handle; body = P.says part.now } ∷ []) }
 {
-    match firmware {
-        Some(firmware) => push(structures, 0x0000, Body::Bios(bios_of(firmware)?)),
+    push(structures, handle, part.body()?)
+}
+
+fn push_if<P: Told>(
+    structures: &mut List<Structure>,
+    handle: u16,
+    part: &Option<P>,
+) -> Result<(), OutOfMemory>
+    requires { option_map_or P.is_lawful part.now true ≡ true }
+    ensures { OnOk result (structures.new ≡ structures.old ++ with_handles handle (map P.says (option_to_list part.now))) }
+{
+    match part {
+        Some(part) => push_told(structures, handle, part),
         None => Ok(()),
     }
 }
 
-fn push_system(structures: &mut List<Structure>, system: &System) -> Result<(), OutOfMemory>
-    ensures { OnOk result (structures.new ≡ structures.old ++ structures_in (system_part system.now)) }
-{
-    push(structures, 0x0100, Body::System(system_of(system)?))
-}
-
-fn push_chassis(
+fn push_each<P: Told>(
     structures: &mut List<Structure>,
-    chassis: &Option<Chassis>,
+    first: u16,
+    parts: &List<P>,
 ) -> Result<(), OutOfMemory>
-    ensures { OnOk result (structures.new ≡ structures.old ++ structures_in (chassis_part chassis.now)) }
+    requires few { first + length parts.now < 2 ^ 16 }
+    requires lawful { list_all P.is_lawful parts.now ≡ true }
+    ensures { OnOk result (structures.new ≡ structures.old ++ with_handles first (map P.says parts.now)) }
 {
-    match chassis {
-        Some(chassis) => push(structures, 0x0300, Body::Chassis(chassis_of(chassis)?)),
-        None => Ok(()),
-    }
-}
-
-fn push_processors(structures: &mut List<Structure>, sockets: &[Socket]) -> Result<(), OutOfMemory>
-    requires { length sockets.now ≤ 256 }
-    ensures { OnOk result (structures.new ≡ structures.old ++ structures_in (processor_part sockets.now)) }
-{
-    let mut handle = 0x0400;
-    for socket in sockets {
-        push(structures, handle, Body::Processor(processor_of(socket)?))?;
+    let mut handle = first;
+    for part in parts.as_slice() {
+        push_told(structures, handle, part)?;
         handle += 1;
     }
     Ok(())
 }
 
-fn push_slots(structures: &mut List<Structure>, slots: &[Slot]) -> Result<(), OutOfMemory>
-    requires few { length slots.now ≤ 64 }
-    requires lawful { list_all is_lawful_slot slots.now ≡ true }
-    ensures { OnOk result (structures.new ≡ structures.old ++ structures_in (slot_part slots.now)) }
-{
-    let mut handle = 0x0900;
-    for slot in slots {
-        push(structures, handle, Body::Slot(slot_of(slot)?))?;
-        handle += 1;
+impl Told for Firmware {
+    ghost is_lawful = { λ _. true };
+
+    ghost says = { bios_body };
+
+    fn body(&self) -> Result<Body, OutOfMemory> {
+        Ok(Body::Bios(bios_of(self)?))
     }
-    Ok(())
+}
+
+impl Told for System {
+    ghost is_lawful = { λ _. true };
+
+    ghost says = { system_body };
+
+    fn body(&self) -> Result<Body, OutOfMemory> {
+        Ok(Body::System(system_of(self)?))
+    }
+}
+
+impl Told for Chassis {
+    ghost is_lawful = { is_lawful_chassis };
+
+    ghost says = { chassis_body };
+
+    fn body(&self) -> Result<Body, OutOfMemory> {
+        Ok(Body::Chassis(chassis_of(self)?))
+    }
+}
+
+impl Told for Socket {
+    ghost is_lawful = { is_lawful_socket };
+
+    ghost says = { processor_body };
+
+    fn body(&self) -> Result<Body, OutOfMemory> {
+        Ok(Body::Processor(processor_of(self)?))
+    }
+}
+
+impl Told for Slot {
+    ghost is_lawful = { is_lawful_slot };
+
+    ghost says = { slot_body };
+
+    fn body(&self) -> Result<Body, OutOfMemory> {
+        Ok(Body::Slot(slot_of(self)?))
+    }
+}
+
+impl Told for Dimm {
+    ghost is_lawful = { is_lawful_dimm };
+
+    ghost says = { device_body };
+
+    fn body(&self) -> Result<Body, OutOfMemory> {
+        Ok(Body::Device(device_of(self)?))
+    }
+}
+
+impl Told for MemRange {
+    ghost is_lawful = { is_on_node_0 };
+
+    ghost says = { mapped_body };
+
+    fn body(&self) -> Result<Body, OutOfMemory> {
+        Ok(Body::Mapped(mapped_of(*self)))
+    }
 }
 
 fn push_oem_strings(
@@ -169,30 +245,6 @@ fn push_array(structures: &mut List<Structure>, dimms: &[Dimm]) -> Result<(), Ou
         return Ok(());
     }
     push(structures, ARRAY_HANDLE, Body::Array(array_of(dimms)))
-}
-
-fn push_devices(structures: &mut List<Structure>, dimms: &[Dimm]) -> Result<(), OutOfMemory>
-    requires { length dimms.now ≤ 256 }
-    ensures { OnOk result (structures.new ≡ structures.old ++ structures_in (device_part dimms.now)) }
-{
-    let mut handle = 0x1100;
-    for dimm in dimms {
-        push(structures, handle, Body::Device(device_of(dimm)?))?;
-        handle += 1;
-    }
-    Ok(())
-}
-
-fn push_mapped(structures: &mut List<Structure>, ranges: &[MemRange]) -> Result<(), OutOfMemory>
-    requires { length ranges.now ≤ 64 }
-    ensures { OnOk result (structures.new ≡ structures.old ++ structures_in (mapped_part ranges.now)) }
-{
-    let mut handle = 0x1300;
-    for range in ranges {
-        push(structures, handle, Body::Mapped(mapped_of(*range)))?;
-        handle += 1;
-    }
-    Ok(())
 }
 
 fn push_boot(

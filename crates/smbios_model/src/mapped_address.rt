@@ -1,13 +1,10 @@
-ghost use Rattle.std.specs.Prelude.{◌≡◌, ◌-◌, ◌*◌, ◌^◌, ◌<◌, ◌≤◌};
-ghost use Rattle.std.specs.List.{AllByRecursion};
-ghost use Rattle.vt_layout.specs.Rows.{IsRow};
-ghost use Rattle.smbios_model.specs.MappedAddress.{mapped_rows, mapped_of, in_kib, in_bytes};
+ghost use Rattle.std.specs.Prelude.{◌≡◌, ◌-◌, ◌*◌, ◌^◌, ◌<◌, ◌≤◌, refl};
+ghost use Rattle.smbios_model.specs.MappedAddress.{mapped_fields, mapped_in, mapped_of, in_kib, in_bytes};
 
-use crate::fields::{byte, dword, qword, word};
 use crate::memory_array::ARRAY_HANDLE;
 use crate::units::{BYTES_IN_MIB, KIB_IN_MIB};
 use machine_desc::MemRange;
-use vt_layout::Row;
+use vt_layout::{Laid, RowList, Values};
 
 // What the first fields hold where the extended fields tell the range.
 const EXTENDED_ADDRESS: u32 = 0xFFFF_FFFF;
@@ -29,19 +26,36 @@ pub struct MappedInfo {
     pub ext_end: u64,
 }
 
-/// Returns the rows of the area of `info` behind its header (DSP0134 7.20).
-pub fn mapped_rows(info: &MappedInfo) -> [Row; 6]
-    ensures rows { result ≡ mapped_rows info.now }
-    ensures fit { AllByRecursion IsRow result }
-{
-    [
-        dword(info.start),
-        dword(info.end),
-        word(info.array),
-        byte(info.width),
-        qword(info.ext_start),
-        qword(info.ext_end),
-    ]
+impl Laid for MappedInfo {
+    const ROWS: u8 = 6;
+
+    ghost ROWS = { 6 };
+
+    ghost fields = { mapped_fields };
+
+    ghost made = { mapped_in };
+
+    ghost lawful = { λ t u. record { back = refl; shaped = refl; counted = refl; readable = refl } };
+
+    fn put<'a>(&'a self, rows: &mut RowList<'a>) {
+        rows.dword(self.start);
+        rows.dword(self.end);
+        rows.word(self.array);
+        rows.byte(self.width);
+        rows.qword(self.ext_start);
+        rows.qword(self.ext_end);
+    }
+
+    fn take(values: &mut Values) -> MappedInfo {
+        MappedInfo {
+            start: values.take_dword(),
+            end: values.take_dword(),
+            array: values.take_word(),
+            width: values.take_byte(),
+            ext_start: values.take_qword(),
+            ext_end: values.take_qword(),
+        }
+    }
 }
 
 /// Returns the address range of a machine's `range`, in the array of the machine. The extended fields tell it where its last KiB

@@ -1,12 +1,9 @@
-ghost use Rattle.std.specs.Prelude.{◌≡◌, ◌^◌, ◌≤◌, length};
-ghost use Rattle.std.specs.List.{AllByRecursion};
-ghost use Rattle.vt_layout.specs.Rows.{IsRow};
-ghost use Rattle.smbios_model.specs.MemoryArray.{array_rows, array_of, capacity_of, total_mib};
+ghost use Rattle.std.specs.Prelude.{◌≡◌, ◌^◌, ◌≤◌, length, refl};
+ghost use Rattle.smbios_model.specs.MemoryArray.{array_fields, array_in, array_of, capacity_of, total_mib};
 
-use crate::fields::{byte, dword, qword, word};
 use crate::units::{BYTES_IN_MIB, KIB_IN_MIB};
 use machine_desc::Dimm;
-use vt_layout::Row;
+use vt_layout::{Laid, RowList, Values};
 
 /// The handle of a machine's array, by which its devices and its mapped addresses name it.
 pub(crate) const ARRAY_HANDLE: u16 = 0x1000;
@@ -36,20 +33,38 @@ pub struct ArrayInfo {
     pub extended: u64,
 }
 
-/// Returns the rows of the area of `info` behind its header (DSP0134 7.17).
-pub fn array_rows(info: &ArrayInfo) -> [Row; 7]
-    ensures rows { result ≡ array_rows info.now }
-    ensures fit { AllByRecursion IsRow result }
-{
-    [
-        byte(info.location),
-        byte(info.purpose),
-        byte(info.correction),
-        dword(info.capacity),
-        word(info.error),
-        word(info.devices),
-        qword(info.extended),
-    ]
+impl Laid for ArrayInfo {
+    const ROWS: u8 = 7;
+
+    ghost ROWS = { 7 };
+
+    ghost fields = { array_fields };
+
+    ghost made = { array_in };
+
+    ghost lawful = { λ t u. record { back = refl; shaped = refl; counted = refl; readable = refl } };
+
+    fn put<'a>(&'a self, rows: &mut RowList<'a>) {
+        rows.byte(self.location);
+        rows.byte(self.purpose);
+        rows.byte(self.correction);
+        rows.dword(self.capacity);
+        rows.word(self.error);
+        rows.word(self.devices);
+        rows.qword(self.extended);
+    }
+
+    fn take(values: &mut Values) -> ArrayInfo {
+        ArrayInfo {
+            location: values.take_byte(),
+            purpose: values.take_byte(),
+            correction: values.take_byte(),
+            capacity: values.take_dword(),
+            error: values.take_word(),
+            devices: values.take_word(),
+            extended: values.take_qword(),
+        }
+    }
 }
 
 /// Returns the array of `dimms`, at most 256 modules: system memory on the board, without error correction.

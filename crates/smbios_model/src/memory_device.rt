@@ -1,13 +1,10 @@
-ghost use Rattle.std.specs.Prelude.{◌≡◌, map, IfOk};
-ghost use Rattle.std.specs.List.{AllByRecursion};
-ghost use Rattle.vt_layout.specs.Rows.{IsRow};
-ghost use Rattle.smbios_model.specs.MemoryDevice.{device_rows, device_texts, device_of, size_field, extended_field};
+ghost use Rattle.std.specs.Prelude.{◌≡◌, IfOk, refl};
+ghost use Rattle.smbios_model.specs.MemoryDevice.{device_fields, device_in, device_of, size_field, extended_field};
 
-use crate::fields::{byte, dword, string, word};
 use crate::memory_array::ARRAY_HANDLE;
 use crate::texts::three_copies_of;
 use machine_desc::Dimm;
-use vt_layout::Row;
+use vt_layout::{Laid, RowList, Values};
 use vt_outside::{OutOfMemory, Text};
 
 // What the first field holds where the second field tells the size.
@@ -63,49 +60,68 @@ pub struct DeviceInfo {
     pub voltage: u16,
 }
 
-/// Returns the rows of the area of `info` behind its header (DSP0134 7.18), with 0 for the number of each string.
-pub fn device_rows(info: &DeviceInfo) -> [Row; 22]
-    ensures rows { result ≡ device_rows info.now }
-    ensures fit { AllByRecursion IsRow result }
-{
-    [
-        word(info.array),
-        word(info.error),
-        word(info.total_width),
-        word(info.data_width),
-        word(info.size),
-        byte(info.form),
-        byte(info.set),
-        string(),
-        string(),
-        byte(info.kind),
-        word(info.detail),
-        word(info.speed),
-        string(),
-        string(),
-        string(),
-        string(),
-        byte(info.attributes),
-        dword(info.extended),
-        word(info.configured),
-        word(info.min_voltage),
-        word(info.max_voltage),
-        word(info.voltage),
-    ]
-}
+impl Laid for DeviceInfo {
+    const ROWS: u8 = 22;
 
-/// Returns the texts of `info`, in the order of the rows of their numbers.
-pub fn device_texts(info: &DeviceInfo) -> [&Text; 6]
-    ensures { map (λ text. text.now) result ≡ device_texts info.now }
-{
-    [
-        &info.locator,
-        &info.bank,
-        &info.manufacturer,
-        &info.serial,
-        &info.asset,
-        &info.part,
-    ]
+    ghost ROWS = { 22 };
+
+    ghost fields = { device_fields };
+
+    ghost made = { device_in };
+
+    ghost lawful = { λ t u. record { back = refl; shaped = refl; counted = refl; readable = refl } };
+
+    fn put<'a>(&'a self, rows: &mut RowList<'a>) {
+        rows.word(self.array);
+        rows.word(self.error);
+        rows.word(self.total_width);
+        rows.word(self.data_width);
+        rows.word(self.size);
+        rows.byte(self.form);
+        rows.byte(self.set);
+        rows.text(&self.locator);
+        rows.text(&self.bank);
+        rows.byte(self.kind);
+        rows.word(self.detail);
+        rows.word(self.speed);
+        rows.text(&self.manufacturer);
+        rows.text(&self.serial);
+        rows.text(&self.asset);
+        rows.text(&self.part);
+        rows.byte(self.attributes);
+        rows.dword(self.extended);
+        rows.word(self.configured);
+        rows.word(self.min_voltage);
+        rows.word(self.max_voltage);
+        rows.word(self.voltage);
+    }
+
+    fn take(values: &mut Values) -> DeviceInfo {
+        DeviceInfo {
+            array: values.take_word(),
+            error: values.take_word(),
+            total_width: values.take_word(),
+            data_width: values.take_word(),
+            size: values.take_word(),
+            form: values.take_byte(),
+            set: values.take_byte(),
+            locator: values.take_text(),
+            bank: values.take_text(),
+            kind: values.take_byte(),
+            detail: values.take_word(),
+            speed: values.take_word(),
+            manufacturer: values.take_text(),
+            serial: values.take_text(),
+            asset: values.take_text(),
+            part: values.take_text(),
+            attributes: values.take_byte(),
+            extended: values.take_dword(),
+            configured: values.take_word(),
+            min_voltage: values.take_word(),
+            max_voltage: values.take_word(),
+            voltage: values.take_word(),
+        }
+    }
 }
 
 /// Returns the Memory Device of a machine's `dimm`, with copies of its texts: a DIMM of RAM in the array of the machine. Its speed

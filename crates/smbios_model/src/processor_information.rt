@@ -1,12 +1,9 @@
-ghost use Rattle.std.specs.Prelude.{◌≡◌, map, IfOk};
-ghost use Rattle.std.specs.List.{AllByRecursion};
-ghost use Rattle.vt_layout.specs.Rows.{IsRow};
-ghost use Rattle.smbios_model.specs.ProcessorInformation.{processor_rows, processor_texts, processor_of, count_byte};
+ghost use Rattle.std.specs.Prelude.{◌≡◌, IfOk, refl};
+ghost use Rattle.smbios_model.specs.ProcessorInformation.{processor_fields, processor_in, processor_of, count_byte};
 
-use crate::fields::{byte, qword, string, word};
 use crate::texts::three_copies_of;
 use machine_desc::Socket;
-use vt_layout::Row;
+use vt_layout::{Laid, RowList, Values};
 use vt_outside::{OutOfMemory, Text};
 
 /// Processor Information (DSP0134 7.5). An empty text is no text.
@@ -66,53 +63,76 @@ pub struct ProcessorInfo {
     pub threads2: u16,
 }
 
-/// Returns the rows of the area of `info` behind its header (DSP0134 7.5), with 0 for the number of each string.
-pub fn processor_rows(info: &ProcessorInfo) -> [Row; 26]
-    ensures rows { result ≡ processor_rows info.now }
-    ensures fit { AllByRecursion IsRow result }
-{
-    [
-        string(),
-        byte(info.kind),
-        byte(info.family),
-        string(),
-        qword(info.id),
-        string(),
-        byte(info.voltage),
-        word(info.clock),
-        word(info.max_speed),
-        word(info.speed),
-        byte(info.status),
-        byte(info.upgrade),
-        word(info.l1),
-        word(info.l2),
-        word(info.l3),
-        string(),
-        string(),
-        string(),
-        byte(info.cores),
-        byte(info.enabled),
-        byte(info.threads),
-        word(info.characteristics),
-        word(info.family2),
-        word(info.cores2),
-        word(info.enabled2),
-        word(info.threads2),
-    ]
-}
+impl Laid for ProcessorInfo {
+    const ROWS: u8 = 26;
 
-/// Returns the texts of `info`, in the order of the rows of their numbers.
-pub fn processor_texts(info: &ProcessorInfo) -> [&Text; 6]
-    ensures { map (λ text. text.now) result ≡ processor_texts info.now }
-{
-    [
-        &info.designation,
-        &info.manufacturer,
-        &info.version,
-        &info.serial,
-        &info.asset,
-        &info.part,
-    ]
+    ghost ROWS = { 26 };
+
+    ghost fields = { processor_fields };
+
+    ghost made = { processor_in };
+
+    ghost lawful = { λ t u. record { back = refl; shaped = refl; counted = refl; readable = refl } };
+
+    fn put<'a>(&'a self, rows: &mut RowList<'a>) {
+        rows.text(&self.designation);
+        rows.byte(self.kind);
+        rows.byte(self.family);
+        rows.text(&self.manufacturer);
+        rows.qword(self.id);
+        rows.text(&self.version);
+        rows.byte(self.voltage);
+        rows.word(self.clock);
+        rows.word(self.max_speed);
+        rows.word(self.speed);
+        rows.byte(self.status);
+        rows.byte(self.upgrade);
+        rows.word(self.l1);
+        rows.word(self.l2);
+        rows.word(self.l3);
+        rows.text(&self.serial);
+        rows.text(&self.asset);
+        rows.text(&self.part);
+        rows.byte(self.cores);
+        rows.byte(self.enabled);
+        rows.byte(self.threads);
+        rows.word(self.characteristics);
+        rows.word(self.family2);
+        rows.word(self.cores2);
+        rows.word(self.enabled2);
+        rows.word(self.threads2);
+    }
+
+    fn take(values: &mut Values) -> ProcessorInfo {
+        ProcessorInfo {
+            designation: values.take_text(),
+            kind: values.take_byte(),
+            family: values.take_byte(),
+            manufacturer: values.take_text(),
+            id: values.take_qword(),
+            version: values.take_text(),
+            voltage: values.take_byte(),
+            clock: values.take_word(),
+            max_speed: values.take_word(),
+            speed: values.take_word(),
+            status: values.take_byte(),
+            upgrade: values.take_byte(),
+            l1: values.take_word(),
+            l2: values.take_word(),
+            l3: values.take_word(),
+            serial: values.take_text(),
+            asset: values.take_text(),
+            part: values.take_text(),
+            cores: values.take_byte(),
+            enabled: values.take_byte(),
+            threads: values.take_byte(),
+            characteristics: values.take_word(),
+            family2: values.take_word(),
+            cores2: values.take_word(),
+            enabled2: values.take_word(),
+            threads2: values.take_word(),
+        }
+    }
 }
 
 /// Returns the Processor Information of a machine's `socket`, with copies of its texts. Its processor is a central one, of the family

@@ -1,11 +1,8 @@
-ghost use Rattle.std.specs.Prelude.{◌≡◌, ◌≤◌, map, IfOk};
-ghost use Rattle.std.specs.List.{AllByRecursion};
-ghost use Rattle.vt_layout.specs.Rows.{IsRow};
-ghost use Rattle.smbios_model.specs.SlotInformation.{slot_rows, slot_texts, slot_of};
+ghost use Rattle.std.specs.Prelude.{◌≡◌, ◌≤◌, IfOk, refl};
+ghost use Rattle.smbios_model.specs.SlotInformation.{slot_fields, slot_in, slot_of};
 
-use crate::fields::{byte, string, word};
 use machine_desc::Slot;
-use vt_layout::Row;
+use vt_layout::{Laid, RowList, Values};
 use vt_outside::{OutOfMemory, Text};
 
 /// System Slots (DSP0134 7.10), one of them. An empty text is no text.
@@ -35,31 +32,46 @@ pub struct SlotInfo {
     pub device_function: u8,
 }
 
-/// Returns the rows of the area of `info` behind its header (DSP0134 7.10), with 0 for the number of its string.
-pub fn slot_rows(info: &SlotInfo) -> [Row; 11]
-    ensures rows { result ≡ slot_rows info.now }
-    ensures fit { AllByRecursion IsRow result }
-{
-    [
-        string(),
-        byte(info.kind),
-        byte(info.width),
-        byte(info.usage),
-        byte(info.length),
-        word(info.id),
-        byte(info.char1),
-        byte(info.char2),
-        word(info.segment),
-        byte(info.bus),
-        byte(info.device_function),
-    ]
-}
+impl Laid for SlotInfo {
+    const ROWS: u8 = 11;
 
-/// Returns the text of `info`.
-pub fn slot_texts(info: &SlotInfo) -> [&Text; 1]
-    ensures { map (λ text. text.now) result ≡ slot_texts info.now }
-{
-    [&info.designation]
+    ghost ROWS = { 11 };
+
+    ghost fields = { slot_fields };
+
+    ghost made = { slot_in };
+
+    ghost lawful = { λ t u. record { back = refl; shaped = refl; counted = refl; readable = refl } };
+
+    fn put<'a>(&'a self, rows: &mut RowList<'a>) {
+        rows.text(&self.designation);
+        rows.byte(self.kind);
+        rows.byte(self.width);
+        rows.byte(self.usage);
+        rows.byte(self.length);
+        rows.word(self.id);
+        rows.byte(self.char1);
+        rows.byte(self.char2);
+        rows.word(self.segment);
+        rows.byte(self.bus);
+        rows.byte(self.device_function);
+    }
+
+    fn take(values: &mut Values) -> SlotInfo {
+        SlotInfo {
+            designation: values.take_text(),
+            kind: values.take_byte(),
+            width: values.take_byte(),
+            usage: values.take_byte(),
+            length: values.take_byte(),
+            id: values.take_word(),
+            char1: values.take_byte(),
+            char2: values.take_byte(),
+            segment: values.take_word(),
+            bus: values.take_byte(),
+            device_function: values.take_byte(),
+        }
+    }
 }
 
 /// Returns the structure of a machine's `slot`, with a copy of its text. The number of its device is at most 31, and that of its

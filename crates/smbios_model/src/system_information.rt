@@ -1,13 +1,10 @@
-ghost use Rattle.std.specs.Prelude.{◌≡◌, map, IfOk};
-ghost use Rattle.std.specs.List.{AllByRecursion};
-ghost use Rattle.vt_layout.specs.Rows.{IsRow};
-ghost use Rattle.smbios_model.specs.SystemInformation.{system_rows, system_texts, system_of, uuid_field};
+ghost use Rattle.std.specs.Prelude.{◌≡◌, IfOk, refl};
+ghost use Rattle.smbios_model.specs.SystemInformation.{system_fields, system_in, system_of, uuid_field};
 
-use crate::fields::{byte, string};
 use crate::texts::three_copies_of;
 use machine_desc::System;
 use uuid::Uuid;
-use vt_layout::{Row, ShortBytes};
+use vt_layout::{Laid, RowList, Values};
 use vt_outside::{OutOfMemory, Text};
 
 /// System Information (DSP0134 7.2). An empty text is no text.
@@ -31,35 +28,40 @@ pub struct SystemInfo {
     pub family: Text,
 }
 
-/// Returns the rows of the area of `info` behind its header (DSP0134 7.2), with 0 for the number of each string.
-pub fn system_rows(info: &SystemInfo) -> [Row; 8]
-    ensures rows { result ≡ system_rows info.now }
-    ensures fit { AllByRecursion IsRow result }
-{
-    [
-        string(),
-        string(),
-        string(),
-        string(),
-        Row::Bytes(16, ShortBytes::of(&info.uuid)),
-        byte(info.wake_up),
-        string(),
-        string(),
-    ]
-}
+impl Laid for SystemInfo {
+    const ROWS: u8 = 8;
 
-/// Returns the texts of `info`, in the order of the rows of their numbers.
-pub fn system_texts(info: &SystemInfo) -> [&Text; 6]
-    ensures { map (λ text. text.now) result ≡ system_texts info.now }
-{
-    [
-        &info.manufacturer,
-        &info.product,
-        &info.version,
-        &info.serial,
-        &info.sku,
-        &info.family,
-    ]
+    ghost ROWS = { 8 };
+
+    ghost fields = { system_fields };
+
+    ghost made = { system_in };
+
+    ghost lawful = { λ t u. record { back = refl; shaped = refl; counted = refl; readable = refl } };
+
+    fn put<'a>(&'a self, rows: &mut RowList<'a>) {
+        rows.text(&self.manufacturer);
+        rows.text(&self.product);
+        rows.text(&self.version);
+        rows.text(&self.serial);
+        rows.sixteen(&self.uuid);
+        rows.byte(self.wake_up);
+        rows.text(&self.sku);
+        rows.text(&self.family);
+    }
+
+    fn take(values: &mut Values) -> SystemInfo {
+        SystemInfo {
+            manufacturer: values.take_text(),
+            product: values.take_text(),
+            version: values.take_text(),
+            serial: values.take_text(),
+            uuid: values.take_sixteen(),
+            wake_up: values.take_byte(),
+            sku: values.take_text(),
+            family: values.take_text(),
+        }
+    }
 }
 
 /// Returns the System Information of a machine's `system`, with copies of its texts. The wake-up type is 6, the power switch

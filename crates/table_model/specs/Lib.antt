@@ -1,14 +1,14 @@
 pub mod Inventory
 pub use Rattle.vt_bytes.specs.View
 pub use Rattle.machine_desc.specs.Rules
-pub use Rattle.acpi_model.specs.Choice
 pub use Rattle.acpi_model.specs.Header
+pub use Rattle.acpi_model.specs.GenericAddress
+pub use Rattle.acpi_model.specs.Maker
 pub use Rattle.acpi_model.specs.Kinds
 pub use Rattle.acpi_model.specs.Hpet
 pub use Rattle.acpi_model.specs.Xsdt
 pub use Rattle.acpi_model.specs.Rsdp
 pub use Rattle.acpi_model.specs.Acpi
-pub use Rattle.acpi_model.specs.Walked
 pub use Rattle.smbios_model.specs.StructureKinds
 pub use Rattle.smbios_model.specs.BiosInformation
 pub use Rattle.smbios_model.specs.SystemInformation

@@ -1,5 +1,6 @@
-ghost use Rattle.std.specs.Prelude.{◌≡◌, IfOk};
+ghost use Rattle.std.specs.Prelude.{◌≡◌, option_map, IfOk};
 ghost use Rattle.machine_desc.specs.Rules.{IsAccepted};
+ghost use Rattle.acpi_model.specs.Acpi.{acpi_of};
 ghost use Rattle.table_model.specs.Inventory.{inventory_of};
 
 use acpi_model::{AcpiTables, acpi_of};
@@ -25,14 +26,22 @@ pub fn inventory_of(alloc: Global, machine: &Machine) -> Result<Inventory, OutOf
     requires { IsAccepted machine.now }
     ensures { IfOk result (λ inventory. inventory ≡ inventory_of machine.now) }
 {
+    let acpi = acpi_part(alloc, machine)?;
     let smbios = smbios_of(alloc, machine)?;
-    let acpi = match &machine.acpi {
-        Some(acpi) => Some(acpi_of(alloc, machine, acpi)),
-        None => None,
-    };
     Ok(Inventory {
         top: machine.top_mib * BYTES_IN_MIB as u32,
         smbios: Some(smbios),
         acpi,
     })
+}
+
+// The ACPI tables of a machine, where it has some.
+fn acpi_part(alloc: Global, machine: &Machine) -> Result<Option<AcpiTables>, OutOfMemory>
+    requires { IsAccepted machine.now }
+    ensures { IfOk result (λ tables. tables ≡ option_map (acpi_of machine.now) machine.now.acpi) }
+{
+    match &machine.acpi {
+        Some(acpi) => Ok(Some(acpi_of(alloc, machine, acpi)?)),
+        None => Ok(None),
+    }
 }

@@ -9,17 +9,14 @@ mod inventory;
 pub mod laws;
 
 pub use acpi_model::{
-    AcpiTables, GenericAddress, HEADER_SIZE, Head, HpetTable, OtherTable, Table, head_of,
-    header_rows, hpet_body, hpet_of, rsdp_rows, tables_of,
+    AcpiTables, GenericAddress, HEADER_SIZE, Head, HpetTable, OtherTable, Table, gathered, head_of,
+    hpet_of, rsdp_rows, tables_of,
 };
 pub use inventory::{Inventory, inventory_of};
 pub use smbios_model::{
     ARRAY_TYPE, Anchor, ArrayInfo, BIOS_TYPE, BOOT_TYPE, BiosInfo, Body, BootInfo, CHASSIS_TYPE,
     ChassisInfo, DEVICE_TYPE, DeviceInfo, END_TYPE, MAPPED_TYPE, MappedInfo, OEM_STRINGS_TYPE,
     PROCESSOR_TYPE, ProcessorInfo, SLOT_TYPE, SYSTEM_TYPE, SlotInfo, SmbiosTable, Structure,
-    SystemInfo, anchor_of, anchor_rows, array_of, array_rows, bios_of, bios_rows, bios_texts,
-    boot_info, boot_rows, chassis_of, chassis_rows, chassis_texts, device_of, device_rows,
-    device_texts, mapped_of, mapped_rows, oem_rows, processor_of, processor_rows, processor_texts,
-    slot_of, slot_rows, slot_texts, structures_of, system_of, system_rows, system_texts,
-    uuid_field,
+    SystemInfo, anchor_of, anchor_rows, array_of, bios_of, boot_info, chassis_of, device_of,
+    mapped_of, processor_of, slot_of, structures_of, system_of, uuid_field,
 };

@@ -11,13 +11,13 @@ use vmtables::{State, Status, World};
 use vt_outside::{ListSink, OutOfMemory, SureSink, SureSource, WriteSink};
 
 // Room for so many bytes, the writes that fail, and how many bytes of the dump are taken. The machine is loaded before its dump
-// is written: the first line, the lines of each of its two frames, and the last line.
+// is written. Each line is a write: the first one, one for each of its five rows, and the last one.
 static FAILING: [(&str, usize, &[u32], usize); 11] = [
     ("the first write fails", ROOM, &[0], 0),
     ("the second write fails", ROOM, &[1], 21),
-    ("the third write fails", ROOM, &[2], 105),
-    ("the last writes fail", ROOM, &[2, 3], 105),
-    ("the last write fails", ROOM, &[3], 231),
+    ("the third write fails", ROOM, &[2], 63),
+    ("the last writes fail", ROOM, &[5, 6], 189),
+    ("the last write fails", ROOM, &[6], 231),
     ("no room", 0, &[], 0),
     ("room for a byte", 1, &[], 1),
     ("room for a line", 21, &[], 21),
@@ -43,7 +43,7 @@ fn do_not_fail(alloc: Global, done: &Ending) -> Result<(), Fail> {
     ends(alloc, &to("room for all and no more", 235, &[]), done)?;
     ends(
         alloc,
-        &to("a write that is never made fails", ROOM, &[4]),
+        &to("a write that is never made fails", ROOM, &[7]),
         done,
     )
 }

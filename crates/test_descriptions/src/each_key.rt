@@ -1,6 +1,7 @@
 //! What the description with every key is read as where one key is changed.
 
 use crate::changed::changed;
+use crate::fields::fields;
 use crate::keys::{KEYS, Key, VALUES, Values, is_among};
 use crate::told::{is_text, told};
 use std::alloc::Global;
@@ -55,7 +56,7 @@ fn is_read(rt: &impl Abort, alloc: Global, key: &Key<'_>) -> Result<(), Fail> {
 
 fn is_left_out(rt: &impl Abort, alloc: Global, key: &Key<'_>) -> Result<(), Fail> {
     match key.default {
-        "!" => has_fault(rt, alloc, key, "", "missing key"),
+        "!" => has_numbered_fault(rt, alloc, key, "", "missing key"),
         "none" => is_machine_with(rt, alloc, key, "", key.rule_without()),
         _ => has_its_default(rt, alloc, key),
     }
@@ -77,7 +78,7 @@ fn is_misnamed(rt: &impl Abort, alloc: Global, key: &Key<'_>) -> Result<(), Fail
         name: name.as_str(),
         ..*key
     };
-    is_value_told(rt, alloc, &other, "unknown key", "1")
+    has_fault(rt, alloc, &other, "1", "unknown key")
 }
 
 fn are_values_told(rt: &impl Abort, alloc: Global, key: &Key<'_>, line: &str) -> Result<(), Fail> {
@@ -113,7 +114,7 @@ fn is_value_told(
     match answer {
         "accepted" => is_accepted(rt, alloc, key, value),
         "rule 3 index 0" => is_told_with(rt, alloc, key, value, answer),
-        _ => has_fault(rt, alloc, key, value, answer),
+        _ => has_numbered_fault(rt, alloc, key, value, answer),
     }
 }
 
@@ -144,6 +145,24 @@ fn is_machine(rt: &impl Abort, told: &str, rule: &str, of: &str) {
     } else if !told.starts_with("top ") {
         is_text(rt, told, "a machine", of);
     }
+}
+
+// With this value the description has this fault of the key, which the fault tells by its number.
+fn has_numbered_fault(
+    rt: &impl Abort,
+    alloc: Global,
+    key: &Key<'_>,
+    value: &str,
+    fault: &str,
+) -> Result<(), Fail> {
+    has_fault(rt, alloc, key, value, fault)?;
+    let text = changed(alloc, key, value)?;
+    let fields = fields(alloc, text.as_bytes())?;
+    let Some((_, number)) = fields.as_str().rsplit_once(" ") else {
+        return Err(Fail::new("a fault that has one field"));
+    };
+    is_text(rt, number, key.number, key.line);
+    Ok(())
 }
 
 // With this value the description has this fault of the key.

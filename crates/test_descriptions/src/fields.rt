@@ -11,7 +11,7 @@ use std::test::Fail;
 // What stands behind the front, and the fields of its fault: a row for each table, with the last of its keys.
 const FIELDS: &str = r"---
 hpet = 1
-=> 0 0 11
+=> 0 0 13
 ---
 firmware.minor = ''
 => 2 0 4
@@ -73,8 +73,8 @@ fn are_fields(
     Ok(())
 }
 
-// A machine has twenty parts to drop: it is proved once, in the call.
-fn fields(alloc: Global, bytes: &[u8]) -> Result<String, Fail> {
+/// The fields of the fault of bytes. A machine has twenty parts to drop: it is proved once, in the call.
+pub(crate) fn fields(alloc: Global, bytes: &[u8]) -> Result<String, Fail> {
     let read = read_machine(alloc, bytes);
     let fields = fields_in(alloc, &read);
     drop(read);
@@ -87,7 +87,11 @@ fn fields_in(alloc: Global, read: &Result<Machine, DescFault>) -> Result<String,
         Err(DescFault::UnknownKey { table, index, key }) => {
             of_unknown(alloc, *table, *index, key.as_slice())
         }
-        Err(DescFault::WrongKind { table, index, key }) => of_known(alloc, *table, *index, *key),
+        Err(
+            DescFault::MissingKey { table, index, key }
+            | DescFault::WrongKind { table, index, key }
+            | DescFault::OutOfRange { table, index, key },
+        ) => of_known(alloc, *table, *index, *key),
         _ => Err(Fail::new("another fault, or a machine")),
     }
 }
@@ -101,7 +105,7 @@ fn of_known(alloc: Global, table: u8, index: u32, key: u8) -> Result<String, Fai
     Ok(format!(in alloc; "{table} {index} {key}")?)
 }
 
-// The greatest position, and numbers of tables and keys that the schema doesn't have.
+// The greatest position, and numbers of tables and keys that the schema doesn't have: of a key that is still to come there is no name.
 #[test]
 fn lines_of_other_numbers(rt: HostRuntime) {
     let greatest = DescFault::WrongKind {
@@ -114,6 +118,12 @@ fn lines_of_other_numbers(rt: HostRuntime) {
         &greatest,
         "description: wrong kind acpi 4294967295 oem_id\n",
     );
+    let to_come = DescFault::MissingKey {
+        table: 0,
+        index: 0,
+        key: 3,
+    };
+    has_line(&rt, &to_come, "description: missing key root 0 \n");
     let past = DescFault::MissingKey {
         table: 9,
         index: 0,

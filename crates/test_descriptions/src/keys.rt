@@ -1,73 +1,74 @@
 //! The keys of a description and values of each kind, as docs/FORMATS.md has them. Nothing here is taken from the reader.
 
-/// A line for each key, in the order in which keys are looked at: its table, its name, its kind, and what is read where it is left out. A
-/// number behind a `u` is how many bits an integer has, and the version is the integer 1. `!` marks a key that must be there, and `none`
-/// one without which the machine has nothing there. Behind these stands the rule that the description with every key breaks where this
-/// key has the most that it may have, or where this table or array is left out, if it breaks one.
-pub(crate) const KEYS: &str = r#"root version 1 !
-root top_mib u32 ! rule 1 index 0
-root oem_strings texts []
-root system table !
-root firmware table none
-root chassis table none
-root socket tables []
-root dimm tables [] rule 9 index 0
-root range tables [] rule 9 index 0
-root slot tables []
-root acpi table none rule 13 index 1
-root hpet table none
-system manufacturer text ""
-system product text ""
-system version text ""
-system serial text ""
-system sku text ""
-system family text ""
-system uuid uuid none
-firmware vendor text ""
-firmware version text ""
-firmware date text ""
-firmware major u8 0
-firmware minor u8 0
-chassis manufacturer text ""
-chassis version text ""
-chassis serial text ""
-chassis asset text ""
-chassis sku text ""
-chassis kind u8 1 rule 6 index 0
-socket designation text ""
-socket manufacturer text ""
-socket version text ""
-socket serial text ""
-socket asset text ""
-socket part text ""
-socket cores u16 ! rule 7 index 1
-socket threads u16 ! rule 7 index 1
-socket mhz u16 0
-dimm locator text ""
-dimm bank text ""
-dimm manufacturer text ""
-dimm serial text ""
-dimm asset text ""
-dimm part text ""
-dimm size_mib u32 ! rule 8 index 1
-dimm speed u16 0 rule 8 index 1
-range base_mib u32 !
-range size_mib u32 ! rule 10 index 1
-range node u8 0 rule 24 index 1
-slot designation text ""
-slot kind u8 1
-slot width u8 1
-slot used bool false
-slot id u16 0
-slot bus u8 0
-slot device u8 0 rule 12 index 1
-slot function u8 0 rule 12 index 1
-acpi oem_id text "BOCHS" rule 16 index 0
-acpi oem_table_id text "BXPC" rule 16 index 1
-hpet address u32 0xFED00000 rule 18 index 0
-hpet block_id u32 0x8086A201
-hpet number u8 0
-hpet min_tick u16 100"#;
+/// A line for each key, in the order in which keys are looked at: its table, its number, its name, its kind, and what is read where it is
+/// left out. Numbers that no line has are kept for keys to come. A number behind a `u` is how many bits an integer has, and the version is
+/// the integer 1. `!` marks a key that must be there, and `none` one without which the machine has nothing there. Behind these stands the
+/// rule that the description with every key breaks where this key has the most that it may have, or where this table or array is left
+/// out, if it breaks one.
+pub(crate) const KEYS: &str = r#"root 0 version 1 !
+root 1 top_mib u32 ! rule 1 index 0
+root 2 oem_strings texts []
+root 4 system table !
+root 5 firmware table none
+root 6 chassis table none
+root 7 socket tables []
+root 8 dimm tables [] rule 9 index 0
+root 9 range tables [] rule 9 index 0
+root 10 slot tables []
+root 11 acpi table none rule 13 index 1
+root 13 hpet table none
+system 0 manufacturer text ""
+system 1 product text ""
+system 2 version text ""
+system 3 serial text ""
+system 4 sku text ""
+system 5 family text ""
+system 6 uuid uuid none
+firmware 0 vendor text ""
+firmware 1 version text ""
+firmware 2 date text ""
+firmware 3 major u8 0
+firmware 4 minor u8 0
+chassis 0 manufacturer text ""
+chassis 1 version text ""
+chassis 2 serial text ""
+chassis 3 asset text ""
+chassis 4 sku text ""
+chassis 5 kind u8 1 rule 6 index 0
+socket 0 designation text ""
+socket 1 manufacturer text ""
+socket 2 version text ""
+socket 3 serial text ""
+socket 4 asset text ""
+socket 5 part text ""
+socket 6 cores u16 ! rule 7 index 1
+socket 7 threads u16 ! rule 7 index 1
+socket 8 mhz u16 0
+dimm 0 locator text ""
+dimm 1 bank text ""
+dimm 2 manufacturer text ""
+dimm 3 serial text ""
+dimm 4 asset text ""
+dimm 5 part text ""
+dimm 6 size_mib u32 ! rule 8 index 1
+dimm 7 speed u16 0 rule 8 index 1
+range 0 base_mib u32 !
+range 1 size_mib u32 ! rule 10 index 1
+range 2 node u8 0 rule 24 index 1
+slot 0 designation text ""
+slot 1 kind u8 1
+slot 2 width u8 1
+slot 3 used bool false
+slot 4 id u16 0
+slot 5 bus u8 0
+slot 6 device u8 0 rule 12 index 1
+slot 7 function u8 0 rule 12 index 1
+acpi 0 oem_id text "BOCHS" rule 16 index 0
+acpi 1 oem_table_id text "BXPC" rule 16 index 1
+hpet 0 address u32 0xFED00000 rule 18 index 0
+hpet 1 block_id u32 0x8086A201
+hpet 2 number u8 0
+hpet 3 min_tick u16 100"#;
 
 /// Lines of values: kinds of keys, what is told of a description that has one of the values at a key of such a kind, and the values. A
 /// value that is accepted is the most that its kind may have. This and a text that breaks rule 3 are no faults of the key.
@@ -107,6 +108,8 @@ pub(crate) struct Key<'a> {
     pub(crate) table: &'a str,
     /// Gives the table's place in its array, or 0 of a table that is in none.
     pub(crate) index: u32,
+    /// Gives its number, in digits.
+    pub(crate) number: &'a str,
     pub(crate) name: &'a str,
     pub(crate) kind: &'a str,
     pub(crate) default: &'a str,
@@ -118,6 +121,7 @@ impl<'a> Key<'a> {
     /// Returns the key that a line is of, in the table of this place.
     pub(crate) fn of(line: &'a str, index: u32) -> Option<Key<'a>> {
         let (table, rest) = line.split_once(" ")?;
+        let (number, rest) = rest.split_once(" ")?;
         let (name, rest) = rest.split_once(" ")?;
         let (kind, rest) = rest.split_once(" ")?;
         if !is_among(KINDS, kind) {
@@ -128,6 +132,7 @@ impl<'a> Key<'a> {
             line,
             table,
             index,
+            number,
             name,
             kind,
             default,

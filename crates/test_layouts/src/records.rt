@@ -5,7 +5,10 @@ use crate::rows::is;
 use std::alloc::Global;
 use std::process::Abort;
 use std::test::Fail;
-use vt_layout::{RecordFault, RecordReader, Row, RowList, put_rows, read, record_laws, rows_of};
+use vt_layout::{
+    RecordFault, RecordReader, RecordSize, Row, RowList, put_rows, read, record_laws,
+    record_size_of, rows_of,
+};
 use vt_outside::{Bytes, List, OutOfMemory, Text};
 
 // A parcel from the first string to the second, with no note. Each other byte tells its place.
@@ -109,7 +112,20 @@ fn is_refused(
     }
 }
 
-// Where there is no room, a row is left out.
+// Its bytes are counted as they are written, those of its strings with a NUL each.
+#[test]
+fn counted(rt: HostRuntime) -> Result<(), Fail> {
+    let strings = two_strings(rt.alloc())?;
+    let parcel: Parcel = read(rt.alloc(), AREA, strings.as_slice())?;
+    let wanted = RecordSize {
+        area: AREA.len(),
+        strings: b"Ann\0Bo\0".len(),
+    };
+    is(&rt, &record_size_of(rt.alloc(), &parcel), &wanted);
+    Ok(())
+}
+
+// Where there is no room, a row is left out, and only counted.
 #[test]
 fn list_of_rows(rt: HostRuntime) -> Result<(), Fail> {
     let text = Text::new(rt.alloc());
@@ -117,6 +133,11 @@ fn list_of_rows(rt: HostRuntime) -> Result<(), Fail> {
     rows.word(0x0102);
     rows.text(&text);
     rows.byte(9);
+    let wanted = RecordSize {
+        area: 4,
+        strings: 0,
+    };
+    is(&rt, &rows.size(), &wanted);
     are_bytes(&rt, rt.alloc(), &rows, b"\x02\x01\0")
 }
 

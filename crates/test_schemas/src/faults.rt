@@ -20,25 +20,25 @@ static AT_THE_ROOT: [(&str, &str); 23] = [
     ("version = 1\nfast = \"true\"", "wrong kind 0 0 3"),
     ("version = 1\nmode = 0", "wrong kind 0 0 4"),
     ("version = 1\nmode = \"mem\"", "out of range 0 0 4"),
-    ("version = 1\ncpu = 4294967296", "out of range 0 0 5"),
-    ("version = 1\ntags = \"a\"", "wrong kind 0 0 6"),
-    ("version = 1\ntags = [\"a\", \"b\", 3]", "wrong kind 0 0 6"),
-    ("version = 1\ndistance = [9, \"a\"]", "out of range 0 0 7"),
-    ("version = 1\ndistance = [10, 256]", "out of range 0 0 7"),
-    ("version = 1\nsystem = 1", "wrong kind 0 0 8"),
-    ("version = 1\nbridge = {}", "wrong kind 0 0 9"),
-    ("version = 1\nbridge = [{}, 1]", "wrong kind 0 0 9"),
+    ("version = 1\ncpu = 4294967296", "out of range 0 0 6"),
+    ("version = 1\ntags = \"a\"", "wrong kind 0 0 7"),
+    ("version = 1\ntags = [\"a\", \"b\", 3]", "wrong kind 0 0 7"),
+    ("version = 1\ndistance = [9, \"a\"]", "out of range 0 0 8"),
+    ("version = 1\ndistance = [10, 256]", "out of range 0 0 8"),
+    ("version = 1\nsystem = 1", "wrong kind 0 0 10"),
+    ("version = 1\nbridge = {}", "wrong kind 0 0 255"),
+    ("version = 1\nbridge = [{}, 1]", "wrong kind 0 0 255"),
 ];
 
 // Faults in a table, in an element of an array, and in an array inside one, whose positions count through all of them.
 static INSIDE: [(&str, &str); 16] = [
-    ("version = 1\n[system]", "missing 1 0 1"),
+    ("version = 1\n[system]", "missing 1 0 3"),
     ("version = 1\n[system]\nz = 1\nd = 1", "unknown 1 0 d"),
     ("version = 1\n[system]\nserial = 1", "wrong kind 1 0 0"),
-    ("version = 1\n[system]\ncores = 256", "out of range 1 0 1"),
+    ("version = 1\n[system]\ncores = 256", "out of range 1 0 3"),
     (
         "version = 1\nbridge = [1]\n[system]\ncores = 0",
-        "out of range 1 0 1",
+        "out of range 1 0 3",
     ),
     (
         "version = 1\n[[bridge]]\n[[bridge]]\nbus = 1",
@@ -46,19 +46,19 @@ static INSIDE: [(&str, &str); 16] = [
     ),
     (
         "version = 1\n[[bridge]]\nlast_bus = 256\n[[bridge]]\nbus = 1",
-        "out of range 2 0 0",
+        "out of range 2 0 1",
     ),
     (
         "version = 1\n[[bridge]]\n[[bridge]]\nlast_bus = true",
-        "wrong kind 2 1 0",
+        "wrong kind 2 1 1",
     ),
     (
         "version = 1\n[[bridge]]\n[[bridge]]\nwindow = 5",
-        "wrong kind 2 1 1",
+        "wrong kind 2 1 2",
     ),
     (
         "version = 1\n[[bridge]]\n[[bridge]]\nwindow = [5]",
-        "wrong kind 2 1 1",
+        "wrong kind 2 1 2",
     ),
     (
         "version = 1\n[[bridge]]\n[[bridge.window]]\n[[bridge]]\n[[bridge.window]]\nkind = 1",

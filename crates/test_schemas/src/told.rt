@@ -43,7 +43,7 @@ fn told_words(alloc: Global, words: &str) -> Result<String, Fail> {
 /// What a walk gives of a text.
 pub(crate) fn walked(alloc: Global, text: &str) -> Result<Result<Values, WalkError>, Fail> {
     let root = table_from_str(alloc, text)?;
-    Ok(walk_document(alloc, &SCHEMA, &root))
+    Ok(walk_document(alloc, SCHEMA, &root))
 }
 
 fn told_values(alloc: Global, values: &mut Values) -> Result<String, Fail> {

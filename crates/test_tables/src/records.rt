@@ -2,14 +2,15 @@
 //! IA-PC HPET 1.0a 3.2.4.
 
 use crate::built::{inventory_of_sketch, is};
-use acpi_model::{AcpiTables, GenericAddress, Head, HpetTable, head_of, hpet_of};
+use acpi_model::{AcpiTables, GenericAddress, Head, HpetTable, Table, gathered, head_of, hpet_of};
 use fixtures::{FULL_MACHINE, HPET, Sketch, acpi};
 use machine_desc::Acpi;
 use smbios_model::{Body, SmbiosTable, Structure, SystemInfo, uuid_field};
 use std::process::Abort;
 use std::test::Fail;
 use table_model::Inventory;
-use vt_outside::Text;
+use vt_layout::read;
+use vt_outside::{List, Text};
 
 // What the statics below are made of.
 const REVISION_1: Head = Head {
@@ -42,6 +43,25 @@ static HPET_TABLE: HpetTable = HpetTable {
     },
     number: 5,
     min_tick: 0x0607,
+};
+
+// The same table as bytes: its checksum makes them sum to zero.
+static HPET_BYTES: &[u8] = b"HPET\x38\0\0\0\x01\xACACME  VMTABLE \x01\0\0\0VMTB\x01\0\0\0\
+    \x04\x03\x02\x01\0\x40\0\0\0\x04\xD0\xFE\0\0\0\0\x05\x07\x06\0";
+
+// The HPET table of another timer.
+static OTHER_HPET: HpetTable = HpetTable {
+    head: REVISION_1,
+    block_id: 1,
+    address: GenericAddress {
+        space: 1,
+        width: 32,
+        offset: 2,
+        access: 3,
+        address: 0x0102_0304_0506_0708,
+    },
+    number: 4,
+    min_tick: 5,
 };
 
 // The machine's UUID, whose first three fields are little-endian.
@@ -143,6 +163,30 @@ fn are_the_records_of(rt: &impl Abort, acpi: &Acpi) -> Result<(), Fail> {
     is(rt, &head_of(acpi, 3), &OTHER_HEAD);
     is(rt, &hpet_of(acpi, HPET), &HPET_TABLE);
     Ok(())
+}
+
+#[test]
+fn an_hpet_table_is_read(rt: HostRuntime) {
+    match read::<HpetTable>(rt.alloc(), HPET_BYTES, &[]) {
+        Ok(table) => is(&rt, &table, &HPET_TABLE),
+        Err(_) => panic!(&rt; "no HPET table"),
+    }
+    assert!(rt; read::<HpetTable>(rt.alloc(), &HPET_BYTES[..55], &[]).is_err());
+}
+
+#[test]
+fn the_first_table_of_a_kind_is_gathered(rt: HostRuntime) {
+    let found = [Table::Hpet(HPET_TABLE), Table::Hpet(OTHER_HPET)];
+    let tables = gathered(*b"ACME  ", REVISION_1, &found, List::new(rt.alloc()));
+    are_the_acpi_tables(&rt, &tables);
+    drop(tables);
+}
+
+#[test]
+fn without_tables_none_is_gathered(rt: HostRuntime) {
+    let tables = gathered(*b"ACME  ", REVISION_1, &[], List::new(rt.alloc()));
+    assert!(rt; tables.hpet.is_none());
+    drop(tables);
 }
 
 #[test]

@@ -14,13 +14,13 @@ use Rattle.acpi_model.specs.declared.acpi.Table.{Table}
 use Rattle.acpi_model.specs.Header.{head_of, padded}
 use Rattle.acpi_model.specs.Xsdt.{IsXsdt, given}
 use Rattle.acpi_model.specs.Rsdp.{rsdp_rows}
-use Rattle.acpi_model.specs.Acpi.{IsAt, rows_of, linked_table}
-use Rattle.acpi_model.specs.Walked.{AreAt}
+use Rattle.acpi_model.specs.Acpi.{IsAt, AreAt, rows_of, linked_table}
 use Rattle.blob_holes.specs.declared.hole.PointerHole.{PointerHole}
 use Rattle.blob_holes.specs.declared.hole.SumHole.{SumHole}
 use Rattle.blob_holes.specs.Blob.{BlobState, IsBlob, next_place}
 use Rattle.blob_holes.specs.Grown.{IsLinkable}
-use Rattle.acpi_append.specs.Tables.{tables_name, table_pointer, with_table, with_rsdp, IsTablePut, IsXsdtPut, IsRsdpPut}
+use Rattle.acpi_model.specs.Kinds.{tables_name}
+use Rattle.acpi_append.specs.Tables.{table_pointer, with_table, with_rsdp, IsTablePut, IsXsdtPut, IsRsdpPut}
 use Rattle.image_files.specs.Files.{whole}
 use Rattle.vm_image.specs.Image.{AcpiImage, with_tables, places_in, xsdt_place, acpi_files}
 use Rattle.vm_image.specs.AcpiHeld.{most_bytes, AreAppended, IsTablesFile, IsAcpiImage}
@@ -38,6 +38,11 @@ places_in-more : (file : BlobState) (tables : List Table) (table : Table)
     → places_in file (tables ++ table ∷ []) ≡ places_in file tables ++ next_place 16 (with_tables file tables) ∷ []
 places_in-more file [] table = refl
 places_in-more file (first ∷ tables) table = ap (λ places. next_place 16 file ∷ places) (places_in-more (with_table file first) tables table)
+
+-- each table has its place
+pub length-places : (file : BlobState) (tables : List Table) → length (places_in file tables) ≡ length tables
+length-places file [] = refl
+length-places file (table ∷ tables) = omega (arith, length-places (with_table file table) tables)
 
 -- the most bytes with those of one table more
 pub most_bytes-more : (tables : List Table) (table : Table) → most_bytes (tables ++ table ∷ []) ≡ most_bytes tables + (24 + size (rows_of table))

@@ -1,7 +1,6 @@
 -- The files of an accepted machine's ACPI tables, by the definitions alone: all is known of them that the calls say that make them.
-use Rattle.std.proofs.Common.{◌≡◌, ℕ, ◌+◌, ◌^◌, ◌<◌, ◌≤◌, inr, List, [], ◌∷◌, ◌++◌, length, map, codes, Option, Some, None, arith, rules, refl, ap}
+use Rattle.std.proofs.Common.{◌≡◌, ℕ, ◌+◌, ◌*◌, ◌^◌, ◌<◌, ◌≤◌, inr, List, [], ◌∷◌, ◌++◌, length, map, codes, Option, Some, None, arith, rules, refl, ap}
 use Rattle.std.proofs.Common.{sym, subst, ◌∙◌, append-nil, append_assoc}
-use Rattle.std.specs.Prelude.{IfSome}
 use Rattle.std.specs.List.{AllByRecursion}
 use Rattle.vt_bytes.proofs.Each.{each_append}
 use Rattle.vt_layout.specs.declared.row.Row.{Row}
@@ -9,34 +8,31 @@ use Rattle.vt_layout.specs.Rows.{size, IsRow}
 use Rattle.vt_layout.proofs.NumberRows.{size-pointers}
 use Rattle.machine_desc.specs.declared.machine.Machine.{Machine}
 use Rattle.machine_desc.specs.declared.machine.Acpi.{Acpi}
-use Rattle.machine_desc.specs.declared.machine.Hpet.{Hpet as HpetPart}
 use Rattle.machine_desc.specs.Rules.{IsAccepted}
-use Rattle.machine_desc.specs.Fields.{IsFittingHpet, HasFittingFields}
+use Rattle.machine_desc.specs.Fields.{HasFittingFields}
 use Rattle.acpi_model.specs.declared.header.Head.{Head}
 use Rattle.acpi_model.specs.declared.acpi.Table.{Table}
-use Rattle.acpi_model.specs.declared.acpi.Table.TheVariants.{Hpet}
 use Rattle.acpi_model.specs.Header.{FitsHead, head_of, padded}
-use Rattle.acpi_model.specs.Hpet.{hpet_body, hpet_of}
 use Rattle.acpi_model.specs.Xsdt.{xsdt_rows}
 use Rattle.acpi_model.specs.Rsdp.{rsdp_rows}
-use Rattle.acpi_model.specs.Acpi.{IsWritable, rows_of, each_table, tables_of}
+use Rattle.acpi_model.specs.Kinds.{rows_behind}
+use Rattle.acpi_model.specs.Acpi.{layout_of, rows_of, IsWritable, CanBePut, parts_of, tables_of}
+use Rattle.acpi_model.proofs.Headers.{length-padded, head_fits}
+use Rattle.acpi_model.proofs.Parts.{length-present}
+use Rattle.acpi_model.proofs.MachineTables.{machine_writable, machine_can}
 use Rattle.acpi_model.proofs.AcceptedAcpi.{accepted_fits}
 use Rattle.blob_holes.specs.Blob.{BlobState, IsBlob, next_place}
 use Rattle.blob_holes.specs.Rows.{AreRows}
 use Rattle.blob_holes.proofs.RowsKept.{layout_kept}
-use Rattle.acpi_append.specs.Tables.{table_pointer, tables_name, with_table, with_xsdt, with_rsdp, IsRsdpPut}
-use Rattle.acpi_append.proofs.FileTables.{IsFittingHead, table_fits, table_appended, xsdt_appended, rsdp_appended, pointers_unsummed}
+use Rattle.acpi_model.specs.Kinds.{tables_name}
+use Rattle.acpi_append.specs.Tables.{table_pointer, with_table, with_xsdt, with_rsdp, IsRsdpPut}
+use Rattle.acpi_append.proofs.FileTables.{table_fits, put_fits, table_appended, xsdt_appended, rsdp_appended, pointers_unsummed}
 use Rattle.image_files.specs.Files.{whole}
 use Rattle.vm_image.specs.Image.{with_tables, xsdt_place, acpi_files}
-use Rattle.vm_image.specs.AcpiHeld.{most_bytes, AreAppended, IsTablesFile, IsAcpiImage, AreAcpiKnown}
+use Rattle.vm_image.specs.AcpiHeld.{most_bytes, tables_limit, AreFew, AreAppended, IsTablesFile, IsAcpiImage, AreAcpiKnown}
 use Rattle.vm_image.proofs.Whole.{whole_kept, whole_linkable}
 use Rattle.vm_image.proofs.AcpiFiles.{most_bytes-more, map_more, one_more_appended, tables_named, image_known, files_are}
-use Rattle.vm_image.proofs.RsdpShown.{length-padded, rsdp_fits}
-
--- a table that can be put into a file
-pub record CanBePut (table : Table) : Type 0 where
-  pub writable : IsWritable table
-  pub rows : AreRows (rows_of table)
+use Rattle.vm_image.proofs.RsdpShown.{rsdp_fits}
 
 -- tables were put into an empty file, which is a file with holes still, and pointers to their places fit
 record ArePut (tables : List Table) (places : List ℕ) (file : BlobState) : Type 0 where
@@ -46,15 +42,15 @@ record ArePut (tables : List Table) (places : List ℕ) (file : BlobState) : Typ
 
 -- one more table
 one_more_put : (tables : List Table) (places : List ℕ) (file : BlobState) (table : Table) → ArePut tables places file → CanBePut table
-    → most_bytes (tables ++ table ∷ []) ≤ 2000 → ArePut (tables ++ table ∷ []) (places ++ next_place 16 file ∷ []) (with_table file table)
+    → most_bytes (tables ++ table ∷ []) ≤ tables_limit → ArePut (tables ++ table ∷ []) (places ++ next_place 16 file ∷ []) (with_table file table)
 one_more_put tables places file table put can few =
     let before = put.appended in
     let near : next_place 16 file ≤ length file.bytes + 16 = omega arith in
     let short : next_place 16 file + size (rows_of table) < 2 ^ 32 = omega (arith, before.few, near, few, most_bytes-more tables table) in
     record {
       appended = one_more_appended tables places file (with_table file table) table (next_place 16 file) before refl
-          (table_appended file put.blob table can.writable can.rows short);
-      blob = layout_kept 16 file (rows_of table) put.blob can.rows short;
+          (table_appended file put.blob table can.writable (put_fits table can) short);
+      blob = layout_kept 16 file (rows_of table) put.blob (put_fits table can) short;
       pointers = subst (AllByRecursion IsRow) (sym (map_more table_pointer places (next_place 16 file)))
           (each_append IsRow (map table_pointer places) (table_pointer (next_place 16 file) ∷ []) put.pointers
           ((inr (inr (inr refl)), omega (arith, before.few, near, few, most_bytes-more tables table)), tt));
@@ -67,11 +63,11 @@ most_bytes-front (table ∷ tables) more = omega (arith, most_bytes-front tables
 
 -- and all others
 all_put : (tables more : List Table) (places : List ℕ) (file : BlobState) → ArePut tables places file → AllByRecursion CanBePut more
-    → most_bytes (tables ++ more) ≤ 2000 → (those : List ℕ) × (other : BlobState) × ArePut (tables ++ more) those other
+    → most_bytes (tables ++ more) ≤ tables_limit → (those : List ℕ) × (other : BlobState) × ArePut (tables ++ more) those other
 all_put tables [] places file put can few = (places, file, subst (λ all. ArePut all places file) (sym (append-nil tables)) put)
 all_put tables (table ∷ more) places file put can few =
     let split : (tables ++ table ∷ []) ++ more ≡ tables ++ table ∷ more = append_assoc tables (table ∷ []) more in
-    let all : most_bytes ((tables ++ table ∷ []) ++ more) ≤ 2000 = subst (λ those. most_bytes those ≤ 2000) (sym split) few in
+    let all : most_bytes ((tables ++ table ∷ []) ++ more) ≤ tables_limit = subst (λ those. most_bytes those ≤ tables_limit) (sym split) few in
     let once = one_more_put tables places file table put can.0 (omega (arith, all, most_bytes-front (tables ++ table ∷ []) more)) in
     let rest = all_put (tables ++ table ∷ []) more (places ++ next_place 16 file ∷ []) (with_table file table) once can.1 all in
     (rest.0, rest.1, subst (λ those. ArePut those rest.0 rest.1) split rest.2)
@@ -90,19 +86,8 @@ none_put = record {
   pointers = tt;
 }
 
--- the header of a maker's tables fits
-head_fits : (acpi : Acpi) → FitsHead acpi → IsFittingHead (head_of acpi 1)
-head_fits acpi fits = record {
-  revision = omega arith;
-  oem_id = length-padded 6 acpi.oem_id fits.oem_id;
-  oem_table_id = length-padded 8 acpi.oem_table_id fits.oem_table_id;
-  oem_revision = omega arith;
-  creator_id = refl;
-  creator_revision = omega arith;
-}
-
 -- all is known of the files of tables that can be put there
-known_image : (acpi : Acpi) (tables : List Table) → FitsHead acpi → AllByRecursion CanBePut tables → most_bytes tables ≤ 2000
+known_image : (acpi : Acpi) (tables : List Table) → FitsHead acpi → AllByRecursion CanBePut tables → most_bytes tables ≤ tables_limit
     → IsAcpiImage acpi tables (acpi_files acpi tables)
 known_image acpi tables fits can few =
     let all = all_put [] tables [] (whole []) none_put can few in
@@ -114,7 +99,7 @@ known_image acpi tables fits can few =
     let rows : List Row = xsdt_rows head (map table_pointer places) in
     let sizes = size-pointers 8 tables_name places in
     let near : next_place 16 file ≤ length file.bytes + 16 = omega arith in
-    let are : AreRows rows = table_fits (codes "XSDT") head (map table_pointer places) refl (omega (arith, sizes, appended.few)) (head_fits acpi fits)
+    let are : AreRows rows = table_fits (codes "XSDT") head (map table_pointer places) refl (omega (arith, sizes, appended.few)) (head_fits acpi 1 fits (omega arith))
     put.pointers (pointers_unsummed places) in
     let short : next_place 16 file + size rows < 2 ^ 32 = omega (arith, sizes, near, appended.few) in
     let xsdt = xsdt_appended file put.blob head places are short in
@@ -138,48 +123,22 @@ known_image acpi tables fits can few =
     (layout_kept 16 (whole []) (rsdp_rows oem_id (table_pointer (xsdt_place tables))) empty rsdp_are (omega arith))
     (layout_kept 16 file rows put.blob are short) last_is tables_file)
 
--- the HPET's table can be put there
-hpet_can : (acpi : Acpi) (hpet : HpetPart) → FitsHead acpi → IsFittingHpet hpet → CanBePut (Hpet (hpet_of acpi hpet))
-hpet_can acpi hpet fits fit =
-    let address : hpet.address < 256 ^ 8 = omega (arith, fit.address) in
-    let block_id : hpet.block_id < 256 ^ 4 = fit.block_id in
-    let number : hpet.number < 256 = fit.number in
-    let min_tick : hpet.min_tick < 256 ^ 2 = fit.min_tick in
-    record {
-      writable = tt;
-      rows = table_fits (codes "HPET") (head_of acpi 1) (hpet_body (hpet_of acpi hpet)) refl (omega arith) (head_fits acpi fits) (
-        (omega arith, block_id),
-        (
-          (omega arith, omega arith),
-          (
-            (omega arith, omega arith),
-            ((omega arith, omega arith), ((omega arith, omega arith), ((omega arith, address), ((omega arith, number), ((omega arith, min_tick), (tt, tt)))))),
-          ),
-        ),
-      ) (search rules);
-    }
+-- tables that can be written are small
+few_by_count : (tables : List Table) → AllByRecursion IsWritable tables → most_bytes tables ≤ length tables * 65596
+few_by_count [] writable = omega arith
+few_by_count (table ∷ tables) writable =
+    let first : size (rows_of table) ≡ 36 + size (rows_behind (layout_of table)) = omega arith in
+    omega (arith, first, writable.0.few, few_by_count tables writable.1)
 
--- a part's table can be put there, where there is one, and is small
+-- so are those of a machine, which are as many as its parts at most
+pub tables_few : (m : Machine) (acpi : Acpi) → AreFew (tables_of m acpi)
+tables_few m acpi =
+    let number = length-present (parts_of m acpi) in
+    record { number = omega (arith, number); bytes = omega (arith, few_by_count (tables_of m acpi) (machine_writable m acpi), number) }
 
-part_can : {Part : Type 0} (table_of : Part → Table) (Fits : Part → Type 0) → ((part : Part) → Fits part → CanBePut (table_of part))
-    → (part : Option Part) → IfSome part Fits → AllByRecursion CanBePut (each_table table_of part)
-part_can table_of Fits can None fit = tt
-part_can table_of Fits can (Some part) fit = (can part fit, tt)
-
-part_few : {Part : Type 0} (table_of : Part → Table) (most : ℕ) → ((part : Part) → 24 + size (rows_of (table_of part)) ≤ most) → (part : Option Part)
-    → most_bytes (each_table table_of part) ≤ most
-part_few table_of most few None = omega arith
-part_few table_of most few (Some part) = omega (arith, few part)
-
--- a machine's tables are small
-pub tables_few : (m : Machine) (acpi : Acpi) → most_bytes (tables_of m acpi) ≤ 2000
-tables_few m acpi = part_few (λ hpet. Hpet (hpet_of acpi hpet)) 2000 (λ hpet. omega arith) m.hpet
-
--- so all is known of the files of an accepted machine's tables
+-- and all is known of the files of an accepted machine's tables
 pub acpi_known : (m : Machine) (maker : Option Acpi) → IsAccepted m → HasFittingFields m → m.acpi ≡ maker → AreAcpiKnown m maker
 acpi_known m None accepted fit is = tt
 acpi_known m (Some acpi) accepted fit is =
     let fits : FitsHead acpi = accepted_fits m acpi accepted is in
-    known_image acpi (tables_of m acpi) fits
-    (part_can (λ (hpet : HpetPart). Hpet (hpet_of acpi hpet)) IsFittingHpet (λ hpet fits_it. hpet_can acpi hpet fits fits_it) m.hpet fit.hpet)
-    (tables_few m acpi)
+    known_image acpi (tables_of m acpi) fits (machine_can m acpi fits fit) (tables_few m acpi).bytes

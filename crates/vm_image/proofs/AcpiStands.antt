@@ -1,5 +1,5 @@
 -- The files of ACPI tables, where there are some, wherever they stand in memory.
-use Rattle.std.proofs.Common.{◌≡◌, ℕ, ◌+◌, ◌<◌, ◌≤◌, List, length, map, Option, Some, None, option_map, refl, arith}
+use Rattle.std.proofs.Common.{◌≡◌, ℕ, ◌+◌, ◌<◌, ◌≤◌, List, [], length, map, Option, Some, None, option_map, refl, sym, arith}
 use Rattle.std.specs.Prelude.{MatchOption}
 use Rattle.std.specs.List.{AllByRecursion}
 use Rattle.vt_bytes.specs.Memory.{Memory, seen}
@@ -11,11 +11,15 @@ use Rattle.acpi_model.specs.Header.{head_of, padded}
 use Rattle.acpi_model.specs.Rsdp.{rsdp_rows, HasRsdp}
 use Rattle.acpi_model.specs.Acpi.{ShowsAcpi, linked_table, tables_of, acpi_of}
 use Rattle.acpi_model.proofs.AcceptedAcpi.{accepted_fits}
-use Rattle.acpi_model.proofs.Walked.{walked, machine_added}
-use Rattle.acpi_append.specs.Tables.{tables_name, table_pointer}
+use Rattle.acpi_model.proofs.Headers.{length-padded}
+use Rattle.acpi_model.proofs.OneAcpi.{walked}
+use Rattle.acpi_model.proofs.SameTold.{gathered-linked}
+use Rattle.acpi_model.proofs.MachineTables.{machine_distinct}
+use Rattle.acpi_model.specs.Kinds.{tables_name}
+use Rattle.acpi_append.specs.Tables.{table_pointer}
 use Rattle.vm_image.specs.Image.{acpi_files, acpi_part, rsdp_name, xsdt_place}
 use Rattle.vm_image.specs.AcpiHeld.{HoldsTables, AreAcpiKnown}
-use Rattle.vm_image.proofs.RsdpShown.{length-padded, rsdp_shown}
+use Rattle.vm_image.proofs.RsdpShown.{rsdp_shown}
 use Rattle.vm_image.proofs.Standing.{Stands}
 use Rattle.vm_image.proofs.Marks.{IsClearFile}
 use Rattle.vm_image.proofs.Clear.{rsdp_mark, anchor_mark, clear_behind, rsdp_clear}
@@ -72,6 +76,8 @@ module _ (m : Memory) (place_of : List ℕ → ℕ) (high : 0x4000000 ≤ m.top)
         );
         addresses = held.addresses;
         listed = held.listed;
-        tables = walked (seen m) held.addresses (map (linked_table place_of) (tables_of machine acpi)) _ _ held.stand
-            (machine_added (seen m) place_of machine acpi);
+        tables = map (linked_table place_of) (tables_of machine acpi);
+        named = walked (seen m) held.addresses (map (linked_table place_of) (tables_of machine acpi)) held.stand;
+        distinct = machine_distinct place_of machine acpi;
+        told = sym (gathered-linked place_of (padded 6 acpi.oem_id) (head_of acpi 1) (tables_of machine acpi) []);
       }

@@ -4,7 +4,7 @@ use Rattle.std.specs.List.{AllByRecursion}
 use Rattle.std.specs.Str.{bytes_eq}
 use Rattle.machine_desc.specs.declared.machine.Machine.{Machine}
 use Rattle.machine_desc.specs.declared.machine.Acpi.{Acpi}
-use Rattle.acpi_append.specs.Tables.{tables_name}
+use Rattle.acpi_model.specs.Kinds.{tables_name}
 use Rattle.image_files.specs.Files.{ImageFile}
 use Rattle.loader_script.specs.LoaderName.{loader_name}
 use Rattle.image_files.specs.Linkable.{HasNoName, AreDistinct}

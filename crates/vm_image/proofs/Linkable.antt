@@ -17,6 +17,7 @@ use Rattle.vm_image.proofs.StructuresSize.{structures_size}
 use Rattle.vm_image.proofs.Whole.{whole_kept, whole_linkable}
 use Rattle.vm_image.proofs.Anchor.{anchor_kept, anchor_linkable}
 use Rattle.vm_image.proofs.DistinctNames.{image_distinct}
+use Rattle.acpi_model.proofs.MachineTables.{machine_writable}
 use Rattle.vm_image.proofs.Targets.{HoleLeads, tables_lead, rsdp_leads}
 
 -- 64 is a power of two
@@ -79,7 +80,8 @@ acpi_lead : (m : Machine) (maker : Option Acpi) → AllByRecursion (LeadsAmong (
 acpi_lead m None = tt
 acpi_lead m (Some acpi) = (
   each_weaker HoleLeads (λ (hole : PointerHole). IsPlacedName (acpi_placed (acpi_files acpi (tables_of m acpi))) hole.target)
-      (λ hole leads. inl (sym leads, refl)) (acpi_files acpi (tables_of m acpi)).tables.pointers (tables_lead acpi (tables_of m acpi)),
+      (λ hole leads. inl (sym leads, refl)) (acpi_files acpi (tables_of m acpi)).tables.pointers
+      (tables_lead acpi (tables_of m acpi) (machine_writable m acpi)),
   (
     each_weaker HoleLeads (λ (hole : PointerHole). IsPlacedName (acpi_placed (acpi_files acpi (tables_of m acpi))) hole.target)
         (λ hole leads. inl (sym leads, refl)) (acpi_files acpi (tables_of m acpi)).rsdp.pointers (rsdp_leads acpi (tables_of m acpi)),

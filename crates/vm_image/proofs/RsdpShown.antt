@@ -1,18 +1,13 @@
 -- An RSDP that a view holds with its holes filled.
-use Rattle.std.proofs.Common.{◌≡◌, ℕ, ◌+◌, ◌-◌, ◌%◌, ◌^◌, ◌<◌, ◌≤◌, inr, refl, List, length, replicate, arith, length-append}
-use Rattle.std.proofs.lemmas.List.{length-replicate}
+use Rattle.std.proofs.Common.{◌≡◌, ℕ, ◌+◌, ◌%◌, ◌^◌, ◌<◌, ◌≤◌, inr, refl, List, length, arith}
 use Rattle.std.specs.List.{AllByRecursion}
 use Rattle.vt_bytes.specs.View.{View}
 use Rattle.vt_layout.specs.Rows.{IsRow}
 use Rattle.vt_layout.specs.Shown.{LayoutHeld}
 use Rattle.vt_layout.proofs.Shows.{shown_rows}
-use Rattle.acpi_model.specs.Header.{padded}
 use Rattle.acpi_model.specs.Rsdp.{rsdp_rows, IsRsdp}
-use Rattle.acpi_append.specs.Tables.{tables_name, table_pointer}
-
--- a padded text fills its field
-pub length-padded : (count : ℕ) (text : List ℕ) → length text ≤ count → length (padded count text) ≡ count
-length-padded count text short = omega (arith, length-append text (replicate (count - length text) 0x20), length-replicate {A = ℕ} (count - length text) 0x20)
+use Rattle.acpi_model.specs.Kinds.{tables_name}
+use Rattle.acpi_append.specs.Tables.{table_pointer}
 
 -- the rows of an RSDP fit
 pub rsdp_fits : (oem_id : List ℕ) (xsdt : ℕ) → length oem_id ≡ 6 → xsdt < 2 ^ 32 → AllByRecursion IsRow (rsdp_rows oem_id (table_pointer xsdt))

@@ -16,7 +16,7 @@ use Rattle.vm_image.proofs.StructuresSize.{structures_size}
 acpi_small : (m : Machine) (maker : Option Acpi) → AreAcpiKnown m maker → AllByRecursion IsSmall (acpi_part m maker)
 acpi_small m None known = tt
 acpi_small m (Some acpi) known = (
-  (omega arith, omega (arith, known.tables_file.few, tables_few m acpi)),
+  (omega arith, omega (arith, known.tables_file.few, (tables_few m acpi).bytes)),
   ((omega arith, omega (arith, known.rsdp_size)), tt),
 )
 

@@ -1,29 +1,24 @@
 -- The pointers of the files of ACPI tables lead to the file of the tables.
-use Rattle.std.proofs.Common.{◌≡◌, ℕ, ◌+◌, List, [], ◌∷◌, map, length, refl, rules}
+use Rattle.std.proofs.Common.{◌≡◌, ℕ, ◌+◌, List, [], ◌∷◌, map, length}
 use Rattle.std.specs.List.{AllByRecursion}
 use Rattle.vt_bytes.proofs.Each.{each_append}
 use Rattle.vt_layout.specs.declared.row.Row.{Row}
 use Rattle.vt_layout.specs.declared.row.Row.TheVariants.{Pointer}
 use Rattle.vt_layout.specs.Rows.{width_of}
 use Rattle.machine_desc.specs.declared.machine.Acpi.{Acpi}
-use Rattle.acpi_model.specs.declared.header.Head.{Head}
 use Rattle.acpi_model.specs.declared.acpi.Table.{Table}
-use Rattle.acpi_model.specs.declared.acpi.Table.TheVariants.{Hpet}
 use Rattle.acpi_model.specs.Header.{head_of, padded}
 use Rattle.acpi_model.specs.Xsdt.{xsdt_rows}
 use Rattle.acpi_model.specs.Rsdp.{rsdp_rows}
-use Rattle.acpi_model.specs.Acpi.{rows_of}
+use Rattle.acpi_model.specs.Acpi.{rows_of, IsWritable}
 use Rattle.blob_holes.specs.declared.hole.PointerHole.{PointerHole}
 use Rattle.blob_holes.specs.Blob.{BlobState, aligned}
 use Rattle.blob_holes.specs.Rows.{pointer_of, pointer_holes}
-use Rattle.acpi_append.specs.Tables.{tables_name, table_pointer, with_table}
+use Rattle.acpi_model.specs.Kinds.{tables_name}
+use Rattle.acpi_append.specs.Tables.{Leads, table_pointer, with_table}
+use Rattle.acpi_append.proofs.Leading.{table_leads, xsdt_leads, rsdp_leads as rows_lead}
 use Rattle.image_files.specs.Files.{whole}
 use Rattle.vm_image.specs.Image.{with_tables, places_in, xsdt_place, acpi_files}
-
--- a row that leads to the file of the tables, where it leads to a file
-abbrev Leads : Row → Type 0
-Leads (Pointer width target offset) = target ≡ tables_name
-Leads row = Unit {0}
 
 -- a hole that leads there
 abbrev pub HoleLeads : PointerHole → Type 0
@@ -40,33 +35,21 @@ holes_lead at [] lead = tt
 holes_lead at (row ∷ rows) lead =
     each_append HoleLeads (pointer_of at row) (pointer_holes (at + width_of row) rows) (hole_leads at row lead.0) (holes_lead (at + width_of row) rows lead.1)
 
--- the rows of each table lead there
-table_leads : (table : Table) → AllByRecursion Leads (rows_of table)
-table_leads (Hpet t) = search rules
-
--- so do the entries of an XSDT
-entries_lead : (tables : List ℕ) → AllByRecursion Leads (map table_pointer tables)
-entries_lead [] = tt
-entries_lead (table ∷ tables) = (refl, entries_lead tables)
-
--- and all of its rows
-xsdt_leads : (head : Head) (tables : List ℕ) → AllByRecursion Leads (xsdt_rows head (map table_pointer tables))
-xsdt_leads head tables = (tt, (tt, (tt, (tt, (tt, (tt, (tt, (tt, (tt, entries_lead tables)))))))))
-
 -- each pointer of a file still leads there with tables behind it
-file_leads : (file : BlobState) (tables : List Table) → AllByRecursion HoleLeads file.pointers → AllByRecursion HoleLeads (with_tables file tables).pointers
-file_leads file [] lead = lead
-file_leads file (table ∷ tables) lead =
-    file_leads (with_table file table) tables
+file_leads : (file : BlobState) (tables : List Table) → AllByRecursion IsWritable tables → AllByRecursion HoleLeads file.pointers
+    → AllByRecursion HoleLeads (with_tables file tables).pointers
+file_leads file [] writable lead = lead
+file_leads file (table ∷ tables) writable lead =
+    file_leads (with_table file table) tables writable.1
     (each_append HoleLeads file.pointers (pointer_holes (length (aligned 16 file).bytes) (rows_of table)) lead
-    (holes_lead (length (aligned 16 file).bytes) (rows_of table) (table_leads table)))
+    (holes_lead (length (aligned 16 file).bytes) (rows_of table) (table_leads table writable.0)))
 
 -- each pointer of the tables' file leads to it
-pub tables_lead : (maker : Acpi) (tables : List Table) → AllByRecursion HoleLeads (acpi_files maker tables).tables.pointers
-tables_lead maker tables =
+pub tables_lead : (maker : Acpi) (tables : List Table) → AllByRecursion IsWritable tables → AllByRecursion HoleLeads (acpi_files maker tables).tables.pointers
+tables_lead maker tables writable =
     each_append HoleLeads (with_tables (whole []) tables).pointers
     (pointer_holes (length (aligned 16 (with_tables (whole []) tables)).bytes) (xsdt_rows (head_of maker 1) (map table_pointer (places_in (whole []) tables))))
-    (file_leads (whole []) tables tt)
+    (file_leads (whole []) tables writable tt)
     (holes_lead (length (aligned 16 (with_tables (whole []) tables)).bytes) (xsdt_rows (head_of maker 1) (map table_pointer (places_in (whole []) tables)))
     (xsdt_leads (head_of maker 1) (places_in (whole []) tables)))
 
@@ -74,4 +57,4 @@ tables_lead maker tables =
 pub rsdp_leads : (maker : Acpi) (tables : List Table) → AllByRecursion HoleLeads (acpi_files maker tables).rsdp.pointers
 rsdp_leads maker tables =
     holes_lead (length (aligned 16 (whole [])).bytes) (rsdp_rows (padded 6 maker.oem_id) (table_pointer (xsdt_place tables)))
-    (tt, (tt, (tt, (tt, (tt, (tt, (refl, (tt, (tt, tt)))))))))
+    (rows_lead (padded 6 maker.oem_id) (xsdt_place tables))

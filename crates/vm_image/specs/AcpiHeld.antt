@@ -10,19 +10,28 @@ use Rattle.acpi_model.specs.declared.acpi.Table.{Table}
 use Rattle.acpi_model.specs.Header.{padded, head_of}
 use Rattle.acpi_model.specs.Xsdt.{IsXsdt}
 use Rattle.acpi_model.specs.Rsdp.{rsdp_rows}
-use Rattle.acpi_model.specs.Acpi.{rows_of, linked_table, tables_of}
-use Rattle.acpi_model.specs.Walked.{AreAt}
+use Rattle.acpi_model.specs.Acpi.{rows_of, linked_table, AreAt, tables_of}
 use Rattle.blob_holes.specs.Blob.{BlobState, IsBlob}
 use Rattle.blob_holes.specs.Grown.{IsLinkable}
 use Rattle.blob_holes.specs.Held.{HoldsFilled, WhereHeld}
 use Rattle.image_files.specs.Files.{whole}
-use Rattle.acpi_append.specs.Tables.{tables_name, table_pointer}
+use Rattle.acpi_model.specs.Kinds.{tables_name}
+use Rattle.acpi_append.specs.Tables.{table_pointer}
 use Rattle.vm_image.specs.Image.{AcpiImage, with_tables, places_in, xsdt_place, acpi_files}
 
 -- the most bytes that tables take, with zeros in front of each and its entry in the XSDT
 abbrev pub most_bytes : List Table → ℕ
 most_bytes [] = 0
 most_bytes (table ∷ tables) = 24 + size (rows_of table) + most_bytes tables
+
+-- how many those may be: 448 KiB
+abbrev pub tables_limit : ℕ
+tables_limit = 0x70000
+
+-- so few tables that one XSDT names them, and that there is room for them
+pub record AreFew (tables : List Table) : Type 0 where
+  pub number : length tables ≤ 256
+  pub bytes : most_bytes tables ≤ tables_limit
 
 -- Tables were appended to an empty file: it can be linked, has few bytes, and wherever it stands filled each table stands at its place.
 pub record AreAppended (tables : List Table) (places : List ℕ) (file : BlobState) : Type 0 where

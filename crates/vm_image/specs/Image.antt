@@ -6,7 +6,8 @@ use Rattle.machine_desc.specs.declared.machine.Machine.{Machine}
 use Rattle.machine_desc.specs.declared.machine.Acpi.{Acpi}
 use Rattle.blob_holes.specs.Blob.{BlobState, next_place}
 use Rattle.blob_holes.specs.Rows.{with_rows}
-use Rattle.acpi_append.specs.Tables.{with_table, with_xsdt, with_rsdp, tables_name as acpi_tables_name}
+use Rattle.acpi_model.specs.Kinds.{tables_name as acpi_tables_name}
+use Rattle.acpi_append.specs.Tables.{with_table, with_xsdt, with_rsdp}
 use Rattle.smbios_build.specs.Spelling.{structures_bytes}
 use Rattle.acpi_model.specs.declared.acpi.Table.{Table}
 use Rattle.acpi_model.specs.Header.{head_of, padded}

@@ -1,6 +1,6 @@
 //! The files of a machine's ACPI tables.
 
-ghost use Rattle.std.specs.Prelude.{◌≡◌, ◌≤◌, [], ◌++◌, IfOk, OnOk};
+ghost use Rattle.std.specs.Prelude.{◌≡◌, [], ◌++◌, IfOk, OnOk};
 ghost use Rattle.std.specs.List.{AllByRecursion};
 ghost use Rattle.machine_desc.specs.Rules.{IsAccepted};
 ghost use Rattle.acpi_model.specs.Header.{FitsHead, head_of};
@@ -8,7 +8,7 @@ ghost use Rattle.acpi_model.specs.Acpi.{IsWritable, tables_of};
 ghost use Rattle.acpi_append.specs.Tables.{with_xsdt};
 ghost use Rattle.image_files.specs.Files.{whole};
 ghost use Rattle.vm_image.specs.Image.{acpi_part, acpi_placed, acpi_files, with_tables, places_in, xsdt_place};
-ghost use Rattle.vm_image.specs.AcpiHeld.{AreAcpiKnown, IsAcpiImage, IsTablesFile, AreAppended, most_bytes};
+ghost use Rattle.vm_image.specs.AcpiHeld.{AreAcpiKnown, IsAcpiImage, IsTablesFile, AreAppended, AreFew};
 
 use crate::names::{acpi_tables_name, rsdp_name};
 use crate::placed::placed_file;
@@ -74,7 +74,7 @@ fn push_placed(files: &mut Vec<ImageFile>, acpi: AcpiFiles) -> Result<(), OutOfM
 fn files_of(alloc: Global, acpi: &Acpi, tables: &[Table]) -> Result<AcpiFiles, OutOfMemory>
     requires fits { FitsHead acpi.now }
     requires writable { AllByRecursion IsWritable tables.now }
-    requires few { most_bytes tables.now ≤ 2000 }
+    requires few { AreFew tables.now }
     ensures files { IfOk result (λ files. files ≡ acpi_files acpi.now tables.now) }
     ensures held { OnOk result (IsAcpiImage acpi.now tables.now (acpi_files acpi.now tables.now)) }
 {
@@ -98,7 +98,7 @@ fn append_tables(
 ) -> Result<u32, OutOfMemory>
     requires empty { file.old ≡ whole [] }
     requires writable { AllByRecursion IsWritable tables.now }
-    requires few { most_bytes tables.now ≤ 2000 }
+    requires few { AreFew tables.now }
     ensures place { IfOk result (λ place. place ≡ xsdt_place tables.now) }
     ensures file { OnOk result (file.new ≡ with_xsdt (with_tables (whole []) tables.now) head.now (places_in (whole []) tables.now)) }
     ensures held { OnOk result (IsTablesFile head.now tables.now file.new) }
@@ -111,7 +111,7 @@ fn append_tables(
 fn append_each(alloc: Global, file: &mut Blob, tables: &[Table]) -> Result<List<u32>, OutOfMemory>
     requires empty { file.old ≡ whole [] }
     requires writable { AllByRecursion IsWritable tables.now }
-    requires few { most_bytes tables.now ≤ 2000 }
+    requires few { AreFew tables.now }
     ensures { IfOk result (λ places. AreAppended tables.now places file.new) }
 {
     let mut places = List::new(alloc);

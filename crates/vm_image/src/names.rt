@@ -2,7 +2,7 @@
 
 ghost use Rattle.std.specs.Prelude.{◌≡◌};
 ghost use Rattle.vm_image.specs.Image.{anchor_name, structures_name, rsdp_name};
-ghost use Rattle.acpi_append.specs.Tables.{tables_name as acpi_tables_name};
+ghost use Rattle.acpi_model.specs.Kinds.{tables_name as acpi_tables_name};
 
 use acpi_append::TABLES_FILE;
 use vt_outside::Name;

@@ -2,10 +2,10 @@
 use Rattle.std.proofs.Common.{◌≡◌, ◌≢◌, ◌<◌, ◌↔◌, ℕ, List, [], Option, Some, None, Result, Ok, Err, true, IfSome, IsSomeAnd, IfErr, OnOk, OnErr, refl, ap, subst}
 use Rattle.std.specs.Result.{IsErrAnd}
 use Rattle.vt_outside.specs.Stream.{SourceSeen, SinkSeen, Rose, in_front, TookFront}
+use Rattle.memory_dump.specs.Dump.{dump}
 use Rattle.vmtables.specs.Calls.{Answering, Seen, Unread, Whole, Cut, Made, ReadsAll, Ran, Streams, WasEnded, WasCut, TookWhole}
 use Rattle.vmtables.specs.Causes.{input_fault}
 use Rattle.vmtables.specs.Does.{Does}
-use Rattle.vmtables.specs.Dump.{dump}
 use Rattle.vmtables.specs.Outcome.{input_limit, given_count, status_of, status_of_fault}
 use Rattle.load_states.specs.LoadState.{LoadState, memory_of}
 use Rattle.vt_words.specs.declared.command.Command.{Command}

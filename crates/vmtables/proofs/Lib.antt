@@ -1,7 +1,3 @@
-pub mod Rows
-pub mod Frames
-pub mod DumpLines
-pub mod Parts
 pub mod Endings
 pub mod Refused
 pub mod ItemsLoaded

@@ -21,9 +21,9 @@ use Rattle.load_states.specs.Guarded.{is_work}
 use Rattle.load_states.specs.Kept.{IsCleared}
 use Rattle.load_states.specs.LoadState.{memory_of}
 use Rattle.load_states.specs.Runs.{left_by_others}
+use Rattle.memory_dump.specs.Dump.{dump}
 use Rattle.vmtables.specs.Calls.{Answering, Made, Seen}
 use Rattle.vmtables.specs.Build.{CannotBeBuilt}
-use Rattle.vmtables.specs.Dump.{dump}
 use Rattle.vmtables.specs.Loading.{IsImageLoaded, IsRefusedFree, IsUnloaded}
 use Rattle.vmtables.specs.declared.fault.Fault.{Fault}
 use Rattle.vmtables.specs.declared.fault.Fault.TheVariants as fault

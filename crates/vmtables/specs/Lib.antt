@@ -1,6 +1,5 @@
 pub mod Causes
 pub mod Outcome
-pub mod Dump
 pub mod Calls
 pub mod Described
 pub mod Loading
@@ -28,6 +27,7 @@ pub use Rattle.load_states.specs.Loads as MachineLoads
 pub use Rattle.load_states.specs.LoadState
 pub use Rattle.firmware_load.specs.Schedules
 pub use Rattle.firmware_load.specs.World
+pub use Rattle.memory_dump.specs.Dump
 pub use Rattle.vt_words.specs.Command
 pub use Rattle.image_files.specs.Items
 pub use Rattle.vm_image.specs.Image

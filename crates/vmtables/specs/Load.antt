@@ -4,8 +4,8 @@ use Rattle.cfg_directory.specs.declared.item.Item.{Item}
 use Rattle.cfg_directory.specs.Container.{IsContainer, read_so}
 use Rattle.load_states.specs.LoadState.{memory_of}
 use Rattle.vt_words.specs.declared.setting.Setting.{Setting}
+use Rattle.memory_dump.specs.Dump.{dump}
 use Rattle.vmtables.specs.Calls.{Answering, Made, Seen}
-use Rattle.vmtables.specs.Dump.{dump}
 use Rattle.vmtables.specs.Loading.{IsImageLoaded, FailsToLoad}
 use Rattle.vmtables.specs.declared.fault.Fault.{Fault}
 use Rattle.vmtables.specs.declared.fault.Fault.TheVariants as fault

@@ -10,7 +10,6 @@ mod boot_command;
 mod build_command;
 mod carrying_out;
 mod describing;
-mod dump;
 mod fault;
 mod input;
 pub mod laws;

@@ -2,8 +2,8 @@ ghost use Rattle.std.specs.Prelude.{◌≡◌, ◌≢◌, ℕ, List, ◌≤◌, 
 ghost use Rattle.cfg_directory.specs.declared.item.Item.{Item};
 ghost use Rattle.cfg_directory.specs.Container.{IsContainer};
 ghost use Rattle.command_acts.specs.Allocators.{MayAnswer};
+ghost use Rattle.memory_dump.specs.Dump.{dump};
 ghost use Rattle.vmtables.specs.Calls.{ReadsAll, Ran, Streams, seen_by};
-ghost use Rattle.vmtables.specs.Dump.{dump};
 ghost use Rattle.vmtables.specs.Load.{LoadMakes, CannotBeRead, mib};
 ghost use Rattle.vmtables.specs.Loading.{IsImageLoaded};
 ghost use Rattle.vmtables.specs.Outcome.{status_of};

@@ -1,12 +1,12 @@
 ghost use Rattle.std.specs.Prelude.{◌≡◌, IfErr, IsSome, IsSomeAnd, OnErr, OnOk};
 ghost use Rattle.vt_outside.specs.Stream.{IsFlushed, TookFront, WriteFailed};
 ghost use Rattle.load_states.specs.LoadState.{memory_of};
+ghost use Rattle.memory_dump.specs.Dump.{dump};
 ghost use Rattle.vmtables.specs.Calls.{TookWhole};
-ghost use Rattle.vmtables.specs.Dump.{dump};
 
-use crate::dump::dump_to;
 use crate::fault::Fault;
 use firmware_load::World;
+use memory_dump::dump_to;
 use vt_outside::{Failed, Sink, write_all};
 
 /// Writes the dump of the world's memory, and flushes it.

@@ -6,10 +6,11 @@ use Rattle.std.proofs.lemmas.Bool.{cond-false, and_parts}
 use Rattle.std.proofs.lemmas.List.{append-nil}
 use Rattle.std.proofs.lemmas.List.Elements.{filter-append}
 use Rattle.vt_layout.specs.declared.row.Row.{Row}
+use Rattle.vt_layout.specs.declared.record_size.RecordSize.{RecordSize}
 use Rattle.vt_layout.specs.declared.row.Row.TheVariants.{StringNumber}
 use Rattle.vt_layout.specs.Strings.{numbers_from, strings_of}
 use Rattle.vt_layout.specs.Numbered.{numbered}
-use Rattle.vt_layout.specs.Fields.{Field, Plain, Text, Gathered, texts_of, field_rows, field_texts, number_behind, row_behind, added, all_added}
+use Rattle.vt_layout.specs.Fields.{Field, Plain, Text, Gathered, texts_of, field_rows, field_texts, number_behind, row_behind, with_size, added, all_added}
 use Rattle.vt_layout.specs.Records.{is_readable}
 use Rattle.vt_layout.proofs.NamedTexts.{not_empty, numbers_from-next, strings_of-next}
 
@@ -43,21 +44,24 @@ few_strings ([] ∷ texts) = let others = few_strings texts in omega arith
 few_strings ((byte ∷ text) ∷ texts) = omega (arith, ap length (strings_of-next byte text texts), few_strings texts)
 
 -- where there is room, a field is added
-pub added_some : (field : Field) (room : ℕ) (rows more : List Row) (texts names : List (List ℕ)) → 0 < room
-    → more ≡ rows ++ row_behind texts field ∷ [] → names ≡ texts ++ texts_of field
-    → record { room = room - 1; rows = more; texts = names } ≡ added field (record { room = room; rows = rows; texts = texts })
+pub added_some : (field : Field) (room : ℕ) (size total : RecordSize) (rows more : List Row) (texts names : List (List ℕ)) → 0 < room
+    → total ≡ with_size field size → more ≡ rows ++ row_behind texts field ∷ [] → names ≡ texts ++ texts_of field
+    → record { room = room - 1; size = total; rows = more; texts = names }
+    ≡ added field (record { room = room; size = size; rows = rows; texts = texts })
 unfolding added
-added_some field zero rows more texts names some is are = absurd (omega arith)
-added_some field (suc room) rows more texts names some is are =
+added_some field zero size total rows more texts names some sum is are = absurd (omega arith)
+added_some field (suc room) size total rows more texts names some sum is are =
     let less : suc room - 1 ≡ room = omega arith in
-    cc (less, is, are)
+    cc (less, sum, is, are)
 
--- and where there is none, it is left out
-pub added_none : (field : Field) (room : ℕ) (rows : List Row) (texts : List (List ℕ)) → room ≤ 0
-    → record { room = room; rows = rows; texts = texts } ≡ added field (record { room = room; rows = rows; texts = texts })
+-- and where there is none, it is only counted
+pub added_none : (field : Field) (room : ℕ) (size total : RecordSize) (rows : List Row) (texts : List (List ℕ)) → room ≤ 0
+    → total ≡ with_size field size
+    → record { room = room; size = total; rows = rows; texts = texts }
+    ≡ added field (record { room = room; size = size; rows = rows; texts = texts })
 unfolding added
-added_none field zero rows texts none = refl
-added_none field (suc room) rows texts none = absurd (omega arith)
+added_none field zero size total rows texts none sum = cc sum
+added_none field (suc room) size total rows texts none sum = absurd (omega arith)
 
 -- the numbers of strings pass by a row that is no string's
 numbered-plain : (numbers : List ℕ) (row : Row) (rows : List Row) → is_readable (Plain row) ≡ true
@@ -82,14 +86,15 @@ pub record AreAdded (fields : List Field) (rows : List Row) (texts : List (List 
   pub rows_are : after.rows ≡ rows ++ numbered (numbers_from (length (strings_of texts) + 1) (field_texts fields)) (field_rows fields)
   pub texts_are : after.texts ≡ texts ++ field_texts fields
 
-pub are_added : (fields : List Field) (room : ℕ) (rows : List Row) (texts : List (List ℕ)) → length fields ≤ room
-    → list_all is_readable fields ≡ true → AreAdded fields rows texts (all_added fields (record { room = room; rows = rows; texts = texts }))
+pub are_added : (fields : List Field) (room : ℕ) (size : RecordSize) (rows : List Row) (texts : List (List ℕ)) → length fields ≤ room
+    → list_all is_readable fields ≡ true
+    → AreAdded fields rows texts (all_added fields (record { room = room; size = size; rows = rows; texts = texts }))
 unfolding added
-are_added [] room rows texts within are = record { rows_are = sym (append-nil rows); texts_are = sym (append-nil texts) }
-are_added (field ∷ fields) zero rows texts within are = absurd (omega arith)
-are_added (Plain row ∷ fields) (suc room) rows texts within are =
+are_added [] room size rows texts within are = record { rows_are = sym (append-nil rows); texts_are = sym (append-nil texts) }
+are_added (field ∷ fields) zero size rows texts within are = absurd (omega arith)
+are_added (Plain row ∷ fields) (suc room) size rows texts within are =
     let parts = and_parts (is_readable (Plain row)) (list_all is_readable fields) are in
-    let others = are_added fields room (rows ++ row ∷ []) (texts ++ []) (omega arith) parts.1 in
+    let others = are_added fields room (with_size (Plain row) size) (rows ++ row ∷ []) (texts ++ []) (omega arith) parts.1 in
     let numbers : List (List ℕ) → List ℕ = λ before. numbers_from (length (strings_of before) + 1) (field_texts fields) in
     record {
       rows_are =
@@ -98,10 +103,10 @@ are_added (Plain row ∷ fields) (suc room) rows texts within are =
           ∙ ap (λ more. rows ++ more) (sym (numbered-plain (numbers texts) row (field_rows fields) parts.0));
       texts_are = others.texts_are ∙ append_assoc texts [] (field_texts fields);
     }
-are_added (Text text ∷ fields) (suc room) rows texts within are =
+are_added (Text text ∷ fields) (suc room) size rows texts within are =
     let parts = and_parts (is_readable (Text text)) (list_all is_readable fields) are in
     let one = StringNumber (number_behind texts text) in
-    let others = are_added fields room (rows ++ one ∷ []) (texts ++ text ∷ []) (omega arith) parts.1 in
+    let others = are_added fields room (with_size (Text text) size) (rows ++ one ∷ []) (texts ++ text ∷ []) (omega arith) parts.1 in
     record {
       rows_are =
           others.rows_are

@@ -11,6 +11,7 @@ pub mod NumberedRows
 pub mod NamedTexts
 pub mod ReadableFields
 pub mod AddedFields
+pub mod FieldSizes
 pub mod ValuesInTurn
 pub mod ReadRecords
 pub mod MissingStrings

@@ -48,8 +48,12 @@ kinds_readable fields are =
     numbered_readable (numbers_from 1 (field_texts fields)) (field_rows fields) (readable_rows fields (all_readable fields are))
 
 -- they have few bytes
+pub small_rows : (fields : List Field) → are_readable fields ≡ true → size (field_rows fields) < 0x10000
+small_rows fields are =
+    let few = (and_parts (list_all is_readable fields) (nat_lt (size (field_rows fields)) 0x10000) are).1 in
+    grind (arith, nat_tests, few)
+
 pub kinds_small : (fields : List Field) (rows : List Row) → rows ≡ numbered_rows fields → are_readable fields ≡ true → size rows < 2 ^ 32
 kinds_small fields rows is are =
-    let few = (and_parts (list_all is_readable fields) (nat_lt (size (field_rows fields)) 0x10000) are).1 in
-    let below : size (field_rows fields) < 0x10000 = grind (arith, nat_tests, few) in
-    subst (λ these. size these < 2 ^ 32) (sym is) (omega (arith, below, size-numbered (numbers_from 1 (field_texts fields)) (field_rows fields)))
+    subst (λ these. size these < 2 ^ 32) (sym is)
+    (omega (arith, small_rows fields are, size-numbered (numbers_from 1 (field_texts fields)) (field_rows fields)))

@@ -72,12 +72,12 @@ one_field (Plain (Pointer width target offset)) is = absurd (cc is)
 one_field (Plain (Sum covers)) is = absurd (cc is)
 
 -- and of all rows of fields
-record AreFields (fields : List Field) : Type 0 where
-  plain : AllByRecursion IsPlain (field_rows fields)
-  counted : length (string_numbers (field_rows fields)) ≡ length (field_texts fields)
-  valued : (numbers : List ℕ) → values_of (numbered numbers (field_rows fields)) (field_texts fields) ≡ field_values fields
+pub record AreFields (fields : List Field) : Type 0 where
+  pub plain : AllByRecursion IsPlain (field_rows fields)
+  pub counted : length (string_numbers (field_rows fields)) ≡ length (field_texts fields)
+  pub valued : (numbers : List ℕ) → values_of (numbered numbers (field_rows fields)) (field_texts fields) ≡ field_values fields
 
-all_fields : (fields : List Field) → list_all is_readable fields ≡ true → AreFields fields
+pub all_fields : (fields : List Field) → list_all is_readable fields ≡ true → AreFields fields
 all_fields [] are = record { plain = tt; counted = refl; valued = λ numbers. refl }
 all_fields (field ∷ fields) are =
     let parts = and_parts (is_readable field) (list_all is_readable fields) are in

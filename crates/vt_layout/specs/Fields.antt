@@ -1,11 +1,12 @@
 -- What a record says, as fields in the order of its rows: their rows, their texts and their values, and how they are gathered.
-use Rattle.std.specs.Prelude.{ℕ, zero, suc, ◌+◌, List, [], ◌∷◌, ◌++◌, length, map, slice_set, ◌==◌, if◌then◌else◌}
+use Rattle.std.specs.Prelude.{ℕ, zero, suc, ◌+◌, min, List, [], ◌∷◌, ◌++◌, length, map, slice_set, ◌==◌, if◌then◌else◌}
 use Rattle.std.specs.List.{flat_map}
 use Rattle.vt_layout.specs.declared.row.Row.{Row}
 use Rattle.vt_layout.specs.declared.row.Row.TheVariants.{Number, BigEndian, Bytes, StringNumber, Reserved}
+use Rattle.vt_layout.specs.declared.record_size.RecordSize.{RecordSize}
 use Rattle.vt_layout.specs.declared.value.Value.{Value}
 use Rattle.vt_layout.specs.declared.value.Value.TheVariants as values
-use Rattle.vt_layout.specs.Rows.{spelled}
+use Rattle.vt_layout.specs.Rows.{bytes_of, spelled}
 use Rattle.vt_layout.specs.Strings.{numbers_from, strings_of}
 use Rattle.vt_layout.specs.Numbered.{numbered}
 use Rattle.vt_layout.specs.Values.{value_of}
@@ -88,11 +89,27 @@ field_bytes fields = spelled (numbered_rows fields)
 abbrev pub field_strings : List Field → List (List ℕ)
 field_strings fields = strings_of (field_texts fields)
 
--- Rows and texts that are gathered of fields, one after the other, and how many more rows there is room for.
+-- Rows and texts that are gathered of fields, one after the other, how many more rows there is room for, and how many bytes all have, those
+-- too for which there was no room.
 pub record Gathered : Type 0 where
   pub room : ℕ
+  pub size : RecordSize
   pub rows : List Row
   pub texts : List (List ℕ)
+
+-- how many bytes the string of a text has with its NUL; an empty text is no string
+abbrev pub text_size : List ℕ → ℕ
+text_size text = if length text == 0 then 0 else length text + 1
+
+-- the greatest number that is counted
+abbrev pub most_counted : ℕ
+most_counted = 0xFFFFFFFFFFFFFFFF
+
+-- with the bytes of one more field, each number at most the greatest that is counted
+abbrev pub with_size : Field → RecordSize → RecordSize
+with_size (Plain row) all = record { area = min (all.area + length (bytes_of row)) most_counted; strings = all.strings }
+with_size (Text text) all =
+    record { area = min (all.area + 1) most_counted; strings = min (all.strings + text_size text) most_counted }
 
 -- the number of a text behind others
 abbrev pub number_behind : List (List ℕ) → List ℕ → ℕ
@@ -102,11 +119,15 @@ abbrev pub row_behind : List (List ℕ) → Field → Row
 row_behind texts (Plain row) = row
 row_behind texts (Text text) = StringNumber (number_behind texts text)
 
--- with one more field, where there is room; where there is none it is left out
+-- with one more field, where there is room; where there is none it is only counted
 abbrev with_room : ℕ → Field → Gathered → Gathered
-with_room zero field all = all
-with_room (suc room) field all =
-    record { room = room; rows = all.rows ++ row_behind all.texts field ∷ []; texts = all.texts ++ texts_of field }
+with_room zero field all = record { room = 0; size = with_size field all.size; rows = all.rows; texts = all.texts }
+with_room (suc room) field all = record {
+  room = room;
+  size = with_size field all.size;
+  rows = all.rows ++ row_behind all.texts field ∷ [];
+  texts = all.texts ++ texts_of field;
+}
 
 unfoldable pub added : Field → Gathered → Gathered
 added field all = with_room all.room field all
@@ -118,4 +139,4 @@ all_added (field ∷ fields) all = all_added fields (added field all)
 
 -- with another row in place of the one at a place
 abbrev pub with_row : ℕ → Row → Gathered → Gathered
-with_row place row all = record { room = all.room; rows = slice_set all.rows place row; texts = all.texts }
+with_row place row all = record { room = all.room; size = all.size; rows = slice_set all.rows place row; texts = all.texts }

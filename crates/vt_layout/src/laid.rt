@@ -1,9 +1,11 @@
-ghost use Rattle.std.specs.Prelude.{◌≡◌, ℕ, List, IfOk};
+ghost use Rattle.std.specs.Prelude.{◌≡◌, ℕ, min, length, List, IfOk};
 ghost use Rattle.vt_layout.specs.declared.value.Value.{Value};
 ghost use Rattle.vt_layout.specs.Values.{skip};
-ghost use Rattle.vt_layout.specs.Fields.{Field, all_added, field_texts, numbered_rows};
+ghost use Rattle.vt_layout.specs.Strings.{with_nuls};
+ghost use Rattle.vt_layout.specs.Fields.{Field, all_added, field_texts, field_bytes, field_strings, numbered_rows, most_counted};
 ghost use Rattle.vt_layout.specs.Records.{IsLawful};
 
+use crate::record_size::RecordSize;
 use crate::row_list::RowList;
 use crate::value::Values;
 use std::alloc::Global;
@@ -48,4 +50,15 @@ pub fn rows_of<'a, T: Laid>(alloc: Global, laid: &'a T) -> Result<RowList<'a>, O
     let mut rows = RowList::with_room(alloc, T::ROWS)?;
     laid.put(&mut rows);
     Ok(rows)
+}
+
+/// Returns how many bytes the rows and the strings of `laid` have, each number at most the greatest `usize`. None are written, and no
+/// memory is taken from `alloc`.
+pub fn record_size_of<T: Laid>(alloc: Global, laid: &T) -> RecordSize
+    ensures area { result.area ≡ min (length (field_bytes (T.fields laid.now))) most_counted }
+    ensures strings { result.strings ≡ min (length (with_nuls (field_strings (T.fields laid.now)))) most_counted }
+{
+    let mut rows = RowList::without_room(alloc);
+    laid.put(&mut rows);
+    rows.size()
 }

@@ -4,6 +4,7 @@ ghost use Rattle.vt_layout.specs.Rows.{IsRow};
 ghost use Rattle.vt_layout.specs.Fields.{Plain, Text as TextField, added, with_row};
 ghost use Rattle.vt_layout.specs.Fields.{byte, word, dword, qword, big_word, big_dword, big_qword, four, six, eight, sixteen, reserved};
 
+use crate::record_size::RecordSize;
 use crate::row::Row;
 use crate::short_bytes::ShortBytes;
 use std::alloc::Global;
@@ -11,14 +12,15 @@ use std::marker::Model;
 use vt_outside::{OutOfMemory, Text};
 
 /// The rows of a record, and its texts, which are numbered in their order: each that isn't empty gets the next number, from 1 on.
-/// Contracts see both, and how many more rows there is room for.
+/// Contracts see both, how many more rows there is room for, and how many bytes all have.
 ///
-/// The room is taken at once, so adding can't fail. Where there is no room, what is added is left out.
+/// The room is taken at once, so adding can't fail. Where there is no room, what is added is left out, and only its bytes are counted.
 #[derive(Drop)]
 pub struct RowList<'a> {
     room: u8,
     // How many of the texts aren't empty.
     strings: u8,
+    size: RecordSize,
     rows: Vec<Row>,
     texts: Vec<&'a Text>,
 }
@@ -32,7 +34,7 @@ impl<'a> Model for RowList<'a> {
 
     ghost Value = { Gathered };
 
-    ghost view = { λ l. record { room = l.room; rows = l.rows.items; texts = map (λ text. text.now) l.texts.items } };
+    ghost view = { λ l. record { room = l.room; size = l.size; rows = l.rows.items; texts = map (λ text. text.now) l.texts.items } };
 
     ghost invariant = { λ l. record {
       rows_room : vec_len l.rows + l.room ≤ vec_capacity l.rows;
@@ -46,16 +48,43 @@ impl<'a> Model for RowList<'a> {
 impl<'a> RowList<'a> {
     /// Makes an empty list with room for `room` rows, in memory from `alloc`. Returns `OutOfMemory` when memory runs out.
     pub fn with_room(alloc: Global, room: u8) -> Result<RowList<'a>, OutOfMemory>
-        ensures { IfOk result (λ list. list ≡ record { room = room; rows = []; texts = [] }) }
+        ensures { IfOk result (λ list. list ≡ record { room = room; size = record { area = 0; strings = 0 }; rows = []; texts = [] }) }
     {
         let rows = Vec::with_capacity(alloc, usize::from(room))?;
         let texts = Vec::with_capacity(alloc, usize::from(room))?;
         Ok(RowList {
             room,
             strings: 0,
+            size: RecordSize {
+                area: 0,
+                strings: 0,
+            },
             rows,
             texts,
         })
+    }
+
+    /// Makes an empty list without room, which takes no memory and only counts the bytes of what is added.
+    pub fn without_room(alloc: Global) -> RowList<'a>
+        ensures { result ≡ record { room = 0; size = record { area = 0; strings = 0 }; rows = []; texts = [] } }
+    {
+        RowList {
+            room: 0,
+            strings: 0,
+            size: RecordSize {
+                area: 0,
+                strings: 0,
+            },
+            rows: Vec::new(alloc),
+            texts: Vec::new(alloc),
+        }
+    }
+
+    /// Returns how many bytes all has that was added, with what there was no room for.
+    pub fn size(&self) -> RecordSize
+        ensures { result ≡ self.now.size }
+    {
+        self.size
     }
 
     /// Returns the rows, in order. Each value fits its row.
@@ -85,6 +114,7 @@ impl<'a> RowList<'a> {
         requires { IsRow row }
         ensures { self.new ≡ added (Plain row) self.old }
     {
+        self.size = self.size.with_row(&row);
         if self.room > 0 {
             self.room -= 1;
             add_last(&mut self.rows, row);
@@ -95,6 +125,7 @@ impl<'a> RowList<'a> {
     pub fn text(&mut self, text: &'a Text)
         ensures { self.new ≡ added (TextField text.now) self.old }
     {
+        self.size = self.size.with_text(text);
         if self.room > 0 {
             self.room -= 1;
             let number = number_behind(self.strings, text);

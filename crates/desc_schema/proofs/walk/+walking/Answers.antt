@@ -32,17 +32,17 @@ push_table-returns-in_err-push_key most c =
     let known = walked_known
     (schema_of c.args.schema.now) c.args.depth c.args.place table c.args.progress.now.positions _ _ within c.keys_at-keys.ensures c.in_ok-only_known.ensures in
     rw (p.1, p.2, known)
-    (fields_stop c.in_err-push_key.field-0.0 c.loop-number.progress.values c.loop-number.progress.positions inner c.args.place c.loop-number.number
+    (fields_stop c.in_err-push_key.field-0.0 c.loop-index.progress.values c.loop-index.progress.positions inner c.args.place c.loop-index.index
     c.keys_at-keys.result.now _ table _
-    c.loop-number-test.true (rw c.key-at.ensures at c.in_err-push_key.ensures) c.loop-number.invariant)
+    c.loop-index-test.true c.in_err-push_key.ensures c.loop-index.invariant)
 
-pub push_table-loop-number-preserved : goal.push_table-loop-number-preserved
-push_table-loop-number-preserved most c =
+pub push_table-loop-index-preserved : goal.push_table-loop-index-preserved
+push_table-loop-index-preserved most c =
     let inner = table_walked (schema_of c.args.schema.now) (c.args.depth - 1) in
-    fields_go_on c.loop-number.progress.values c.push_key.new.progress.values c.loop-number.progress.positions c.push_key.new.progress.positions inner
-    c.args.place c.loop-number.number
-    c.keys_at-keys.result.now _ (table_view c.args.table.now) _ c.loop-number-test.true
-    (rw c.key-at.ensures at c.in_ok-push_key.ensures) c.loop-number.invariant
+    fields_go_on c.loop-index.progress.values c.push_key.new.progress.values c.loop-index.progress.positions c.push_key.new.progress.positions inner
+    c.args.place c.loop-index.index
+    c.keys_at-keys.result.now _ (table_view c.args.table.now) _ c.loop-index-test.true
+    c.in_ok-push_key.ensures c.loop-index.invariant
 
 pub push_table-returns : goal.push_table-returns
 push_table-returns most c =
@@ -52,8 +52,8 @@ push_table-returns most c =
     let known = walked_known
     (schema_of c.args.schema.now) c.args.depth c.args.place table c.args.progress.now.positions _ _ within c.keys_at-keys.ensures c.in_ok-only_known.ensures in
     rw known
-    (fields_done c.loop-number.progress.values c.loop-number.progress.positions inner c.args.place c.loop-number.number c.keys_at-keys.result.now table _
-    c.loop-number-test.false c.loop-number.invariant)
+    (fields_done c.loop-index.progress.values c.loop-index.progress.positions inner c.args.place c.loop-index.index c.keys_at-keys.result.now table _
+    c.loop-index-test.false c.loop-index.invariant)
 
 pub push_elements-returns-in_err-push_element : goal.push_elements-returns-in_err-push_element
 push_elements-returns-in_err-push_element most c =

@@ -4,14 +4,14 @@ use Rattle.desc_schema.specs.Form.{fields_of, schema_of}
 use Rattle.desc_schema.specs.Walk.{after, at_fields, elements, table_walked}
 use Rattle.desc_schema.proofs.walk.+walking.Given as goal
 
-abbrev pub invariant-push_table-loop-number : goal.invariant-push_table-loop-number
-invariant-push_table-loop-number l =
+abbrev pub invariant-push_table-loop-index : goal.invariant-push_table-loop-index
+invariant-push_table-loop-index l =
     let inner = table_walked (schema_of l.schema) l.inner in
-    after l.progress.values (at_fields inner l.place l.number (fields_of (drop l.number l.keys)) (table_view l.table) l.progress.positions)
-    ≡ after l.fn.progress.values (at_fields inner l.place 0 (fields_of l.keys) (table_view l.table) l.fn.progress.positions)
+    after l.progress.values (at_fields inner l.place (fields_of (drop l.index l.keys)) (table_view l.table) l.progress.positions)
+    ≡ after l.fn.progress.values (at_fields inner l.place (fields_of l.keys) (table_view l.table) l.fn.progress.positions)
 
-abbrev pub decreases-push_table-loop-number : goal.decreases-push_table-loop-number
-decreases-push_table-loop-number l = length l.keys - l.number
+abbrev pub decreases-push_table-loop-index : goal.decreases-push_table-loop-index
+decreases-push_table-loop-index l = length l.keys - l.index
 
 abbrev pub invariant-push_elements-loop-index : goal.invariant-push_elements-loop-index
 invariant-push_elements-loop-index l =

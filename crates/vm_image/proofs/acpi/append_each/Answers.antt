@@ -7,7 +7,7 @@ use Rattle.vm_image.proofs.acpi.append_each.Goals as goal
 
 pub put_table-requires-clause-short : goal.put_table-requires-clause-short
 put_table-requires-clause-short c =
-    omega (arith, c.loop-table.invariant.few, c.requires.few, most_bytes-take c.args.tables.now c.loop-table.table-index)
+    omega (arith, c.loop-table.invariant.few, c.requires.few.bytes, most_bytes-take c.args.tables.now c.loop-table.table-index)
 
 pub put_table-requires-clause-writable : goal.put_table-requires-clause-writable
 put_table-requires-clause-writable c =

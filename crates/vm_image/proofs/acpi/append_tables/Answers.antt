@@ -1,5 +1,11 @@
-use Rattle.vm_image.proofs.AcpiFiles.{xsdt_appended}
+use Rattle.std.proofs.Common.{[], length, arith, ap, ◌∙◌}
+use Rattle.image_files.specs.Files.{whole}
+use Rattle.vm_image.proofs.AcpiFiles.{length-places, xsdt_appended}
 use Rattle.vm_image.proofs.acpi.append_tables.Goals as goal
+
+pub put_xsdt-requires-clause-few : goal.put_xsdt-requires-clause-few
+put_xsdt-requires-clause-few c =
+    omega (arith, ap length (c.as_slice.ensures ∙ c.in_ok-places.ensures.places_are), length-places (whole []) c.args.tables.now, c.requires.few.number)
 
 pub returns-clause-held : goal.returns-clause-held
 returns-clause-held c =

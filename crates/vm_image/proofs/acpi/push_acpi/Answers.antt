@@ -2,9 +2,10 @@ use Rattle.std.proofs.Common.{◌≡◌, ◌++◌, OnOk, ap, subst, sym, ◌∙�
 use Rattle.std.specs.List.{AllByRecursion}
 use Rattle.acpi_model.specs.Acpi.{IsWritable}
 use Rattle.acpi_model.proofs.AcceptedAcpi.{accepted_fits}
-use Rattle.acpi_model.proofs.Walked.{machine_writable}
+use Rattle.acpi_model.proofs.MachineTables.{machine_writable}
 use Rattle.vm_image.specs.Image.{acpi_files, acpi_part, acpi_placed}
-use Rattle.vm_image.specs.AcpiHeld.{AreAcpiKnown, IsAcpiImage}
+use Rattle.vm_image.specs.AcpiHeld.{AreFew, AreAcpiKnown, IsAcpiImage}
+use Rattle.vm_image.proofs.AcpiKnown.{tables_few}
 use Rattle.vm_image.proofs.Pushed.{on_ok}
 use Rattle.vm_image.proofs.acpi.push_acpi.Goals as goal
 
@@ -17,6 +18,10 @@ files_of-requires-clause-fits c = accepted_fits c.args.machine.now c.in-Some.acp
 pub files_of-requires-clause-writable : goal.files_of-requires-clause-writable
 files_of-requires-clause-writable c =
     subst (AllByRecursion IsWritable) (sym (c.as_slice.ensures ∙ c.in_ok-tables-in-Some.ensures)) (machine_writable c.args.machine.now c.in-Some.acpi)
+
+pub files_of-requires-clause-few : goal.files_of-requires-clause-few
+files_of-requires-clause-few c =
+    subst AreFew (sym (c.as_slice.ensures ∙ c.in_ok-tables-in-Some.ensures)) (tables_few c.args.machine.now c.in-Some.acpi)
 
 pub returns-in_ok-files_of-in-Some-clause-files : goal.returns-in_ok-files_of-in-Some-clause-files
 returns-in_ok-files_of-in-Some-clause-files c =

@@ -10,7 +10,7 @@ returns-clause-rows g c =
     let lawful = g.met.T.Laid.lawful c.args.laid.now c.args.laid.now in
     let room : length fields ≤ c.ROWS.result = omega (arith, lawful.counted, c.ROWS.ensures) in
     ap (λ (all : Gathered). all.rows) (c.put.ensures ∙ ap (all_added fields) c.in_ok-rows.ensures)
-    ∙ (are_added fields c.ROWS.result [] [] room (all_readable fields lawful.readable)).rows_are
+    ∙ (are_added fields c.ROWS.result (record { area = 0; strings = 0 }) [] [] room (all_readable fields lawful.readable)).rows_are
 
 pub returns-clause-texts : goal.returns-clause-texts
 returns-clause-texts g c =
@@ -18,4 +18,4 @@ returns-clause-texts g c =
     let lawful = g.met.T.Laid.lawful c.args.laid.now c.args.laid.now in
     let room : length fields ≤ c.ROWS.result = omega (arith, lawful.counted, c.ROWS.ensures) in
     ap (λ (all : Gathered). all.texts) (c.put.ensures ∙ ap (all_added fields) c.in_ok-rows.ensures)
-    ∙ (are_added fields c.ROWS.result [] [] room (all_readable fields lawful.readable)).texts_are
+    ∙ (are_added fields c.ROWS.result (record { area = 0; strings = 0 }) [] [] room (all_readable fields lawful.readable)).texts_are

@@ -1,0 +1,5 @@
+pub mod Dump
+pub mod Rows
+pub mod Reading
+pub use Rattle.vt_outside.specs.Stream
+pub use Rattle.vt_bytes.specs.Memory

@@ -1,7 +1,0 @@
-use Rattle.std.proofs.Common.{take}
-use Rattle.vt_outside.specs.Stream.{Took}
-use Rattle.vmtables.specs.Dump.{ranges_text}
-use Rattle.vmtables.proofs.dump.dump_ranges.Given as goal
-
-abbrev pub invariant-loop-range : goal.invariant-loop-range
-invariant-loop-range g l = Took (ranges_text l.memory (take l.range-index l.range-items)) (g.K.Sink.seen l.initial.out) (g.K.Sink.seen l.out)
