@@ -1,5 +1,5 @@
 -- A memory as its three lists of bytes: how each of them is read and written.
-use Rattle.std.proofs.Common.{◌≡◌, ℕ, Bool, ◌+◌, ◌-◌, ◌*◌, ◌%◌, if◌then◌else◌, ◌<◌, ◌≤◌, inl, inr, List, [], ◌∷◌, ◌++◌, length, slice_index, take, drop, rules, arith, refl, ap, sym, ◌∙◌}
+use Rattle.std.proofs.Common.{◌≡◌, ℕ, Bool, ◌+◌, ◌-◌, ◌*◌, ◌%◌, if◌then◌else◌, ◌<◌, ◌≤◌, inl, inr, List, [], ◌∷◌, ◌++◌, length, slice_index, take, drop, rules, arith, refl, ap, subst, sym, ◌∙◌}
 use Rattle.std.proofs.lemmas.List.{places, same_lists, take_all}
 use Rattle.vt_bytes.specs.Parts.{part, put_at}
 use Rattle.vt_bytes.specs.Memory.{Memory, IsTop, IsRam, IsMemory, high_start, ram_ranges, at, bytes_at, with_bytes, put_in}
@@ -243,18 +243,17 @@ same_room top a place lawful ram is = elim (cases_lt a 0x100000) as (λ _. place
   | inr past ↦ omega (arith, is.high past, lawful.whole, lawful.at_least)
 ]
 
--- blocks that hold the fill byte alone hold it at each address of RAM
-pub filled_held : (top : ℕ) (blocks : Filled) → IsTop top → length blocks.bytes ≡ 0x2100000
-    → ((place : ℕ) → place < 0x2100000 → slice_index blocks.bytes place ≡ blocks.fill)
-    → (a : ℕ) → IsRam top a → at (memory_of top blocks) a ≡ blocks.fill
-filled_held top blocks lawful size filled a ram = elim (cases_lt a 0x100000) as (λ _. at (memory_of top blocks) a ≡ blocks.fill) [
+-- what holds of each byte of blocks holds of the one at each address of RAM
+pub each_held : (P : ℕ → Type 0) (top : ℕ) (blocks : Filled) → IsTop top → length blocks.bytes ≡ 0x2100000
+    → ((place : ℕ) → place < 0x2100000 → P (slice_index blocks.bytes place)) → (a : ℕ) → IsRam top a → P (at (memory_of top blocks) a)
+each_held P top blocks lawful size each a ram = elim (cases_lt a 0x100000) as (λ _. P (at (memory_of top blocks) a)) [
   | inl low ↦
       let is : IsPlaceOf top a a = record { low = λ _. refl; high = λ past. absurd (omega arith) } in
-      at_held top blocks a a lawful size ram is ∙ filled a (place_within top a a lawful ram is)
+      subst P (sym (at_held top blocks a a lawful size ram is)) (each a (place_within top a a lawful ram is))
   | inr past ↦
       let place = a - high_start top + 0x100000 in
       let is : IsPlaceOf top a place = record { low = λ low. absurd (omega arith); high = λ _. omega (arith, in_high top a lawful ram past) } in
-      at_held top blocks a place lawful size ram is ∙ filled place (place_within top a place lawful ram is)
+      subst P (sym (at_held top blocks a place lawful size ram is)) (each place (place_within top a place lawful ram is))
 ]
 
 -- where blocks have the bytes of a frame

@@ -2,7 +2,7 @@
 use Rattle.std.proofs.Common.{◌≡◌, ℕ, zero, suc, ◌+◌, ◌-◌, ◌*◌, ◌/◌, ◌%◌, ◌<◌, ◌≤◌, inl, inr, List, [], ◌∷◌, ◌++◌, length, take, replicate, rules, arith, refl, ap, sym, ◌∙◌}
 use Rattle.std.proofs.Common.{get_or, slice_index, slice_set}
 use Rattle.std.proofs.lemmas.Bool.{cases_lt}
-use Rattle.std.proofs.lemmas.List.{places, same_lists, append-nil, length-replicate, get_or-replicate, take-replicate, drop-replicate}
+use Rattle.std.proofs.lemmas.List.{places, same_lists, append-nil, length-replicate, get_or-replicate, get_or_past, take-replicate, drop-replicate}
 use Rattle.std.specs.List.{AllByRecursion}
 use Rattle.vt_bytes.specs.Parts.{part, put_at}
 use Rattle.vt_bytes.proofs.Each.{each_at, each_weaker}
@@ -222,6 +222,43 @@ all_blank fill (own ∷ blocks) place none below =
           ∙ get_or-replicate 65536 place fill 0 here
       | inr later ↦ later_byte (replicate 65536 fill) (bytes_of fill blocks) 65536 place (length-replicate 65536 fill) later
           ∙ all_blank fill blocks (place - 65536) none.1 (omega arith)
+    ]
+
+-- bytes of a block, filled up with a byte, and of all blocks
+filled_up_byte : (fill : ℕ) (own : List ℕ) (place : ℕ) → fill < 256 → ((i : ℕ) → slice_index own i < 256) → slice_index (filled_up fill own) place < 256
+unfolding filled_up
+filled_up_byte fill own place is_byte bytes = elim (cases_lt place (length own)) as (λ _. slice_index (own ++ replicate (65536 - length own) fill) place < 256) [
+  | inl here ↦ omega (arith, bytes place, first_byte own (replicate (65536 - length own) fill) place here)
+  | inr later ↦
+      let past = later_byte own (replicate (65536 - length own) fill) (length own) place refl later in
+      elim (cases_lt (place - length own) (65536 - length own)) as (λ _. slice_index (own ++ replicate (65536 - length own) fill) place < 256) [
+        | inl within ↦ omega (arith, past, get_or-replicate (65536 - length own) (place - length own) fill 0 within)
+        | inr none ↦ omega (
+          arith,
+          past,
+          get_or_past (replicate (65536 - length own) fill) (place - length own) 0
+              (omega (arith, length-replicate (65536 - length own) fill)),
+        )
+      ]
+]
+
+pub bytes_of_byte : (fill : ℕ) (blocks : List (List ℕ)) (place : ℕ) → fill < 256 → AllByRecursion IsBlock blocks
+    → ((k i : ℕ) → k < length blocks → slice_index (block_at blocks k) i < 256) → slice_index (bytes_of fill blocks) place < 256
+unfolding bytes_of
+bytes_of_byte fill [] place is_byte are bytes = omega arith
+bytes_of_byte fill (own ∷ blocks) place is_byte are bytes =
+    let size = length-filled_up fill own are.0 in
+    elim (cases_lt place 65536) as (λ _. slice_index (filled_up fill own ++ bytes_of fill blocks) place < 256) [
+      | inl here ↦ omega (
+        arith,
+        first_byte (filled_up fill own) (bytes_of fill blocks) place (omega (arith, size)),
+        filled_up_byte fill own place is_byte (λ i. bytes 0 i (omega arith)),
+      )
+      | inr later ↦ omega (
+        arith,
+        later_byte (filled_up fill own) (bytes_of fill blocks) 65536 place size later,
+        bytes_of_byte fill blocks (place - 65536) is_byte are.1 (λ k i below. bytes (suc k) i (omega arith)),
+      )
     ]
 
 pub blank_blocks : (blocks : List (List ℕ)) → AllByRecursion (λ block. block ≡ []) blocks → AllByRecursion IsBlock blocks

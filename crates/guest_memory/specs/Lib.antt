@@ -1,4 +1,5 @@
 pub mod Blocks
+pub mod Bytes
 pub mod Frames
 pub mod RamRange
 pub use Rattle.vt_bytes.specs.Numbers

@@ -1,4 +1,4 @@
-ghost use Rattle.std.specs.Prelude.{◌≡◌, ◌+◌, ◌-◌, ◌≤◌, [], IfOk, IsTrue, ◌↔◌, length, take, false};
+ghost use Rattle.std.specs.Prelude.{◌≡◌, ℕ, ◌+◌, ◌-◌, ◌<◌, ◌≤◌, [], IfOk, IsTrue, ◌↔◌, length, slice_index, take, false};
 ghost use Rattle.std.specs.Borrow.{Lends, Array, u8, sem};
 ghost use Rattle.vt_bytes.specs.Parts.{part, put_at};
 ghost use Rattle.guest_memory.specs.Blocks.{IsBlock, filled_up};
@@ -66,6 +66,13 @@ impl Block {
         self.bytes.slice_mut(place..place + len)
     }
 
+    /// States that each of its own bytes is below 256.
+    pub(crate) fn holds_bytes(&self)
+        ensures { (i : ℕ) → slice_index self.now i < 256 }
+    {
+        are_bytes(&self.bytes);
+    }
+
     // Gives the block its bytes, each of them `fill`, if it has none.
     fn touch(&mut self, fill: u8)
         ensures after { self.new ≡ filled_up fill self.old }
@@ -77,3 +84,8 @@ impl Block {
         }
     }
 }
+
+// States that each byte of a slice is below 256, which is known of a slice that is given.
+fn are_bytes(bytes: &[u8])
+    ensures { (i : ℕ) → slice_index bytes.now i < 256 }
+{}

@@ -96,4 +96,15 @@ impl Blocks {
     {
         self.blocks[place / BLOCK_BYTES].is_touched()
     }
+
+    /// States that the fill byte and each byte is below 256.
+    pub(crate) fn holds_bytes(&self)
+        ensures fill { self.now.fill < 256 }
+        ensures each { (place : ℕ) → place < 0x2100000 → slice_index self.now.bytes place < 256 }
+    {
+        let _fill = self.fill();
+        for block in &self.blocks {
+            block.holds_bytes();
+        }
+    }
 }

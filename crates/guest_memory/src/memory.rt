@@ -1,6 +1,7 @@
 ghost use Rattle.std.specs.Prelude.{◌≡◌, ℕ, ◌+◌, ◌<◌, ◌≤◌, ◌%◌, ◌↔◌, [], ◌∷◌, length, take, IsTrue, IfOk, false};
 ghost use Rattle.std.specs.Borrow.{Lends, Array, u8, sem};
 ghost use Rattle.vt_bytes.specs.Memory.{IsTop, IsRam, IsMemory, ram_ranges, at, bytes_at, with_bytes};
+ghost use Rattle.guest_memory.specs.Bytes.{HoldsBytes};
 ghost use Rattle.guest_memory.specs.Frames.{frame_limit, HoldsFill};
 ghost use Rattle.guest_memory.specs.Blocks.{IsPlaceOf, room_in_block};
 ghost use Rattle.guest_memory.specs.contracts.memory.GuestMemory.{the_row};
@@ -155,6 +156,13 @@ impl GuestMemory {
     {
         let place = frame as usize * FRAME_BYTES as usize;
         self.blocks.is_touched(place)
+    }
+
+    /// States that the memory holds bytes: each is below 256. It does nothing.
+    pub fn holds_bytes(&self)
+        ensures { HoldsBytes self.now }
+    {
+        self.blocks.holds_bytes();
     }
 
     // Where the blocks have the byte of an address.

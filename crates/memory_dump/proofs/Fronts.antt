@@ -4,7 +4,8 @@ use Rattle.std.specs.List.{flat_map}
 use Rattle.std.proofs.lemmas.List.{append-nil}
 use Rattle.vt_bytes.specs.Memory.{Memory, IsMemory, IsTop, with_bytes}
 use Rattle.memory_dump.specs.Dump.{dump, header_line, last_line}
-use Rattle.memory_dump.specs.Rows.{AreRows, Ascend, HoldsBytes, Rows, blank, rows_of, text_of, text_of_row}
+use Rattle.guest_memory.specs.Bytes.{HoldsBytes}
+use Rattle.memory_dump.specs.Rows.{AreRows, Ascend, Rows, blank, rows_of, text_of, text_of_row}
 use Rattle.memory_dump.specs.Reading.{Lines, behind_so, lines_of, read_so, row_of, rows_so}
 use Rattle.memory_dump.specs.declared.row.Row.{Row}
 use Rattle.memory_dump.specs.declared.fault.DumpFault.TheVariants.{Truncated}

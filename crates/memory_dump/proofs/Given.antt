@@ -3,7 +3,7 @@ use Rattle.std.proofs.Common.{◌≡◌, ℕ, List, take, drop, Some, Result, Ok
 use Rattle.std.specs.Prelude.{IsErrAnd}
 use Rattle.vt_bytes.specs.Memory.{Memory, IsMemory, IsRam, at}
 use Rattle.memory_dump.specs.Dump.{dump}
-use Rattle.memory_dump.specs.Rows.{HoldsBytes}
+use Rattle.guest_memory.specs.Bytes.{HoldsBytes}
 use Rattle.memory_dump.specs.Reading.{Gives, behind_so, header_of, read_so}
 use Rattle.memory_dump.specs.declared.header.Header.{Header}
 use Rattle.memory_dump.specs.declared.fault.DumpFault.{DumpFault}

@@ -8,7 +8,8 @@ use Rattle.vt_bytes.specs.Memory.{Memory, IsTop, IsIn, IsInOne, IsRam, IsRamRang
 use Rattle.vt_bytes.proofs.Bytes.{bytes_at-same}
 use Rattle.vt_bytes.proofs.Memories.{byte_with, bytes_with, lawful_with, others_with, same_memory}
 use Rattle.vt_bytes.proofs.Ranges.{IsBeside, byte_here, byte_later}
-use Rattle.memory_dump.specs.Rows.{AreBytes, AreRows, Ascend, HoldsBytes, IsRow, Rows, blank, is_fill, memory_of, row_addresses, row_at, rows_of, with_rows}
+use Rattle.guest_memory.specs.Bytes.{HoldsBytes}
+use Rattle.memory_dump.specs.Rows.{AreBytes, AreRows, Ascend, IsRow, Rows, blank, is_fill, memory_of, row_addresses, row_at, rows_of, with_rows}
 use Rattle.memory_dump.specs.declared.row.Row.{Row}
 use Rattle.memory_dump.proofs.Addresses.{In, IsRowAddress, Steps, row_each, row_in, row_ram, row_steps}
 

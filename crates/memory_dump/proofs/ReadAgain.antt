@@ -6,7 +6,8 @@ use Rattle.std.proofs.lemmas.List.{append-nil}
 use Rattle.std.proofs.lemmas.Slice.Eq.{bytes_eq-Decides}
 use Rattle.vt_bytes.specs.Memory.{Memory, IsMemory, IsTop, IsRam, with_bytes}
 use Rattle.memory_dump.specs.Dump.{dump, header_line, last_line}
-use Rattle.memory_dump.specs.Rows.{AreRows, Ascend, HoldsBytes, Rows, blank, memory_of, rows_of, text_of, text_of_row, with_rows}
+use Rattle.guest_memory.specs.Bytes.{HoldsBytes}
+use Rattle.memory_dump.specs.Rows.{AreRows, Ascend, Rows, blank, memory_of, rows_of, text_of, text_of_row, with_rows}
 use Rattle.memory_dump.specs.Reading.{Lines, ◌>>=◌, behind_so, dump_so, ended, fault_of_row, header_of, in_front, lines_of, or_fault, read_so, row_of, row_so, rows_so, unless}
 use Rattle.memory_dump.specs.declared.row.Row.{Row}
 use Rattle.memory_dump.specs.declared.header.Header.{Header}

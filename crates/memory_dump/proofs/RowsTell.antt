@@ -5,7 +5,8 @@ use Rattle.std.proofs.lemmas.Bool.{and_parts, eqb-true}
 use Rattle.vt_bytes.specs.Memory.{Memory, IsTop, IsRam, IsRamRange, IsMemory, at, bytes_at}
 use Rattle.vt_bytes.proofs.Bytes.{index-bytes_at, length-bytes_at}
 use Rattle.vt_bytes.proofs.Memories.{same_memory}
-use Rattle.memory_dump.specs.Rows.{AreBytes, AreRows, Ascend, HoldsBytes, IsRow, Rows, is_fill, row_addresses, row_at, rows_of}
+use Rattle.guest_memory.specs.Bytes.{HoldsBytes}
+use Rattle.memory_dump.specs.Rows.{AreBytes, AreRows, Ascend, IsRow, Rows, is_fill, row_addresses, row_at, rows_of}
 use Rattle.memory_dump.specs.declared.row.Row.{Row}
 use Rattle.memory_dump.proofs.Addresses.{IsRowAddress, Steps, each_of, row_each, row_in, row_steps}
 

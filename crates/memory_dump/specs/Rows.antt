@@ -2,7 +2,7 @@
 use Rattle.std.specs.Prelude.{◌≡◌, ℕ, ◌+◌, ◌-◌, ◌*◌, ◌/◌, ◌%◌, ◌<◌, ◌≤◌, Bool, false, ◌==◌, ◌∷◌, [], List, ◌++◌, length, map, replicate, if◌then◌else◌}
 use Rattle.std.specs.List.{AllByRecursion, flat_map, list_all, range_with_len}
 use Rattle.vt_bytes.specs.declared.memory.AddressRange.{AddressRange}
-use Rattle.vt_bytes.specs.Memory.{Memory, IsTop, IsRam, at, bytes_at, ram_ranges, with_bytes}
+use Rattle.vt_bytes.specs.Memory.{Memory, IsTop, IsRam, bytes_at, ram_ranges, with_bytes}
 use Rattle.memory_dump.specs.Dump.{header_line, last_line, row_text}
 use Rattle.memory_dump.specs.declared.row.Row.{Row}
 
@@ -86,8 +86,3 @@ with_rows m (row ∷ rows) = with_rows (with_bytes m row.address row.bytes) rows
 -- the memory that a dump tells
 abbrev pub memory_of : Rows → Memory
 memory_of d = with_rows (blank d.top d.fill) d.rows
-
--- The fill byte of a memory, and its byte at each address of RAM, are bytes.
-pub record HoldsBytes (m : Memory) : Type 0 where
-  pub fill : m.fill < 256
-  pub each : (address : ℕ) → IsRam m.top address → at m address < 256

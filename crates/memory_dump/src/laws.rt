@@ -5,7 +5,8 @@ ghost use Rattle.vt_bytes.specs.Memory.{Memory, IsMemory};
 ghost use Rattle.memory_dump.specs.declared.fault.DumpFault.TheVariants.{OutOfMemory as NoMemory, Truncated};
 ghost use Rattle.memory_dump.specs.declared.row.Row.{Row};
 ghost use Rattle.memory_dump.specs.Dump.{dump};
-ghost use Rattle.memory_dump.specs.Rows.{AreRows, HoldsBytes, IsSpelled, Rows, memory_of, rows_of, text_of};
+ghost use Rattle.guest_memory.specs.Bytes.{HoldsBytes};
+ghost use Rattle.memory_dump.specs.Rows.{AreRows, IsSpelled, Rows, memory_of, rows_of, text_of};
 ghost use Rattle.memory_dump.specs.Reading.{read_so, row_of};
 
 /// States that the text of a memory is that of its rows which aren't all the fill byte, and that these are a lawful dump's.

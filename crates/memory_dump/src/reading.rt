@@ -1,7 +1,7 @@
 ghost use Rattle.std.specs.Prelude.{◌≡◌, ◌+◌, ◌%◌, ◌<◌, ◌^◌, ◌++◌, ℕ, Ok, Err, None, Some, OnOk, IfOk, IfErr, length, take, drop};
 ghost use Rattle.vt_bytes.specs.Memory.{Memory, IsMemory, IsTop, with_bytes};
 ghost use Rattle.memory_dump.specs.Dump.{dump, header_line, last_line};
-ghost use Rattle.memory_dump.specs.Rows.{HoldsBytes};
+ghost use Rattle.guest_memory.specs.Bytes.{HoldsBytes};
 ghost use Rattle.memory_dump.specs.Reading.{Gives, behind_so, fault_of_row, header_of, read_so, row_of};
 
 use crate::fault::DumpFault;

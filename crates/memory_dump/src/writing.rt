@@ -1,6 +1,7 @@
 ghost use Rattle.std.specs.Prelude.{◌≡◌, ◌*◌, ◌%◌, ◌<◌, ◌≤◌, ◌==◌, false, [], length, take, OnOk, OnErr};
 ghost use Rattle.std.specs.List.{list_all};
-ghost use Rattle.vt_bytes.specs.Memory.{IsTop, IsRam, IsRamRange, ram_ranges};
+ghost use Rattle.vt_bytes.specs.Memory.{IsMemory, IsTop, IsRam, IsRamRange, ram_ranges};
+ghost use Rattle.guest_memory.specs.Bytes.{HoldsBytes};
 ghost use Rattle.memory_dump.specs.Dump.{dump, ranges_text, rows_text};
 ghost use Rattle.guest_memory.specs.Frames.{frame_limit, frame_start};
 ghost use Rattle.vt_outside.specs.Stream.{Took, TookFront};
@@ -26,7 +27,11 @@ const HIGH_BYTES: u64 = 0x200_0000;
 pub fn dump_to<K: Sink>(memory: &GuestMemory, out: &mut K) -> Result<(), Failed>
     ensures ok { OnOk result (Took (dump memory.now) (K.seen out.old) (K.seen out.new)) }
     ensures front { OnErr result (TookFront (dump memory.now) (K.seen out.old) (K.seen out.new)) }
+    // So that the memory is the only one with this text.
+    ensures lawful { IsMemory memory.now }
+    ensures holds { HoldsBytes memory.now }
 {
+    memory.holds_bytes();
     write_all(out, &header_text(memory.top(), memory.fill()))?;
     dump_ranges(memory, out)?;
     write_all(out, b"end\n")

@@ -1,6 +1,9 @@
 //! What is written is read again, and written as it was.
 
-ghost use Rattle.std.specs.Prelude.{◌<◌, ◌^◌, length};
+ghost use Rattle.std.specs.Prelude.{◌≡◌, ◌++◌, [], IfOk, OnOk};
+ghost use Rattle.guest_memory.specs.Memory.{Memory, IsMemory};
+ghost use Rattle.guest_memory.specs.Bytes.{HoldsBytes};
+ghost use Rattle.memory_dump.specs.Dump.{dump};
 
 use fixtures::{
     EMPTY_DUMP, LONG_TEXTS_DUMP, MINIMAL_DUMP, ON_THE_BORDER_DUMP, QUOTES_DUMP,
@@ -44,24 +47,65 @@ fn is_written_again(alloc: Global, text: &[u8], out: &mut ListSink) -> Result<()
 }
 
 fn write_again(alloc: Global, text: &[u8], out: &mut ListSink) -> Result<(), Fail> {
+    let memory = read(alloc, text)?;
+    let written = write(&memory, out);
+    drop(memory);
+    written
+}
+
+/// Writes the dump of a memory to a sink that has room for it.
+pub fn write(memory: &GuestMemory, out: &mut ListSink) -> Result<(), Fail>
+    ensures taken { OnOk result (out.new.taken ≡ out.old.taken ++ dump memory.now) }
+    ensures lawful { IsMemory memory.now }
+    ensures holds { HoldsBytes memory.now }
+{
+    match dump_to(memory, out) {
+        Ok(()) => Ok(()),
+        Err(Failed) => Err(Fail::new(format_args!("a write failed"))),
+    }
+}
+
+#[test]
+fn memories_are_what_is_read_of_their_dumps(rt: HostRuntime) -> Result<(), Fail> {
+    for dump in &DUMPS {
+        is_made_again(rt.alloc(), dump.as_bytes())?;
+    }
+    Ok(())
+}
+
+// The memory of a text is made again from its dump.
+fn is_made_again(alloc: Global, text: &[u8]) -> Result<(), Fail> {
+    let memory = read(alloc, text)?;
+    let mut out = sink(alloc, text.len(), &[])?;
+    let again = dumped_and_read(alloc, &memory, &mut out);
+    drop(out);
+    drop(memory);
+    drop(again?);
+    Ok(())
+}
+
+// The memory that is read of a memory's dump: it is that memory.
+fn dumped_and_read(
+    alloc: Global,
+    memory: &GuestMemory,
+    out: &mut ListSink,
+) -> Result<GuestMemory, Fail>
+    requires { out.old.taken ≡ [] }
+    ensures { IfOk result (λ again. again ≡ memory.now) }
+{
+    write(memory, out)?;
+    read(alloc, out.taken())
+}
+
+fn read(alloc: Global, text: &[u8]) -> Result<GuestMemory, Fail>
+    ensures { (m : Memory) → IsMemory m → HoldsBytes m → dump m ≡ text.now → IfOk result (λ memory. memory ≡ m) }
+{
     if text.len() > 0xFFFF_FFFF {
         return Err(Fail::new(format_args!("a dump is too long")));
     }
     match read_dump(alloc, text) {
-        Ok(memory) => {
-            let written = write(&memory, out);
-            drop(memory);
-            written
-        }
+        Ok(memory) => Ok(memory),
         Err(fault) => Err(Fail::new(format_args!("a dump is refused: {fault:?}"))),
-    }
-}
-
-/// Writes the dump of a memory to a sink that has room for it.
-pub fn write(memory: &GuestMemory, out: &mut ListSink) -> Result<(), Fail> {
-    match dump_to(memory, out) {
-        Ok(()) => Ok(()),
-        Err(Failed) => Err(Fail::new(format_args!("a write failed"))),
     }
 }
 
