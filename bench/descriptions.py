@@ -4,15 +4,15 @@ product.
 
 usage: descriptions.py FOLDER
 
-`greatest.toml` has as many sockets, memory modules, ranges, slots and texts as a description may have, and each of its texts has 64 bytes,
-the most that one may have. `half.toml` has half as many sockets, modules, ranges, slots and OEM
-strings; bench/run.sh doesn't run it, it is there to count instructions by hand.
+`greatest.toml` has as much of everything as a description may have: each list is full, each text has 64 bytes, and each processor and each
+NMI has the longer of its two entries. `half.toml` has half as much of each list; bench/run.sh doesn't run it, it is there to count
+instructions by hand. judges/run.sh has the tables of `greatest.toml` judged, too.
 """
 
 import pathlib
 import sys
 
-MOST = {"oem_strings": 32, "socket": 256, "dimm": 256, "range": 64, "slot": 64}
+MOST = {"oem_strings": 32, "socket": 256, "dimm": 256, "range": 64, "slot": 64, "cpu": 4096, "ioapic": 16, "override": 16, "nmi": 16, "node": 64}
 LONGEST = 64  # bytes of a text
 
 
@@ -30,10 +30,23 @@ def tables(name, count, texts, numbers):
     return lines
 
 
-def ranges(count):
-    """The first is all memory below the top, and the others follow from 4 GiB on."""
+def ranges(count, nodes):
+    """The first is all memory below the top, and the others follow from 4 GiB on, on the nodes in turn."""
     places = [(0, 3072)] + [(4096 + 1024 * at, 1024) for at in range(count - 1)]
-    return [line for base, size in places for line in ("[[range]]", f"base_mib = {base}", f"size_mib = {size}")]
+    return tables("range", count, [], lambda at: [f"base_mib = {places[at][0]}", f"size_mib = {places[at][1]}", f"node = {at % nodes}"])
+
+
+def interrupts(most):
+    """Processors whose ids only x2APICs have, on the nodes in turn, I/O APICs, overrides, and NMIs of the last processors."""
+    lines = tables("cpu", most["cpu"], [], lambda at: [f"apic = {0x1000 + at}", f"node = {at % most['node']}"])
+    lines += tables("ioapic", most["ioapic"], [], lambda at: [f"id = {at}", f"address = {0xFEC00000 + 0x1000 * at}", f"gsi = {24 * at}"])
+    lines += tables("override", most["override"], [], lambda at: [f"irq = {at}", f"gsi = {at + 16}", "flags = 13"])
+    return lines + tables("nmi", most["nmi"], [], lambda at: [f"cpu = {most['cpu'] - 1 - at}", "flags = 5"])
+
+
+def nodes(count):
+    distances = ", ".join(str(10 + abs(row - to)) for row in range(count) for to in range(count))
+    return ["[numa]", f"nodes = {count}", f"distance = [{distances}]"]
 
 
 def description(share):
@@ -48,9 +61,10 @@ def description(share):
     lines += ["[chassis]"] + [f"{key} = {text(key, 0)}" for key in ("manufacturer", "version", "serial", "asset", "sku")]
     lines += tables("socket", most["socket"], processor, lambda at: ["cores = 256", "threads = 512", "mhz = 3000"])
     lines += tables("dimm", most["dimm"], module, lambda at: ["size_mib = 32768", "speed = 4800"])
-    lines += ranges(most["range"])
+    lines += ranges(most["range"], most["node"])
     lines += tables("slot", most["slot"], ["designation"], lambda at: [f"id = {at}", f"device = {at % 32}"])
-    lines += ["[acpi]", "[hpet]"]
+    lines += ["[acpi]", "[power]", "event = 0x600", "control = 0x604", "timer = 0x608", "[hpet]", "[apic]"]
+    lines += interrupts(most) + nodes(most["node"])
     return "".join(line + "\n" for line in lines)
 
 

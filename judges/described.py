@@ -4,9 +4,11 @@ judges/run.sh alone.
 
 usage: described.py DESCRIPTION FOLDER
 
-Writes into FOLDER a file smbios.expected, where the description has the table acpi XSDT.expected, and where it has the table
-hpet HPET.expected: the lines that the tool must print, in this order, without what stands before them in the line. A text that the
-description leaves out gives no line.
+Writes into FOLDER a file smbios.expected, where the description has the table acpi XSDT.expected, where it has the table power
+FACP.expected and FACS.expected, where it has the table apic APIC.expected, where it has the table numa SRAT.expected and SLIT.expected,
+and where it has the table hpet HPET.expected: the lines that the tool must print, in this order, without what stands before them in the
+line. A text that the description leaves out gives no line. Of an FADT the address of the FACS
+gives none either, since it isn't described: there is a FACS for iasl only where dump_tables.py finds one at that address.
 """
 
 import pathlib
@@ -19,6 +21,46 @@ import uuid
 CHASSIS = {1: "Other", 3: "Desktop", 17: "Main Server Chassis", 23: "Rack Mount Chassis"}
 SLOTS = {1: "Other", 0xA5: "PCI Express"}
 WIDTHS = {1: "", 8: "x1 ", 9: "x2 ", 10: "x4 ", 11: "x8 ", 13: "x16 "}
+
+# iasl's words for profiles of power management (ACPI 6.5, 5.2.9), spaces and sizes of accesses (5.2.3.2), and the bits of flags, from bit 0
+# on (5.2.9, 5.2.9.3, 5.2.9.4).
+PROFILES = ["Unspecified", "Desktop", "Mobile", "Workstation", "Enterprise Server", "SOHO Server", "Appliance PC", "Performance Server"]
+SPACES = ["SystemMemory", "SystemIO"]
+ACCESSES = ["Undefined/Legacy", "Byte Access:8", "Word Access:16", "DWord Access:32"]
+BOOT_FLAGS = [
+    "Legacy Devices Supported (V2)",
+    "8042 Present on ports 60/64 (V2)",
+    "VGA Not Present (V4)",
+    "MSI Not Supported (V4)",
+    "PCIe ASPM Not Supported (V4)",
+    "CMOS RTC Not Present (V5)",
+]
+FIXED_FLAGS = [
+    "WBINVD instruction is operational (V1)",
+    "WBINVD flushes all caches (V1)",
+    "All CPUs support C1 (V1)",
+    "C2 works on MP system (V1)",
+    "Control Method Power Button (V1)",
+    "Control Method Sleep Button (V1)",
+    "RTC wake not in fixed reg space (V1)",
+    "RTC can wake system from S4 (V1)",
+    "32-bit PM Timer (V1)",
+    "Docking Supported (V1)",
+    "Reset Register Supported (V2)",
+    "Sealed Case (V3)",
+    "Headless - No Video (V3)",
+    "Use native instr after SLP_TYPx (V3)",
+    "PCIEXP_WAK Bits Supported (V4)",
+    "Use Platform Timer (V4)",
+    "RTC_STS valid on S4 wake (V4)",
+    "Remote Power-on capable (V4)",
+    "Use APIC Cluster Model (V4)",
+    "Use APIC Physical Destination Mode (V4)",
+    "Hardware Reduced (V5)",
+    "Low Power S0 Idle (V5)",
+]
+ARM_FLAGS = ["PSCI Compliant", "Must use HVC for PSCI"]
+
 
 def texts(part, words):
     """The lines of the texts that a part has, of these keys and words."""
@@ -176,15 +218,275 @@ def smbios_lines(machine):
 
 # The lines of ACPI tables, in the order in which iasl prints them.
 
-def header_lines(acpi):
+def header_lines(acpi, revision=1):
     return [
-        "Revision : 01",
+        f"Revision : {revision:02X}",
         f'Oem ID : "{acpi.get("oem_id", "BOCHS").ljust(6)}"',
         f'Oem Table ID : "{acpi.get("oem_table_id", "BXPC").ljust(8)}"',
         "Oem Revision : 00000001",
         'Asl Compiler ID : "VMTB"',
         "Asl Compiler Revision : 00000001",
     ]
+
+
+def flag_lines(words, flags):
+    return [f"{word} : {flags >> place & 1}" for place, word in enumerate(words)]
+
+
+def register_lines(word, port=0, width=0, access=0):
+    """A register of I/O space of so many bits, with accesses of this size; none where the port is 0."""
+    space, width, access = (1, width, access) if port else (0, 0, 0)
+    return [
+        f"{word} : [Generic Address Structure]",
+        f"Space ID : {space:02X} [{SPACES[space]}]",
+        f"Bit Width : {width:02X}",
+        "Bit Offset : 00",
+        f"Encoded Access Width : {access:02X} [{ACCESSES[access]}]",
+        f"Address : {port:016X}",
+    ]
+
+
+def fadt_lines(power):
+    return [
+        "FACS Address : 00000000",
+        "DSDT Address : 00000000",
+        "Model : 00",
+        *system_control_lines(power),
+        *port_lines(power),
+        *size_lines(power),
+        *feature_lines(power),
+        *reset_lines(power),
+        *wide_lines(power),
+        "Hypervisor ID : 0000000000000000",
+    ]
+
+
+def system_control_lines(power):
+    profile = power.get("profile", 0)
+    return [
+        f"PM Profile : {profile:02X} [{PROFILES[profile]}]",
+        f"SCI Interrupt : {power.get('sci', 9):04X}",
+        "SMI Command Port : 00000000",
+        "ACPI Enable Value : 00",
+        "ACPI Disable Value : 00",
+        "S4BIOS Command : 00",
+        "P-State Control : 00",
+    ]
+
+
+def port_lines(power):
+    return [
+        f"PM1A Event Block Address : {power['event']:08X}",
+        "PM1B Event Block Address : 00000000",
+        f"PM1A Control Block Address : {power['control']:08X}",
+        "PM1B Control Block Address : 00000000",
+        "PM2 Control Block Address : 00000000",
+        f"PM Timer Block Address : {power['timer']:08X}",
+        f"GPE0 Block Address : {power.get('gpe', 0):08X}",
+        "GPE1 Block Address : 00000000",
+    ]
+
+
+def size_lines(power):
+    return [
+        "PM1 Event Block Length : 04",
+        "PM1 Control Block Length : 02",
+        "PM2 Control Block Length : 00",
+        "PM Timer Block Length : 04",
+        f"GPE0 Block Length : {power.get('gpe_len', 0):02X}",
+        "GPE1 Block Length : 00",
+        "GPE1 Base Offset : 00",
+        "_CST Support : 00",
+        "C2 Latency : 0FFF",
+        "C3 Latency : 0FFF",
+        "CPU Cache Size : 0000",
+        "Cache Flush Stride : 0000",
+        "Duty Cycle Offset : 00",
+        "Duty Cycle Width : 00",
+        "RTC Day Alarm Index : 00",
+        "RTC Month Alarm Index : 00",
+        f"RTC Century Index : {power.get('century', 0):02X}",
+    ]
+
+
+def feature_lines(power):
+    boot = 3 if power.get("keyboard", True) else 0
+    fixed = 0x5A5 if power.get("reset", 0) else 0x1A5
+    return [
+        f"Boot Flags (decoded below) : {boot:04X}",
+        *flag_lines(BOOT_FLAGS, boot),
+        "Reserved : 00",
+        f"Flags (decoded below) : {fixed:08X}",
+        *flag_lines(FIXED_FLAGS, fixed),
+    ]
+
+
+def reset_lines(power):
+    return [
+        *register_lines("Reset Register", power.get("reset", 0), 8, 1),
+        f"Value to cause reset : {power.get('reset_value', 0):02X}",
+        "ARM Flags (decoded below) : 0000",
+        *flag_lines(ARM_FLAGS, 0),
+        "FADT Minor Revision : 05",
+    ]
+
+
+def wide_lines(power):
+    return [
+        "DSDT Address : 0000000000000000",
+        *register_lines("PM1A Event Block", power["event"], 32, 2),
+        *register_lines("PM1B Event Block"),
+        *register_lines("PM1A Control Block", power["control"], 16, 2),
+        *register_lines("PM1B Control Block"),
+        *register_lines("PM2 Control Block"),
+        *register_lines("PM Timer Block", power["timer"], 32, 3),
+        *register_lines("GPE0 Block", power.get("gpe", 0), 8 * power.get("gpe_len", 0), 1),
+        *register_lines("GPE1 Block"),
+        *register_lines("Sleep Control Register"),
+        *register_lines("Sleep Status Register"),
+    ]
+
+
+def facs_lines():
+    return [
+        "Length : 00000040",
+        "Hardware Signature : 00000000",
+        "32 Firmware Waking Vector : 00000000",
+        "Global Lock : 00000000",
+        "Flags (decoded below) : 00000000",
+        "S4BIOS Support Present : 0",
+        "64-bit Wake Supported (V2) : 0",
+        "64 Firmware Waking Vector : 0000000000000000",
+        "Version : 02",
+        "Reserved : 000000",
+        "OspmFlags (decoded below) : 00000000",
+        "64-bit Wake Env Required (V2) : 0",
+    ]
+
+
+def apic_lines(machine):
+    apic = machine["apic"]
+    legacy = int(apic.get("legacy", True))
+    return [
+        f"Local Apic Address : {apic.get('local', 0xFEE00000):08X}",
+        f"Flags (decoded below) : {legacy:08X}",
+        f"PC-AT Compatibility : {legacy}",
+        *each(cpu_lines, machine.get("cpu", [])),
+        *each(io_apic_lines, machine.get("ioapic", [])),
+        *each(override_lines, machine.get("override", [])),
+        *each(nmi_lines, machine.get("nmi", [])),
+    ]
+
+
+def entry_lines(kind, word, length):
+    return [f"Subtable Type : {kind:02X} [{word}]", f"Length : {length:02X}"]
+
+
+def cpu_lines(place, cpu):
+    """A processor, whose UID is its place: a local APIC has a UID and an id of at most 254."""
+    enabled = int(cpu.get("enabled", True))
+    flags = [f"Flags (decoded below) : {enabled:08X}", f"Processor Enabled : {enabled}"]
+    if place <= 254 and cpu["apic"] <= 254:
+        ids = [f"Processor ID : {place:02X}", f"Local Apic ID : {cpu['apic']:02X}"]
+        return [*entry_lines(0, "Processor Local APIC", 8), *ids, *flags, "Runtime Online Capable : 0"]
+    x2apic = ["Reserved : 0000", f"Processor x2Apic ID : {cpu['apic']:08X}"]
+    return [*entry_lines(9, "Processor Local x2APIC", 16), *x2apic, *flags, f"Processor UID : {place:08X}"]
+
+
+def io_apic_lines(_place, io_apic):
+    return [
+        *entry_lines(1, "I/O APIC", 12),
+        f"I/O Apic ID : {io_apic['id']:02X}",
+        "Reserved : 00",
+        f"Address : {io_apic['address']:08X}",
+        f"Interrupt : {io_apic.get('gsi', 0):08X}",
+    ]
+
+
+def override_lines(_place, override):
+    return [
+        *entry_lines(2, "Interrupt Source Override", 10),
+        "Bus : 00",
+        f"Source : {override['irq']:02X}",
+        f"Interrupt : {override['gsi']:08X}",
+        *signal_lines(override),
+    ]
+
+
+def signal_lines(interrupt):
+    flags = interrupt.get("flags", 0)
+    return [f"Flags (decoded below) : {flags:04X}", f"Polarity : {flags & 3}", f"Trigger Mode : {flags >> 2}"]
+
+
+def nmi_lines(_place, nmi):
+    """An NMI of each processor, or of one, whose entry is that of an x2APIC where its UID is above 254."""
+    uid, lint = nmi.get("cpu", 0xFF), f"Interrupt Input LINT : {nmi.get('lint', 1):02X}"
+    if uid <= 254 or "cpu" not in nmi:
+        return [*entry_lines(4, "Local APIC NMI", 6), f"Processor ID : {uid:02X}", *signal_lines(nmi), lint]
+    return [*entry_lines(10, "Local x2APIC NMI", 12), *signal_lines(nmi), f"Processor UID : {uid:08X}", lint, "Reserved : 000000"]
+
+
+def srat_lines(machine):
+    return [
+        "Table Revision : 00000001",
+        "Reserved : 0000000000000000",
+        *each(cpu_node_lines, machine.get("cpu", [])),
+        *each(range_node_lines, machine.get("range", [])),
+    ]
+
+
+def cpu_node_lines(_place, cpu):
+    """The node of a processor: a local APIC has an id of at most 254."""
+    node = cpu.get("node", 0)
+    flags = ["Flags (decoded below) : 00000001", "Enabled : 1"]
+    if cpu["apic"] <= 254:
+        return [
+            *entry_lines(0, "Processor Local APIC/SAPIC Affinity", 16),
+            f"Proximity Domain Low(8) : {node:02X}",
+            f"Apic ID : {cpu['apic']:02X}",
+            *flags,
+            "Local Sapic EID : 00",
+            "Proximity Domain High(24) : 000000",
+            "Clock Domain : 00000000",
+        ]
+    return [
+        *entry_lines(2, "Processor Local x2APIC Affinity", 24),
+        "Reserved1 : 0000",
+        f"Proximity Domain : {node:08X}",
+        f"Apic ID : {cpu['apic']:08X}",
+        *flags,
+        "Clock Domain : 00000000",
+        "Reserved2 : 00000000",
+    ]
+
+
+def range_node_lines(_place, memory):
+    return [
+        *entry_lines(1, "Memory Affinity", 40),
+        f"Proximity Domain : {memory.get('node', 0):08X}",
+        "Reserved1 : 0000",
+        f"Base Address : {memory['base_mib'] * 2**20:016X}",
+        f"Address Length : {memory['size_mib'] * 2**20:016X}",
+        "Reserved2 : 00000000",
+        "Flags (decoded below) : 00000001",
+        "Enabled : 1",
+        "Hot Pluggable : 0",
+        "Non-Volatile : 0",
+        "Reserved3 : 0000000000000000",
+    ]
+
+
+def slit_lines(numa):
+    nodes, distance = numa["nodes"], numa["distance"]
+    rows = [distance[first : first + nodes] for first in range(0, len(distance), nodes)]
+    return [f"Localities : {nodes:016X}", *each(distance_lines, rows)]
+
+
+def distance_lines(place, row):
+    """The distances from a node, of which iasl prints sixteen in a line."""
+    lines = [" ".join(f"{distance:02X}" for distance in row[first : first + 16]) for first in range(0, len(row), 16)]
+    lines = [*(f"{line} \\" for line in lines[:-1]), lines[-1]]
+    return [f"Locality {place:3} : {lines[0]}", *lines[1:]]
 
 
 def hpet_lines(hpet):
@@ -204,6 +506,14 @@ def main(description, folder):
     expected = {"smbios": smbios_lines(machine)}
     if "acpi" in machine:
         expected["XSDT"] = header_lines(machine["acpi"])
+    if "power" in machine:
+        expected["FACP"] = ["Table Length : 00000114", *header_lines(machine["acpi"], revision=6), *fadt_lines(machine["power"])]
+        expected["FACS"] = facs_lines()
+    if "apic" in machine:
+        expected["APIC"] = header_lines(machine["acpi"], revision=5) + apic_lines(machine)
+    if "numa" in machine:
+        expected["SRAT"] = header_lines(machine["acpi"], revision=3) + srat_lines(machine)
+        expected["SLIT"] = header_lines(machine["acpi"]) + slit_lines(machine["numa"])
     if "hpet" in machine:
         expected["HPET"] = header_lines(machine["acpi"]) + hpet_lines(machine["hpet"])
     for name, lines in expected.items():

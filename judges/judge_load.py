@@ -25,7 +25,7 @@ import sys
 sys.path.append(str(pathlib.Path(__file__).resolve().parent.parent / "tools"))  # whose modules the judges share
 
 from fw_cfg_files import SCRIPT, AddChecksum, AddPointer, Allocate, NotAContainer, read_container, read_script
-from memory_dump import NotADump, NotFound, acpi_table, byte_sum, listed_tables, number_at, read_dump, root_pointer, root_table
+from memory_dump import NotADump, NotFound, byte_sum, number_at, reachable_tables, read_dump, root_pointer, root_table
 
 RSDP = "etc/acpi/rsdp"
 HIGH, F_SEGMENT = 1, 2
@@ -166,24 +166,11 @@ def other_faults(memory, spans):
                 return
 
 
-def described_tables(memory, table):
-    """The tables that a FADT (ACPI 6.5, 5.2.9) leads to: the FACS and the DSDT, by the wide pointers where these aren't zero."""
-    for narrow, wide in ((36, 132), (40, 140)):
-        address = number_at(table, wide, 8) or number_at(table, narrow, 4)
-        if address != 0:
-            yield acpi_table(memory, address)
-
-
-def reachable_tables(memory):
+def tables_of(memory):
+    """The ACPI tables that a guest reaches from the RSDP, where there is one."""
     pointer = root_pointer(memory)
-    if pointer is None:
-        return
-    root = root_table(memory, pointer)
-    yield root
-    for table in listed_tables(memory, root):
-        yield table
-        if table[:4] == b"FACP":
-            yield from described_tables(memory, table)
+    if pointer is not None:
+        yield from reachable_tables(memory, root_table(memory, pointer))
 
 
 def acpi_faults(image, memory):
@@ -192,7 +179,7 @@ def acpi_faults(image, memory):
         yield "the memory has no RSDP"
     if pointer is not None and (byte_sum(pointer[:20]) != 0 or (pointer[15] >= 2 and byte_sum(pointer) != 0)):
         yield "the RSDP doesn't sum to zero"
-    for table in reachable_tables(memory):
+    for table in tables_of(memory):
         if table[:4] != b"FACS" and byte_sum(table) != 0:
             yield f"the ACPI table {table[:4]!r} sums to {byte_sum(table):#x}"
 
@@ -250,7 +237,7 @@ def judge(image, memory):
         print(line)
     if faults or missed:
         return 1
-    names = " ".join(table[:4].decode("latin-1") for table in reachable_tables(memory))
+    names = " ".join(table[:4].decode("latin-1") for table in tables_of(memory))
     counts = f"files: {len(image.allocates)}, pointers: {len(image.pointers)}, sums: {len(image.sums)}"
     print(f"{counts}, ACPI tables: {names or 'none'}; all as they should be, and each flipped bit is found")
     return 0

@@ -1,11 +1,12 @@
 #!/usr/bin/env bash
 # Has programs that others wrote read the memory that `vmtables boot` leaves for each description of examples/: dmidecode reads
 # the SMBIOS structures, and iasl the ACPI tables. Each must print what is described and find no fault; and each must find one
-# where a bit of a checksum is flipped, or it would be no judge. They judge boots of each policy of places and of some seeds of
-# events too. Then `vmtables load` is given files that QEMU made for machines of its own, and what `vmtables build` makes for each
-# description, and judge_load.py judges the memory that it leaves of them; of a description it must be the memory that `boot`
-# leaves, and of a machine what SeaBIOS leaves in its guest, as judge_guest.py compares them. Last, the commands that README.md shows
-# must print what it says. Nothing is proved here.
+# where a bit of a checksum is flipped, or of the length of a FACS, which has no checksum, or it would be no judge. They judge
+# boots of each policy of places and of some seeds of events too, and the boot of the greatest description, which bench/descriptions.py
+# writes. Then `vmtables load` is given files that QEMU made for machines of its own, and what `vmtables build` makes for each
+# description, and judge_load.py judges the memory that it leaves of them; of a description it must be the memory that `boot` leaves,
+# and of a machine what SeaBIOS leaves in its guest, as judge_guest.py compares them. Last, the commands that README.md shows must
+# print what it says. Nothing is proved here.
 #
 # usage: judges/run.sh [PROGRAM]     PROGRAM stands for ./vmtables
 #
@@ -123,7 +124,8 @@ note_asked() {
     was_asked "$1" || asked+=("$1")
 }
 
-# ask TOOL JUDGE FILE CHECKSUM: has the tool judge a file, and then a copy with a bit flipped in the byte at CHECKSUM.
+# ask TOOL JUDGE FILE BYTE: has the tool judge a file, and then a copy with a bit flipped in the byte at BYTE, a checksum or
+# a length, which the file's other bytes decide.
 ask() {
     local said
     note_asked "$1"
@@ -132,10 +134,10 @@ ask() {
     cp -r "$folder" "$folder.flipped"
     flip "$folder.flipped/$3" "$4"
     if said=$("$2" "$folder.flipped" "$3" 2>&1); then
-        fault "$1" "$3" "no judge: it finds nothing wrong with a checksum in which a bit is flipped
+        fault "$1" "$3" "no judge: it finds nothing wrong with a bit flipped in byte $4
 $said"
     else
-        echo "  $1: $3: as described, and no fault; a wrong checksum is found"
+        echo "  $1: $3: as described, and no fault; a bit flipped in byte $4 is found"
     fi
 }
 
@@ -149,6 +151,14 @@ make_files() {
     said=$(python3 "$here/described.py" "$description" "$folder" 2>&1) || { fault described.py "the text" "$said"; return 1; }
 }
 
+# telling_byte TABLE: which byte of a table's file its other bytes decide: the checksum, or of a FACS, which has none, the length.
+telling_byte() {
+    case $1 in
+    FACS.aml) echo 4 ;;
+    *) echo 9 ;;
+    esac
+}
+
 ask_iasl() {
     local table
     if [ ! -e "$folder/RSDP.bin" ]; then
@@ -156,7 +166,8 @@ ask_iasl() {
         return
     fi
     for table in "$folder"/*.aml; do
-        ask iasl judge_table "$(basename "$table")" 9
+        table=$(basename "$table")
+        ask iasl judge_table "$table" "$(telling_byte "$table")"
     done
     ask iasl judge_pointer RSDP.bin 8
 }
@@ -300,6 +311,17 @@ judge_examples() {
     done
 }
 
+# Boots the description with the most of everything, and has the tables and the container judged.
+judge_greatest() {
+    description=$work/greatest.toml
+    folder=$work/greatest
+    echo "the greatest description"
+    python3 bench/descriptions.py "$work" || { fault descriptions.py "the text" "not written"; return; }
+    make_files || return
+    judge_tables
+    judge_container
+}
+
 # Has each command that a document shows print what the document says.
 judge_document() {
     local said
@@ -313,6 +335,7 @@ judge_all() {
     "$program" --version || exit 1 # builds ./vmtables where it isn't built, in sight
     cd "$root" || exit 1
     judge_examples
+    judge_greatest
     ! has qemu-system-x86_64 || judge_machines
     judge_document README.md
 }

@@ -9,8 +9,8 @@ Writes into FOLDER what the memory holds of these:
   smbios.bin      the SMBIOS anchor at 0 and its structures at 0x20, as `dmidecode --dump-bin` writes them
   RSDP.bin        the root pointer of the ACPI tables, and
   RSDP.asl        its maker and the address that it gives, for iasl to make a root pointer of
-  XSDT.aml        the table that the root pointer names, and a file for each table that it lists, named by the
-                  signature; a second table of a signature is SIGNATURE-2.aml
+  XSDT.aml        the table that the root pointer names, and a file for each table that it lists, or to which an FADT that it
+                  lists leads, as FACS.aml, named by the signature; a second table of a signature is SIGNATURE-2.aml
 
 Status 0: done; 1: there is no SMBIOS anchor, or the anchor or the root pointer leads to no table; 2: the file is no dump. A memory
 without a root pointer has no ACPI tables, which is no fault.
@@ -20,7 +20,7 @@ import pathlib
 import re
 import sys
 
-from memory_dump import NotADump, NotFound, listed_tables, read_dump, root_pointer, root_table
+from memory_dump import NotADump, NotFound, reachable_tables, read_dump, root_pointer, root_table
 
 
 def smbios_files(memory):
@@ -37,7 +37,7 @@ def smbios_files(memory):
 
 
 def acpi_files(memory):
-    """The tables that the root pointer leads to (ACPI 6.5, 5.2.5 and 5.2.8)."""
+    """The tables that the root pointer leads to (ACPI 6.5, 5.2.5, 5.2.8 and 5.2.9)."""
     pointer = root_pointer(memory)
     if pointer is None:
         return {}
@@ -45,7 +45,7 @@ def acpi_files(memory):
         raise NotFound(f"the RSDP is of revision {pointer[15]}, and names no XSDT")
     root = root_table(memory, pointer)
     files = {"RSDP.bin": pointer, "RSDP.asl": pointer_source(pointer[9:15], int.from_bytes(pointer[24:32], "little"))}
-    for table in [root, *listed_tables(memory, root)]:
+    for table in reachable_tables(memory, root):
         files[name_of(table, files)] = table
     return files
 

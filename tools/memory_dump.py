@@ -121,3 +121,20 @@ def listed_tables(memory, root):
     """The tables that an XSDT or an RSDT lists."""
     width = 8 if root[:4] == b"XSDT" else 4
     return [acpi_table(memory, number_at(root, entry, width)) for entry in range(36, len(root) - width + 1, width)]
+
+
+def led_tables(memory, fadt):
+    """The tables that an FADT (5.2.9) leads to: the FACS and the DSDT, by the wide pointers where these aren't zero."""
+    for narrow, wide in ((36, 132), (40, 140)):
+        address = number_at(fadt, wide, 8) or number_at(fadt, narrow, 4)
+        if address != 0:
+            yield acpi_table(memory, address)
+
+
+def reachable_tables(memory, root):
+    """An XSDT or an RSDT, the tables that it lists, and behind an FADT those that it leads to."""
+    yield root
+    for table in listed_tables(memory, root):
+        yield table
+        if table[:4] == b"FACP":
+            yield from led_tables(memory, table)

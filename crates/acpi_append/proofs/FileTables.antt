@@ -6,7 +6,9 @@ use Rattle.vt_layout.specs.declared.row.Row.{Row}
 use Rattle.vt_layout.specs.Rows.{size, IsRow, linked}
 use Rattle.vt_layout.specs.Shown.{LayoutShown}
 use Rattle.vt_layout.proofs.Shows.{shown_rows}
-use Rattle.acpi_model.specs.declared.header.Head.{Head}
+use Rattle.acpi_records.specs.declared.header.Head.{Head}
+use Rattle.acpi_records.specs.declared.facs.Facs.{Facs}
+use Rattle.acpi_records.specs.Facs.{facs_rows}
 use Rattle.acpi_model.specs.declared.acpi.Table.{Table}
 use Rattle.acpi_model.specs.Header.{header_rows, table_rows, IsFittingHead}
 use Rattle.acpi_model.specs.Xsdt.{xsdt_rows}
@@ -21,6 +23,8 @@ use Rattle.blob_holes.proofs.RowsKept.{layout_appended}
 use Rattle.acpi_model.specs.Kinds.{tables_name, rows_behind}
 use Rattle.acpi_append.specs.Tables.{table_pointer, with_table, with_xsdt, with_rsdp, IsTablePut, IsXsdtPut, IsRsdpPut}
 use Rattle.acpi_append.proofs.Tables.{are_table_rows, body_unsummed}
+use Rattle.acpi_append.specs.FacsPut.{with_facs, IsFacsPut}
+use Rattle.acpi_append.proofs.FacsPut.{facs_put}
 use Rattle.acpi_append.proofs.Puts.{put_where_held, table_put}
 
 -- so the rows of a table can be appended
@@ -33,8 +37,8 @@ table_fits signature h body four few fits are no_sum =
 -- so can those of a table that can be put into a file
 pub put_fits : (table : Table) → CanBePut table → AreRows (rows_of table)
 put_fits table can =
-    table_fits (signature_of table) (layout_of table).head (rows_behind (layout_of table)) (length-signature table) (omega (arith, can.writable.few)) can.head
-    can.fit (body_unsummed (rows_behind (layout_of table)) can.writable.rows)
+    table_fits (signature_of table) (layout_of table).head (rows_behind (layout_of table)) (length-signature table) (omega (arith, can.writable.lawful.few)) can.head
+    can.fit (body_unsummed (rows_behind (layout_of table)) can.writable.lawful.rows)
 
 module _ (file : BlobState) (blob : IsBlob file) where
   -- a table
@@ -60,6 +64,11 @@ module _ (file : BlobState) (blob : IsBlob file) where
       put_where_held file (with_rsdp file oem_id xsdt) rows (λ view at place_of. LayoutShown view at (linked place_of rows))
       (layout_appended 16 file rows blob are short) (λ view at place_of held. shown_rows view place_of at at rows are.each held) in
       put
+
+  -- a FACS
+  pub facs_appended : (facs : Facs) → AreRows (facs_rows facs) → next_place 16 file + 64 < 2 ^ 32 → IsFacsPut file (with_facs file facs) facs
+  facs_appended facs are short =
+      facs_put file (with_facs file facs) facs are.each (layout_appended 16 file (facs_rows facs) blob are (omega (arith, short)))
 
 -- the pointers to tables are no sums
 pub pointers_unsummed : (tables : List ℕ) → AllByRecursion IsUnsummed (map table_pointer tables)

@@ -4,7 +4,7 @@ use Rattle.std.specs.List.{AllByRecursion}
 use Rattle.vt_bytes.proofs.Each.{each_weaker, each_map}
 use Rattle.vt_layout.specs.declared.row.Row.{Row}
 use Rattle.vt_layout.specs.declared.row.Row.TheVariants.{Pointer, Sum}
-use Rattle.acpi_model.specs.declared.header.Head.{Head}
+use Rattle.acpi_records.specs.declared.header.Head.{Head}
 use Rattle.acpi_model.specs.declared.acpi.Table.{Table}
 use Rattle.acpi_model.specs.Header.{table_rows}
 use Rattle.acpi_model.specs.Kinds.{rows_behind, IsBodyRow}
@@ -25,7 +25,7 @@ body_leads row is = tt
 pub table_leads : (table : Table) → IsWritable table → AllByRecursion Leads (rows_of table)
 table_leads table writable =
     header_leads (signature_of table) (layout_of table).head (rows_behind (layout_of table))
-    (each_weaker IsBodyRow Leads body_leads (rows_behind (layout_of table)) writable.rows)
+    (each_weaker IsBodyRow Leads body_leads (rows_behind (layout_of table)) writable.lawful.rows)
 
 pub xsdt_leads : (head : Head) (tables : List ℕ) → AllByRecursion Leads (xsdt_rows head (map table_pointer tables))
 xsdt_leads head tables = header_leads (codes "XSDT") head (map table_pointer tables) (each_map Leads table_pointer (λ table. refl) tables)

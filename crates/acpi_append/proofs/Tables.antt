@@ -1,5 +1,5 @@
 -- The rows of tables, which can be appended.
-use Rattle.std.proofs.Common.{◌≡◌, ℕ, ◌+◌, ◌<◌, ◌≤◌, true, List, [], ◌++◌, drop, arith, refl, ap, sym, subst, ◌∙◌, codes, append-nil}
+use Rattle.std.proofs.Common.{◌≡◌, ℕ, ◌+◌, ◌<◌, ◌≤◌, true, List, [], ◌++◌, length, drop, arith, refl, ap, sym, subst, ◌∙◌, codes, append-nil}
 use Rattle.std.specs.Int.{is_power_of_two}
 use Rattle.std.specs.List.{AllByRecursion}
 use lib.Count.{ones}
@@ -9,13 +9,18 @@ use Rattle.vt_layout.specs.Rows.{size, IsRow}
 use Rattle.vt_layout.specs.Fields.{Gathered, field_rows, with_row}
 use Rattle.vt_bytes.proofs.Each.{each_append, each_weaker}
 use Rattle.vt_layout.proofs.Sizes.{size-append}
-use Rattle.acpi_model.specs.declared.header.Head.{Head}
+use Rattle.acpi_records.specs.declared.header.Head.{Head}
 use Rattle.acpi_model.specs.Header.{head_fields, framed, header_rows, table_rows}
-use Rattle.acpi_model.specs.Kinds.{TableLayout, rows_behind, record_rows, layout_rows, IsBodyRow}
+use Rattle.acpi_model.specs.declared.acpi.Table.{Table}
+use Rattle.acpi_model.specs.declared.acpi.Table.TheVariants.{Fadt, Madt, Srat, Slit, Hpet}
+use Rattle.acpi_model.specs.Kinds.{rows_behind, IsBodyRow}
+use Rattle.acpi_model.specs.Acpi.{layout_of, signature_of, rows_of}
 use Rattle.acpi_model.specs.Xsdt.{xsdt_rows}
 use Rattle.blob_holes.specs.Rows.{IsUnsummed, AreRows}
+use Rattle.blob_holes.specs.Plain.{Spells}
 use Rattle.blob_holes.proofs.Unsummed.{sums_fit}
-use Rattle.acpi_append.specs.Tables.{BeginWithHeader}
+use Rattle.blob_holes.proofs.Spelled.{size_spelled}
+use Rattle.acpi_append.specs.Tables.{BeginWithHeader, front_body, rows_as_bytes, front_rows}
 
 -- 16 is a power of two
 pub sixteen : is_power_of_two 16 ≡ true
@@ -32,14 +37,17 @@ are_table_rows signature head body each no_sum =
       sums = (tt, (tt, (tt, (fits, (tt, (tt, (tt, (tt, (tt, sums_fit total (36 + size body) 36 body no_sum)))))))));
     }
 
--- rows that begin with a header's, with the signature, the length and the checksum, are those of a table
-pub framed_are : (signature : List ℕ) (rows more : List Row) (begin : BeginWithHeader rows)
-    → framed signature (size rows + size more) rows ++ more ≡ table_rows signature begin.head (begin.behind ++ more)
-framed_are signature rows more begin =
-    let whole : List Row = field_rows (head_fields begin.head) ++ begin.behind in
-    let total : size whole + size more ≡ 36 + size (begin.behind ++ more) = omega (arith, size-append begin.behind more) in
-    ap (λ those. framed signature (size those + size more) those ++ more) begin.are
-    ∙ ap (λ n. header_rows signature n begin.head ++ (begin.behind ++ more)) total
+-- rows that begin with a header's, with the signature, the length and the checksum, begin with that header's rows
+pub framed_begin : (signature : List ℕ) (rows more : List Row) (total : ℕ) (begin : BeginWithHeader rows)
+    → framed signature total rows ++ more ≡ header_rows signature total begin.head ++ (begin.behind ++ more)
+framed_begin signature rows more total begin = ap (λ those. framed signature total those ++ more) begin.are
+
+-- and where the length is that of all rows, they are those of a table
+pub framed_are : (signature : List ℕ) (rows more : List Row) (total : ℕ) (begin : BeginWithHeader rows) → total ≡ size rows + size more
+    → framed signature total rows ++ more ≡ table_rows signature begin.head (begin.behind ++ more)
+framed_are signature rows more total begin total_is =
+    let length_is : total ≡ 36 + size (begin.behind ++ more) = omega (arith, total_is, ap size begin.are, size-append begin.behind more) in
+    framed_begin signature rows more total begin ∙ ap (λ n. header_rows signature n begin.head ++ (begin.behind ++ more)) length_is
 
 -- the rows of a list in which they were set one after the other
 pub framed_by_sets : (before one two three : Gathered) (signature bytes : List ℕ) (total n m : ℕ) → one ≡ with_row 0 (Bytes 4 bytes) before
@@ -53,12 +61,12 @@ framed_by_sets before one two three signature bytes total n m first second third
     ∙ ap (λ k. (with_row 3 (Sum k) (with_row 1 (Number 4 total) (with_row 0 (Bytes 4 signature) before))).rows) sum_is
 
 -- so they can be appended, with others behind them
-pub framed_fit : (signature : List ℕ) (rows more these : List Row) (begin : BeginWithHeader rows)
-    → these ≡ framed signature (size rows + size more) rows → AllByRecursion IsRow these → AllByRecursion IsRow more
+pub framed_fit : (signature : List ℕ) (rows more these : List Row) (total : ℕ) (begin : BeginWithHeader rows) → total ≡ size rows + size more
+    → these ≡ framed signature total rows → AllByRecursion IsRow these → AllByRecursion IsRow more
     → AllByRecursion IsUnsummed (drop 9 rows ++ more) → AreRows (these ++ more)
-framed_fit signature rows more these begin are each fit no_sum =
+framed_fit signature rows more these total begin total_is are each fit no_sum =
     let behind : List Row = begin.behind ++ more in
-    let whole : these ++ more ≡ table_rows signature begin.head behind = ap (λ r. r ++ more) are ∙ framed_are signature rows more begin in
+    let whole : these ++ more ≡ table_rows signature begin.head behind = ap (λ r. r ++ more) are ∙ framed_are signature rows more total begin total_is in
     let body : drop 9 rows ++ more ≡ behind = ap (λ r. drop 9 r ++ more) begin.are in
     subst AreRows (sym whole)
     (are_table_rows signature begin.head behind (subst (AllByRecursion IsRow) whole (each_append IsRow these more each fit))
@@ -72,18 +80,35 @@ unsummed_row row is = tt
 pub body_unsummed : (rows : List Row) → AllByRecursion IsBodyRow rows → AllByRecursion IsUnsummed rows
 body_unsummed rows are = each_weaker IsBodyRow IsUnsummed unsummed_row rows are
 
--- the rows of a layout begin with those of its header
-abbrev pub layout_begins : (l : TableLayout) (rows : List Row) → rows ≡ record_rows l → BeginWithHeader rows
-layout_begins l rows are = record { head = l.head; behind = rows_behind l; are = are }
+-- behind its header a table has the rows that are put as rows, and those that are put as bytes
+pub all_rows : (table : Table) → front_body table ++ rows_as_bytes table ≡ rows_behind (layout_of table)
+all_rows (Slit t) = refl
+all_rows (Fadt t links) = refl
+all_rows (Madt t) = refl
+all_rows (Srat t) = refl
+all_rows (Hpet t) = refl
 
-pub layout_framed : (l : TableLayout) (rows : List Row) (signature : List ℕ) → rows ≡ record_rows l → signature ≡ l.kind.signature
-    → framed signature (size rows + size []) rows ++ [] ≡ layout_rows l
-layout_framed l rows signature are its_signature =
-    framed_are signature rows [] (layout_begins l rows are) ∙ ap (table_rows signature l.head) (append-nil (rows_behind l))
-    ∙ ap (λ s. table_rows s l.head (rows_behind l)) its_signature
+-- the former begin with those of its header
+abbrev pub table_begins : (table : Table) (rows : List Row) → rows ≡ front_rows table → BeginWithHeader rows
+table_begins table rows are = record { head = (layout_of table).head; behind = front_body table; are = are }
+
+-- with the latter behind them, which bytes spell, they are all of its rows
+pub table_framed : (table : Table) (rows : List Row) (signature bytes : List ℕ) → rows ≡ front_rows table → signature ≡ signature_of table
+    → Spells (rows_as_bytes table) bytes
+    → framed signature (size rows + size [] + length bytes) rows ++ [] ++ rows_as_bytes table ≡ rows_of table
+table_framed table rows signature bytes are its_signature spells =
+    let more : List Row = rows_as_bytes table in
+    let head : Head = (layout_of table).head in
+    let total : ℕ = size rows + size [] + length bytes in
+    let total_is : total ≡ size rows + size more = omega (arith, size_spelled more bytes spells) in
+    ap (λ all. all ++ more) (append-nil (framed signature total rows))
+    ∙ framed_are signature rows more total (table_begins table rows are) total_is ∙ ap (table_rows signature head) (all_rows table)
+    ∙ ap (λ s. table_rows s head (rows_behind (layout_of table))) its_signature
 
 -- and so do those of an XSDT's header, with its entries behind them
 pub xsdt_framed : (head : Head) (rows more entries : List Row) → rows ≡ field_rows (head_fields head) → more ≡ entries
-    → framed (codes "XSDT") (size rows + size more) rows ++ more ≡ xsdt_rows head entries
+    → framed (codes "XSDT") (size rows + size more + 0) rows ++ more ++ [] ≡ xsdt_rows head entries
 xsdt_framed head rows more entries are entries_are =
-    framed_are (codes "XSDT") rows more (record { head = head; behind = []; are = are }) ∙ ap (xsdt_rows head) entries_are
+    let total : ℕ = size rows + size more + 0 in
+    append-nil (framed (codes "XSDT") total rows ++ more)
+    ∙ framed_are (codes "XSDT") rows more total (record { head = head; behind = []; are = are }) (omega arith) ∙ ap (xsdt_rows head) entries_are

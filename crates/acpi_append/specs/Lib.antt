@@ -1,4 +1,6 @@
 pub mod Tables
+pub mod FacsPut
+pub mod EntryPut
 pub use Rattle.vt_outside.specs.Name
 pub use Rattle.vt_bytes.specs.View
 pub use Rattle.vt_layout.specs.Shown

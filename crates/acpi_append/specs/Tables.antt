@@ -1,5 +1,5 @@
 -- Files of ACPI tables with one table more (ACPI 6.5, 5.2). Each begins at a multiple of 16.
-use Rattle.std.specs.Prelude.{◌≡◌, ℕ, ◌+◌, List, ◌++◌, map}
+use Rattle.std.specs.Prelude.{◌≡◌, ℕ, ◌+◌, List, [], ◌∷◌, ◌++◌, map}
 use Rattle.std.specs.List.{AllByRecursion}
 use Rattle.vt_bytes.specs.View.{View}
 use Rattle.vt_layout.specs.declared.row.Row.{Row}
@@ -7,15 +7,19 @@ use Rattle.vt_layout.specs.declared.row.Row.TheVariants.{Number, Pointer}
 use Rattle.vt_layout.specs.Rows.{IsRow}
 use Rattle.vt_layout.specs.Shown.{LayoutShown}
 use Rattle.vt_layout.specs.Fields.{field_rows}
-use Rattle.acpi_model.specs.declared.header.Head.{Head}
+use Rattle.vt_layout.specs.Entries.{entries_rows}
+use Rattle.acpi_records.specs.declared.header.Head.{Head}
 use Rattle.acpi_model.specs.declared.acpi.Table.{Table}
-use Rattle.acpi_model.specs.Header.{head_fields}
+use Rattle.acpi_model.specs.declared.acpi.Table.TheVariants.{Slit}
+use Rattle.acpi_model.specs.Header.{head_fields, body_rows}
+use Rattle.acpi_model.specs.Slit.{slit_front_fields, slit_front_of, distances_row}
 use Rattle.acpi_model.specs.Kinds.{tables_name}
-use Rattle.acpi_model.specs.Acpi.{rows_of, linked_table, IsAt}
+use Rattle.acpi_model.specs.Acpi.{layout_of, rows_of, linked_table, IsAt}
 use Rattle.acpi_model.specs.Xsdt.{IsXsdt, xsdt_rows, given}
 use Rattle.acpi_model.specs.Rsdp.{rsdp_rows}
 use Rattle.blob_holes.specs.Blob.{BlobState, next_place, aligned}
 use Rattle.blob_holes.specs.Rows.{with_rows}
+use Rattle.blob_holes.specs.Plain.{Spells}
 use Rattle.blob_holes.specs.Held.{WhereHeld}
 use Rattle.blob_holes.specs.Appended.{IsAppended}
 
@@ -24,6 +28,20 @@ pub record BeginWithHeader (rows : List Row) : Type 0 where
   pub head : Head
   pub behind : List Row
   pub are : rows ≡ field_rows (head_fields head) ++ behind
+
+-- The rows behind the header of a table that are put as rows, and those behind them that are put as the bytes which they spell, since
+-- they may be many or long: the distances of a SLIT, and the entries of any other table.
+abbrev pub front_body : Table → List Row
+front_body (Slit t) = body_rows (slit_front_fields (slit_front_of t))
+front_body table = (layout_of table).body
+
+abbrev pub rows_as_bytes : Table → List Row
+rows_as_bytes (Slit t) = distances_row t.distances ∷ []
+rows_as_bytes table = entries_rows (layout_of table).entries
+
+-- all that are put as rows, with zeros for the signature, the length and the checksum
+abbrev pub front_rows : Table → List Row
+front_rows table = field_rows (head_fields (layout_of table).head) ++ front_body table
 
 -- the address of a table that stands at an offset of that file
 abbrev pub table_pointer : ℕ → Row
@@ -47,6 +65,10 @@ with_rsdp blob oem_id xsdt = with_rows (aligned 16 blob) (rsdp_rows oem_id (tabl
 pub record AreRowsPut (before after : BlobState) (rows : List Row) : Type 0 where
   pub fit : AllByRecursion IsRow rows
   pub appended : IsAppended 16 before after rows
+
+-- and bytes behind them, whatever plain rows spell those
+abbrev pub AreRowsPutWith : BlobState → BlobState → List Row → List ℕ → Type 0
+AreRowsPutWith before after rows bytes = (more : List Row) → Spells more bytes → AreRowsPut before after (rows ++ more)
 
 -- The rows of a table were appended at the next multiple of 16, and wherever a view then holds the file with its holes filled, this
 -- is shown at their address.

@@ -3,16 +3,19 @@
 ghost use Rattle.std.specs.Prelude.{ℕ, ◌+◌, ◌<◌, ◌^◌, List, map};
 ghost use Rattle.std.specs.List.{AllByRecursion};
 ghost use Rattle.vt_layout.specs.Rows.{size};
-ghost use Rattle.acpi_model.specs.declared.header.Head.{Head};
+ghost use Rattle.acpi_records.specs.declared.header.Head.{Head};
 ghost use Rattle.acpi_model.specs.declared.acpi.Table.{Table};
 ghost use Rattle.acpi_model.specs.Xsdt.{xsdt_rows};
 ghost use Rattle.acpi_model.specs.Rsdp.{rsdp_rows};
 ghost use Rattle.acpi_model.specs.Acpi.{IsWritable, rows_of};
 ghost use Rattle.blob_holes.specs.Blob.{BlobState, IsBlob, next_place};
 ghost use Rattle.blob_holes.specs.Rows.{AreRows};
+ghost use Rattle.acpi_records.specs.declared.facs.Facs.{Facs};
+ghost use Rattle.acpi_records.specs.Facs.{facs_rows};
+ghost use Rattle.acpi_append.specs.FacsPut.{with_facs, IsFacsPut};
 ghost use Rattle.acpi_append.specs.Tables.{Leads, table_pointer, with_table, with_xsdt, with_rsdp, IsTablePut, IsXsdtPut, IsRsdpPut};
 
-/// States that a file with a table at its end, with an XSDT or with an RSDP, is as the call says that appends it.
+/// States that a file with a table at its end, with an XSDT, with an RSDP or with a FACS, is as the call says that appends it.
 pub fn tables_at_its_end_are_put()
     ensures table { (file : BlobState) → IsBlob file → (table : Table) → IsWritable table → AreRows (rows_of table)
         → next_place 16 file + size (rows_of table) < 2 ^ 32 → IsTablePut file (with_table file table) table }
@@ -22,6 +25,8 @@ pub fn tables_at_its_end_are_put()
     ensures rsdp { (file : BlobState) → IsBlob file → (oem_id : List ℕ) (xsdt : ℕ) → AreRows (rsdp_rows oem_id (table_pointer xsdt))
         → next_place 16 file + size (rsdp_rows oem_id (table_pointer xsdt)) < 2 ^ 32
         → IsRsdpPut file (with_rsdp file oem_id xsdt) oem_id xsdt }
+    ensures facs { (file : BlobState) → IsBlob file → (facs : Facs) → AreRows (facs_rows facs) → next_place 16 file + 64 < 2 ^ 32
+        → IsFacsPut file (with_facs file facs) facs }
 {}
 
 /// States that the rows of a table that can be written, of an XSDT and of an RSDP lead to the file of the tables, where they lead to a

@@ -16,6 +16,12 @@ pub fn put_rsdp(blob: &mut Blob, oem_id: &[u8; 6], xsdt: u32) -> Result<(), OutO
     // holes filled, the RSDP stands at its place as it was written, and a reader finds the XSDT's address there.
     ensures { OnOk result (IsRsdpPut blob.old blob.new oem_id.now xsdt) }
 {
-    append_layout(blob, ALIGN, &rsdp_rows(oem_id, table_pointer(xsdt)), &[])?;
+    append_layout(
+        blob,
+        ALIGN,
+        &rsdp_rows(oem_id, table_pointer(xsdt)),
+        &[],
+        &[],
+    )?;
     Ok(())
 }

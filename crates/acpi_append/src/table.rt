@@ -2,17 +2,22 @@ ghost use Rattle.std.specs.Prelude.{◌≡◌, ◌+◌, ◌++◌, ◌<◌, ◌�
 ghost use Rattle.std.specs.List.{AllByRecursion};
 ghost use Rattle.vt_layout.specs.Rows.{IsRow, size};
 ghost use Rattle.acpi_model.specs.Header.{framed};
-ghost use Rattle.acpi_model.specs.Acpi.{layout_of, signature_of, IsWritable};
+ghost use Rattle.acpi_model.specs.Acpi.{signature_of, IsWritable};
 ghost use Rattle.blob_holes.specs.Blob.{next_place};
 ghost use Rattle.blob_holes.specs.Rows.{IsUnsummed};
-ghost use Rattle.acpi_model.specs.Kinds.{record_rows, tables_name};
-ghost use Rattle.acpi_append.specs.Tables.{BeginWithHeader, AreRowsPut, IsTablePut, table_pointer};
+ghost use Rattle.blob_holes.specs.Plain.{Spells};
+ghost use Rattle.acpi_model.specs.Kinds.{tables_name};
+ghost use Rattle.acpi_append.specs.Tables.{BeginWithHeader, AreRowsPutWith, IsTablePut, front_rows, rows_as_bytes, table_pointer};
 
+use crate::fadt::fadt_rows;
+use crate::madt::{madt_bytes, madt_rows};
+use crate::slit::slit_rows;
+use crate::srat::{srat_bytes, srat_rows};
 use acpi_model::Table;
 use blob_holes::{Blob, append_layout};
 use std::alloc::Global;
 use vt_layout::{Row, RowList, ShortBytes, rows_of, size_of};
-use vt_outside::{Name, OutOfMemory};
+use vt_outside::{Bytes, Name, OutOfMemory};
 
 /// The name of the file of fw_cfg that holds the tables. The pointers to them have its place added.
 pub const TABLES_FILE: &str = "etc/acpi/tables";
@@ -21,8 +26,10 @@ pub const TABLES_FILE: &str = "etc/acpi/tables";
 pub(crate) const ALIGN: u32 = 16;
 
 /// Appends `table` to `blob` at the next multiple of 16, and returns its offset in bytes. `table` is one that can be written: each
-/// of its entries is of a known type, each of its lists is as long as the table says, and it has at most 64 KiB behind its header. An
-/// HPET table always is. `blob` has less than 2 GiB before. Returns `OutOfMemory` when memory runs out; what `blob` then holds is unspecified.
+/// of its entries is of a known type, each of its lists is as long as the table says, its pointers fit their rows wherever their file is
+/// placed, and it has at most 16 MiB behind its header. An HPET table always is; a SLIT is where it tells of at most 1,024 nodes and has a
+/// distance for each two of them. `blob` has less than 2 GiB before. Returns `OutOfMemory` when memory runs out; what `blob` then holds is
+/// unspecified.
 pub fn put_table(blob: &mut Blob, table: &Table) -> Result<u32, OutOfMemory>
     requires writable { IsWritable table.now }
     requires short { length blob.old.bytes < 2 ^ 31 }
@@ -34,16 +41,42 @@ pub fn put_table(blob: &mut Blob, table: &Table) -> Result<u32, OutOfMemory>
     // holes filled, the table stands at its place.
     ensures put { OnOk result (IsTablePut blob.old blob.new table.now) }
 {
+    let bytes = known_bytes(blob.alloc(), table)?;
     let mut rows = known_rows(blob.alloc(), table)?;
-    append_table(blob, known_signature(table), &mut rows, &[])
+    append_table(
+        blob,
+        known_signature(table),
+        &mut rows,
+        &[],
+        bytes.as_slice(),
+    )
 }
 
-// The rows of a table, with zeros for its signature, its length and its checksum.
+// The rows of a table before its entries, or before its distances, with zeros for its signature, its length and its checksum.
 fn known_rows<'a>(alloc: Global, table: &'a Table) -> Result<RowList<'a>, OutOfMemory>
-    ensures { IfOk result (λ list. list.rows ≡ record_rows (layout_of table.now)) }
+    requires { IsWritable table.now }
+    ensures { IfOk result (λ list. list.rows ≡ front_rows table.now) }
 {
     match table {
+        Table::Fadt(table, links) => fadt_rows(alloc, table, links),
+        Table::Madt(table) => madt_rows(alloc, table),
+        Table::Srat(table) => srat_rows(alloc, table),
+        Table::Slit(table) => slit_rows(alloc, table),
         Table::Hpet(table) => rows_of(alloc, table),
+    }
+}
+
+// The entries or the distances of a table as bytes, since rows of thousands of entries would take much memory.
+fn known_bytes(alloc: Global, table: &Table) -> Result<Bytes, OutOfMemory>
+    requires { IsWritable table.now }
+    ensures { IfOk result (λ bytes. Spells (rows_as_bytes table.now) bytes) }
+{
+    match table {
+        Table::Fadt(..) => Ok(Bytes::new(alloc)),
+        Table::Madt(table) => madt_bytes(alloc, table),
+        Table::Srat(table) => srat_bytes(alloc, table),
+        Table::Slit(table) => table.distances.copy(),
+        Table::Hpet(_) => Ok(Bytes::new(alloc)),
     }
 }
 
@@ -51,34 +84,39 @@ fn known_signature(table: &Table) -> &'static [u8; 4]
     ensures { result.now ≡ signature_of table.now }
 {
     match table {
+        Table::Fadt(..) => b"FACP",
+        Table::Madt(_) => b"APIC",
+        Table::Srat(_) => b"SRAT",
+        Table::Slit(_) => b"SLIT",
         Table::Hpet(_) => b"HPET",
     }
 }
 
-/// Appends the table with `signature` that has the rows `rows`, which begin with those of a header, and `more` behind them, at the next
-/// multiple of 16, and returns its offset in bytes. Its signature, its length and its checksum are put into `rows`. All rows are at most
-/// 2^25 bytes, and there is no checksum behind the header. `blob` has less than 2 GiB before. Returns `OutOfMemory` when memory runs out;
-/// what `blob` then holds is unspecified.
+/// Appends the table with `signature` that has the rows `rows`, which begin with those of a header, the rows `more` behind them and the
+/// bytes `plain` behind those, at the next multiple of 16, and returns its offset in bytes. Its signature, its length and its checksum are
+/// put into `rows`. All is at most 2^25 bytes, and there is no checksum behind the header. `blob` has less than 2 GiB before. Returns
+/// `OutOfMemory` when memory runs out; what `blob` then holds is unspecified.
 pub(crate) fn append_table(
     blob: &mut Blob,
     signature: &[u8; 4],
     rows: &mut RowList,
     more: &[Row],
+    plain: &[u8],
 ) -> Result<u32, OutOfMemory>
     requires header { BeginWithHeader rows.old.rows }
     requires more { AllByRecursion IsRow more.now }
     requires no_sum { AllByRecursion IsUnsummed (drop 9 rows.old.rows ++ more.now) }
     requires short { length blob.old.bytes < 2 ^ 31 }
-    requires few { size rows.old.rows + size more.now ≤ 2 ^ 25 }
+    requires few { size rows.old.rows + size more.now + length plain.now ≤ 2 ^ 25 }
     ensures place { IfOk result (λ place. place ≡ next_place 16 blob.old) }
-    ensures put { OnOk result (AreRowsPut blob.old blob.new
-        (framed signature.now (size rows.old.rows + size more.now) rows.old.rows ++ more.now)) }
+    ensures put { OnOk result (AreRowsPutWith blob.old blob.new
+        (framed signature.now (size rows.old.rows + size more.now + length plain.now) rows.old.rows ++ more.now) plain.now) }
 {
-    let total = size_of(rows.rows()) + size_of(more);
+    let total = size_of(rows.rows()) + size_of(more) + plain.len() as u32;
     rows.set(0, Row::Bytes(4, ShortBytes::of(signature)));
     rows.set(1, Row::Number(4, u64::from(total)));
     rows.set(3, Row::Sum(total));
-    append_layout(blob, ALIGN, rows.rows(), more)
+    append_layout(blob, ALIGN, rows.rows(), more, plain)
 }
 
 /// Returns the row, 8 bytes wide, of the address of the table at `offset` in the file `TABLES_FILE`, in bytes.
@@ -89,7 +127,7 @@ pub(crate) fn table_pointer(offset: u32) -> Row
     Row::Pointer(8, tables_name(), offset)
 }
 
-fn tables_name() -> Name
+pub(crate) fn tables_name() -> Name
     ensures { result ≡ tables_name }
 {
     Name::of(TABLES_FILE).unwrap()

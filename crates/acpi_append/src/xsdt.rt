@@ -26,7 +26,7 @@ pub fn put_xsdt(blob: &mut Blob, head: &Head, tables: &[u32]) -> Result<u32, Out
 {
     let entries = entries_of(blob.alloc(), tables)?;
     let mut rows = rows_of(blob.alloc(), head)?;
-    append_table(blob, b"XSDT", &mut rows, entries.as_slice())
+    append_table(blob, b"XSDT", &mut rows, entries.as_slice(), &[])
 }
 
 // The entries of tables that stand at these offsets of their file.

@@ -1,6 +1,6 @@
 ghost use Rattle.std.specs.Prelude.{◌≡◌, ◌<◌, ◌^◌, length, IfOk, OnOk, IsSome, IsSomeAnd};
 ghost use Rattle.machine_desc.specs.Rules.{IsAccepted};
-ghost use Rattle.acpi_model.specs.Hpet.{hpet_of};
+ghost use Rattle.acpi_records.specs.Hpet.{hpet_of};
 ghost use Rattle.acpi_model.specs.declared.acpi.Table.TheVariants.{Hpet};
 ghost use Rattle.blob_holes.specs.Blob.{next_place};
 ghost use Rattle.acpi_append.specs.Tables.{IsTablePut};

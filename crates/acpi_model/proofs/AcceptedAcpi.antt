@@ -1,13 +1,17 @@
 -- What the rules say of an accepted machine's ACPI tables.
-use Rattle.std.proofs.Common.{◌≡◌, ℕ, ◌≤◌, Bool, true, false, List, Option, Some, None, IsSome, is_some, ◌||◌, nat_le, length, not}
+use Rattle.std.proofs.Common.{◌≡◌, ℕ, ◌≤◌, ◌%◌, ◌==◌, Bool, true, false, List, [], ◌∷◌, get_or, is_some, Option, Some, None, IsSome, IfSome, ◌&&◌, nat_le, length, not}
 use Rattle.std.proofs.Common.{if◌then◌else◌, refl, ap, sym, ◌∙◌}
 use Rattle.std.proofs.lemmas.Bool.{and_parts, leb-true}
+use Rattle.std.specs.Option.{option_map_or}
 use Rattle.machine_desc.specs.declared.machine.Machine.{Machine}
 use Rattle.machine_desc.specs.declared.machine.Acpi.{Acpi}
-use Rattle.machine_desc.specs.declared.machine.Hpet.{Hpet}
-use Rattle.machine_desc.specs.Rules.{ends_in_space, is_padded_text, only_at, breach_of_acpi, breach_of, breaches, IsAccepted}
-use Rattle.machine_desc.proofs.Kept.{each_is_kept}
-use Rattle.acpi_model.specs.Header.{FitsHead}
+use Rattle.machine_desc.specs.declared.acpi_parts.Power.{Power}
+use Rattle.machine_desc.specs.Rules.{ends_in_space, is_padded_text, only_at, breach_of_acpi, is_empty, is_met, lists_on_apic, IsAccepted}
+use Rattle.machine_desc.specs.Rules.{has_ports, has_lawful_gpe, has_lawful_reset, is_lawful_power}
+use Rattle.machine_desc.specs.Fields.{IsFittingPower, HasFittingFields}
+use Rattle.machine_desc.proofs.Accepted.{kept, holds_where_kept, each_kept}
+use Rattle.machine_desc.proofs.Passing.{passing_at}
+use Rattle.acpi_records.specs.Header.{FitsHead}
 
 -- both identifiers can be padded to their fields
 pub record ArePadded (acpi : Acpi) : Type 0 where
@@ -22,8 +26,8 @@ both_hold false second is = absurd (cc)
 -- an accepted machine's identifiers can be padded
 pub accepted_padded : (m : Machine) (acpi : Acpi) → IsAccepted m → m.acpi ≡ Some acpi → ArePadded acpi
 accepted_padded m acpi accepted is =
-    let kept : breach_of 16 m ≡ None = each_is_kept 16 (breaches m) accepted in
-    let both = both_hold (is_padded_text 6 acpi.oem_id) (is_padded_text 8 acpi.oem_table_id) (sym (ap breach_of_acpi is) ∙ kept) in
+    let is_kept = kept m accepted 16 in
+    let both = both_hold (is_padded_text 6 acpi.oem_id) (is_padded_text 8 acpi.oem_table_id) (sym (ap breach_of_acpi is) ∙ is_kept) in
     record { oem_id = both.0; oem_table_id = both.1 }
 
 short : (size : ℕ) (text : List ℕ) → is_padded_text size text ≡ true → length text ≤ size
@@ -36,25 +40,60 @@ accepted_fits m acpi accepted is =
     let padded = accepted_padded m acpi accepted is in
     record { oem_id = short 6 acpi.oem_id padded.oem_id; oem_table_id = short 8 acpi.oem_table_id padded.oem_table_id }
 
--- where the rule that an HPET needs ACPI tables isn't broken
-has_acpi_where_kept : (hpet : Option Hpet) (acpi : Option Acpi) → only_at 1 (not (is_some hpet) || is_some acpi) ≡ None → IsSome hpet → IsSome acpi
-has_acpi_where_kept None acpi kept wanted = absurd (cc)
-has_acpi_where_kept (Some h) None kept wanted = absurd (cc)
-has_acpi_where_kept (Some h) (Some a) kept wanted = refl
-
--- so an accepted machine with an HPET has ACPI tables
-pub has_acpi : (m : Machine) → IsAccepted m → IsSome m.hpet → IsSome m.acpi
-has_acpi m accepted = has_acpi_where_kept m.hpet m.acpi (each_is_kept 13 (breaches m) accepted)
+-- a part that isn't there is none
+pub absent : {A : Type 0} (part : Option A) → (IsSome part → ⊥) → part ≡ None
+absent None none = refl
+absent (Some a) none = absurd (none refl)
 
 -- a part that is there isn't none
 pub not_none : {A : Type 0} (part : Option A) → part ≡ None → IsSome part → ⊥
 not_none None none some = cc
 not_none (Some a) none some = cc
 
--- and one without ACPI tables has no HPET
-pub no_hpet : (m : Machine) → IsAccepted m → m.acpi ≡ None → m.hpet ≡ None
-no_hpet m accepted none = without m.hpet (λ some. not_none m.acpi none (has_acpi m accepted some))
-  where
-    without : (part : Option Hpet) → (IsSome part → ⊥) → part ≡ None
-    without None absent = refl
-    without (Some hpet) absent = absurd (absent refl)
+-- An accepted machine without ACPI tables has no part that needs them.
+pub no_part : {A : Type 0} (m : Machine) (part : Option A) → (IsSome part → IsSome m.acpi) → m.acpi ≡ None → part ≡ None
+no_part m part needs none = absent part (λ some. not_none m.acpi none (needs some))
+
+-- the rules hold of a part that isn't there only where nothing needs it
+no_elements : {A B : Type 0} (part : Option A) (list : List B) → part ≡ None → is_met (is_some part) (not (is_empty list)) ≡ true → list ≡ []
+no_elements part [] none met = refl
+no_elements part (b ∷ list) none met =
+    let there : is_some part ≡ true = met in
+    absurd (cc (there, none))
+
+-- An accepted machine without interrupt controllers has none of the lists that need them; the list is that of an index of the rule.
+pub no_list : {B : Type 0} (m : Machine) (list : List B) (index : ℕ) → IsAccepted m → m.apic ≡ None
+    → get_or (lists_on_apic m) index false ≡ not (is_empty list) → list ≡ []
+no_list m list index accepted none is =
+    let all = each_kept m accepted 15 (is_met (is_some m.apic)) (lists_on_apic m) refl in
+    let at : is_met (is_some m.apic) (get_or (lists_on_apic m) index false) ≡ true =
+    passing_at (is_met (is_some m.apic)) (lists_on_apic m) index false all refl in
+    no_elements m.apic list none (ap (is_met (is_some m.apic)) (sym is) ∙ at)
+
+lawful_at : (part : Option Power) → option_map_or is_lawful_power part true ≡ true → IfSome part (λ power. is_lawful_power power ≡ true)
+lawful_at None lawful = tt
+lawful_at (Some power) lawful = lawful
+
+-- its block of general-purpose events has at most 30 bytes
+pub few_events : (power : Power) → is_lawful_power power ≡ true → power.gpe_len ≤ 30
+few_events power lawful =
+    let outer = and_parts (has_ports power && has_lawful_gpe power) (has_lawful_reset power) lawful in
+    let inner = and_parts (has_ports power) (has_lawful_gpe power) outer.0 in
+    let both = and_parts ((power.gpe_len % 2 == 0) && nat_le power.gpe_len 30) (if power.gpe_len == 0 then power.gpe == 0 else not (power.gpe == 0)) inner.1 in
+    leb-true power.gpe_len 30 (and_parts (power.gpe_len % 2 == 0) (nat_le power.gpe_len 30) both.0).1
+
+few_at : (part : Option Power) → IfSome part (λ power. is_lawful_power power ≡ true) → IfSome part (λ power. power.gpe_len ≤ 30)
+few_at None lawful = tt
+few_at (Some power) lawful = few_events power lawful
+
+pub accepted_events : (m : Machine) → IsAccepted m → IfSome m.power (λ power. power.gpe_len ≤ 30)
+accepted_events m accepted =
+    few_at m.power (lawful_at m.power (holds_where_kept 0 (option_map_or is_lawful_power m.power true) (kept m accepted 17)))
+
+joined : {A : Type 0} (P Q : A → Type 0) (part : Option A) → IfSome part P → IfSome part Q → IfSome part (λ a. P a × Q a)
+joined P Q None p q = tt
+joined P Q (Some a) p q = (p, q)
+
+-- what is known of the power of an accepted machine whose numbers fit their fields
+pub fits_power : (m : Machine) → HasFittingFields m → IsAccepted m → IfSome m.power (λ power. IsFittingPower power × (power.gpe_len ≤ 30))
+fits_power m fit accepted = joined IsFittingPower (λ power. power.gpe_len ≤ 30) m.power fit.power (accepted_events m accepted)

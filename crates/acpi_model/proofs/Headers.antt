@@ -4,8 +4,8 @@ use Rattle.std.proofs.lemmas.List.{length-replicate}
 use Rattle.std.specs.List.{AllByRecursion}
 use Rattle.vt_layout.specs.Rows.{IsRow}
 use Rattle.machine_desc.specs.declared.machine.Acpi.{Acpi}
-use Rattle.acpi_model.specs.declared.header.Head.{Head}
-use Rattle.acpi_model.specs.Header.{header_rows, IsFittingHead, FitsHead, padded, head_of}
+use Rattle.acpi_records.specs.declared.header.Head.{Head}
+use Rattle.acpi_records.specs.Header.{header_rows, IsFittingHead, FitsHead, padded, head_of}
 
 -- a padded text fills its field
 pub length-padded : (count : ℕ) (text : List ℕ) → length text ≤ count → length (padded count text) ≡ count

@@ -10,9 +10,9 @@ use Rattle.vt_layout.specs.Entries.{Entry, Types, entries_rows, linked_entries}
 use Rattle.vt_layout.proofs.Sizes.{size-append}
 use Rattle.vt_layout.proofs.Shows.{size-linked, shown_rows, shown_front, held_back, linked-append}
 use Rattle.vt_layout.proofs.Entries.{shown_entries}
-use Rattle.acpi_model.specs.declared.header.Head.{Head}
+use Rattle.acpi_records.specs.declared.header.Head.{Head}
 use Rattle.acpi_model.specs.declared.acpi.Table.{Table}
-use Rattle.acpi_model.specs.Header.{header_rows, table_rows}
+use Rattle.acpi_records.specs.Header.{header_rows, table_rows}
 use Rattle.acpi_model.specs.Kinds.{TableLayout, EndsWith, IsLayoutAt, AreOfTypes, IsLawful, layout_rows, linked_layout}
 use Rattle.acpi_model.specs.Acpi.{layout_of, IsWritable, rows_of, linked_table, IsAt}
 use Rattle.acpi_model.proofs.Known.{is_listed}
@@ -65,6 +65,6 @@ pub held_table : (view : View) (place_of : List ℕ → ℕ) (address : ℕ) (ta
 held_table view place_of address table writable are held = record {
   layout = linked_layout place_of (layout_of table);
   known = is_listed table;
-  stands = held_layout view place_of address (layout_of table) writable are held;
+  stands = held_layout view place_of address (layout_of table) writable.lawful are held;
   says = refl;
 }

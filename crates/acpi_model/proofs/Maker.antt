@@ -5,7 +5,7 @@ use Rattle.std.proofs.lemmas.Bool.{and_parts, not-true}
 use Rattle.std.specs.Option.{option_map_or}
 use Rattle.machine_desc.specs.declared.machine.Acpi.{Acpi}
 use Rattle.machine_desc.specs.Rules.{ends_in_space, is_padded_text}
-use Rattle.acpi_model.specs.Header.{padded, head_of}
+use Rattle.acpi_records.specs.Header.{padded, head_of}
 use Rattle.acpi_model.specs.Maker.{in_front, unpadded, acpi_in}
 
 -- the last byte of a longer text

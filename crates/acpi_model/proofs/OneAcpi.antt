@@ -2,16 +2,18 @@
 use Rattle.std.proofs.Common.{◌≡◌, ℕ, List, [], ◌∷◌, inl, inr, refl, ap, sym, ◌∙◌, subst}
 use Rattle.vt_bytes.specs.View.{View}
 use Rattle.vt_bytes.proofs.AtMostOne.{IsOne, one_least}
-use Rattle.acpi_model.specs.declared.header.Head.{Head}
+use Rattle.acpi_records.specs.declared.header.Head.{Head}
 use Rattle.acpi_model.specs.declared.acpi.OtherTable.{OtherTable}
 use Rattle.acpi_model.specs.declared.acpi.Table.{Table}
-use Rattle.acpi_model.specs.Acpi.{IsAt, IsOther, Walks, AreAt, gathered, ShowsAcpi}
+use Rattle.acpi_model.specs.Found.{LeadTo}
+use Rattle.acpi_model.specs.Acpi.{IsAt, IsOther, Walks, AreAt, first_links, gathered, ShowsAcpi}
 use Rattle.acpi_model.specs.Xsdt.{IsXsdt}
 use Rattle.acpi_model.specs.Rsdp.{IsRsdp, HasRsdp}
 use Rattle.acpi_model.proofs.OneTable.{one_table}
 use Rattle.acpi_model.proofs.OneLayout.{one_at}
 use Rattle.acpi_model.proofs.Xsdt.{one_xsdt}
 use Rattle.acpi_model.proofs.OneRsdp.{one_rsdp}
+use Rattle.acpi_model.proofs.OneTarget.{one_target}
 
 -- the table of another signature that stands at an address
 other_from : List ℕ → ℕ → OtherTable
@@ -76,5 +78,11 @@ one_acpi view s t is also =
     let same =
     one_walk view also.addresses is.tables also.tables s.others t.others
     (subst (λ addresses. Walks view addresses is.tables s.others) listed.1 is.named) also.named in
-    is.told ∙ ap (λ id. gathered id s.xsdt is.tables s.others) root.0 ∙ ap (λ (h : Head). gathered t.oem_id h is.tables s.others) listed.0
-    ∙ ap (λ tables. gathered t.oem_id t.xsdt tables s.others) same.known ∙ ap (gathered t.oem_id t.xsdt also.tables) same.unknown ∙ sym also.told
+    let targets =
+    one_target view (first_links also.tables) is.targets also.targets (subst (λ tables. LeadTo view (first_links tables) is.targets) same.known is.lead)
+    also.lead in
+    is.told ∙ ap (λ id. gathered id s.xsdt is.tables is.targets s.others) root.0
+    ∙ ap (λ (h : Head). gathered t.oem_id h is.tables is.targets s.others) listed.0
+    ∙ ap (λ tables. gathered t.oem_id t.xsdt tables is.targets s.others) same.known
+    ∙ ap (λ targets. gathered t.oem_id t.xsdt also.tables targets s.others) targets
+    ∙ ap (gathered t.oem_id t.xsdt also.tables also.targets) same.unknown ∙ sym also.told

@@ -3,10 +3,10 @@ use Rattle.std.proofs.Common.{◌≡◌, ℕ, ◌+◌, ◌-◌, List, Option, So
 use Rattle.vt_bytes.specs.View.{View}
 use Rattle.vt_bytes.proofs.AtMostOne.{IsOne}
 use Rattle.vt_layout.specs.declared.row.Row.{Row}
-use Rattle.vt_layout.specs.Rows.{size}
+use Rattle.vt_layout.specs.Rows.{size, shape}
 use Rattle.vt_layout.specs.Entries.{Entry, Types}
 use Rattle.vt_layout.proofs.Entries.{same_entries}
-use Rattle.acpi_model.specs.declared.header.Head.{Head}
+use Rattle.acpi_records.specs.declared.header.Head.{Head}
 use Rattle.acpi_model.specs.Kinds.{Kind, TableLayout, EndsWith, IsLayoutAt, table_of}
 use Rattle.acpi_model.specs.Acpi.{kind_of, IsAt}
 use Rattle.acpi_model.proofs.OneTable.{one_table}
@@ -15,6 +15,9 @@ use Rattle.acpi_model.proofs.OneTable.{one_table}
 one_end : (types : Option Types) (view : View) (start address count : ℕ) → IsOne (EndsWith types view start address count)
 one_end None view start address count a b is also = is ∙ sym also
 one_end (Some types) view start address count a b is also = same_entries types view start address count a b is also
+
+same_some : {A : Type 0} (a b : A) → Some a ≡ Some b → a ≡ b
+same_some a b same = cc
 
 -- the layout of these parts
 layout_from : Kind → Head → List Row → List Entry → TableLayout
@@ -28,7 +31,8 @@ one_layout view address l m listed also_listed is also =
     let signatures : l.kind.signature ≡ m.kind.signature = cc (is.stands.shown.0, also.stands.shown.0) in
     let kinds : l.kind ≡ m.kind = cc (listed, also_listed, signatures) in
     let same = one_table view address l.kind.signature m.kind.signature is.total also.total l.head m.head l.body m.body is.stands also.stands (λ totals.
-    is.shaped ∙ ap (λ (kind : Kind). kind.shape view address is.total) kinds ∙ ap (m.kind.shape view address) totals ∙ sym also.shaped) in
+    same_some (shape l.body) (shape m.body)
+    (sym is.shaped ∙ ap (λ (kind : Kind). kind.shape view address is.total) kinds ∙ ap (m.kind.shape view address) totals ∙ also.shaped)) in
     let of_kind =
     subst (λ (kind : Kind). EndsWith kind.types view address (address + (36 + size l.body)) (is.total - (36 + size l.body)) l.entries) kinds is.ends in
     let of_total = subst (λ n. EndsWith m.kind.types view address (address + (36 + size l.body)) (n - (36 + size l.body)) l.entries) same.totals of_kind in

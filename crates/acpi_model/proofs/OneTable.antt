@@ -6,8 +6,8 @@ use Rattle.vt_layout.specs.declared.row.Row.TheVariants.{Number, Bytes, Sum}
 use Rattle.vt_layout.specs.Rows.{shape, text}
 use Rattle.vt_layout.specs.Values.{values_of}
 use Rattle.vt_layout.proofs.Same.{same_rows}
-use Rattle.acpi_model.specs.declared.header.Head.{Head}
-use Rattle.acpi_model.specs.Header.{header_rows, head_made, IsTable}
+use Rattle.acpi_records.specs.declared.header.Head.{Head}
+use Rattle.acpi_records.specs.Header.{header_rows, head_made, IsTable}
 
 -- the shape of a header of a table of so many bytes, before that of other rows
 header_shape : ℕ → List Row → List Row

@@ -6,8 +6,8 @@ use Rattle.vt_layout.specs.declared.row.Row.TheVariants.{Pointer}
 use Rattle.vt_layout.specs.Rows.{size, IsRow}
 use Rattle.vt_layout.specs.Shown.{LayoutShown, LayoutHeld}
 use Rattle.vt_layout.proofs.NumberRows.{size-numbers, shape-numbers, same_numbers, linked-pointers}
-use Rattle.acpi_model.specs.declared.header.Head.{Head}
-use Rattle.acpi_model.specs.Header.{IsTable}
+use Rattle.acpi_records.specs.declared.header.Head.{Head}
+use Rattle.acpi_records.specs.Header.{IsTable}
 use Rattle.acpi_model.specs.Xsdt.{entries_of, given, xsdt_rows, IsXsdt}
 use Rattle.acpi_model.proofs.OneTable.{one_table}
 use Rattle.acpi_model.proofs.HeldTables.{shown_table}

@@ -1,32 +1,50 @@
 -- The ACPI tables that a view shows, from its RSDP on (ACPI 6.5, chapter 5), and those of a machine.
-use Rattle.std.specs.Prelude.{◌≡◌, ℕ, ◌<◌, ◌⊎◌, List, [], ◌∷◌, Option, Some, None, option_map, option_and_then, option_to_list}
+use Rattle.std.specs.Prelude.{◌≡◌, ℕ, ◌+◌, ◌<◌, ◌⊎◌, List, [], ◌∷◌, Option, Some, None, option_map, option_and_then, option_to_list}
 use Rattle.std.specs.List.{find, flat_map, AllByRecursion}
+use Rattle.std.specs.Option.{option_map_or}
 use Rattle.std.specs.Str.{bytes_eq}
 use Rattle.vt_bytes.specs.View.{View}
 use Rattle.vt_layout.specs.declared.row.Row.{Row}
-use Rattle.vt_layout.specs.Rows.{IsRow}
+use Rattle.vt_layout.specs.Rows.{size, IsRow}
 use Rattle.machine_desc.specs.declared.machine.Machine.{Machine}
 use Rattle.machine_desc.specs.declared.machine.Acpi.{Acpi}
-use Rattle.acpi_model.specs.declared.header.Head.{Head}
+use Rattle.acpi_records.specs.declared.header.Head.{Head}
 use Rattle.acpi_model.specs.declared.acpi.AcpiTables.{AcpiTables}
 use Rattle.acpi_model.specs.declared.acpi.OtherTable.{OtherTable}
 use Rattle.acpi_model.specs.declared.acpi.Table.{Table}
-use Rattle.acpi_model.specs.declared.acpi.Table.TheVariants.{Hpet}
-use Rattle.acpi_model.specs.Header.{IsTable, IsFittingHead, head_of, padded}
+use Rattle.acpi_model.specs.declared.acpi.FadtTargets.{FadtTargets}
+use Rattle.acpi_model.specs.declared.acpi.Table.TheVariants.{Fadt, Madt, Srat, Slit, Hpet}
+use Rattle.acpi_model.specs.declared.link.FadtLinks.{FadtLinks}
+use Rattle.acpi_records.specs.Header.{IsTable, IsFittingHead, head_of, padded}
 use Rattle.acpi_model.specs.Kinds.{Kind, TableLayout, IsLayoutAt, IsLawful, table_of, rows_behind, layout_rows, linked_layout}
-use Rattle.acpi_model.specs.Hpet.{hpet_kind, hpet_layout, as_hpet, hpet_of}
+use Rattle.acpi_model.specs.FadtKind.{fadt_kind, fadt_layout, link_rows, as_fadt, links_of}
+use Rattle.acpi_model.specs.Found.{LeadTo}
+use Rattle.acpi_records.specs.Facs.{initial_facs}
+use Rattle.acpi_model.specs.MachineFadt.{fadt_of, fadt_links}
+use Rattle.acpi_model.specs.MachineMadt.{madt_of_machine}
+use Rattle.acpi_records.specs.Hpet.{hpet_of}
+use Rattle.acpi_model.specs.MadtKind.{madt_kind, madt_layout, as_madt}
+use Rattle.acpi_model.specs.SratKind.{srat_kind, srat_layout, as_srat}
+use Rattle.acpi_model.specs.SlitKind.{slit_kind, slit_layout, as_slit}
+use Rattle.acpi_model.specs.MachineSrat.{srat_of_machine}
+use Rattle.acpi_model.specs.MachineSlit.{slit_of_machine}
+use Rattle.acpi_model.specs.HpetKind.{hpet_kind, hpet_layout, as_hpet}
 use Rattle.acpi_model.specs.Xsdt.{IsXsdt}
 use Rattle.acpi_model.specs.Rsdp.{IsRsdp, HasRsdp}
 
 -- the kinds of tables that are known, each of another signature
 abbrev pub kinds : List Kind
-kinds = hpet_kind ∷ []
+kinds = fadt_kind ∷ madt_kind ∷ srat_kind ∷ slit_kind ∷ hpet_kind ∷ []
 
 -- the kind of a signature, where it is known
 abbrev pub kind_of : List ℕ → Option Kind
 kind_of signature = find (λ (kind : Kind). bytes_eq signature kind.signature) kinds
 
 abbrev pub layout_of : Table → TableLayout
+layout_of (Fadt t links) = fadt_layout t links
+layout_of (Madt t) = madt_layout t
+layout_of (Srat t) = srat_layout t
+layout_of (Slit t) = slit_layout t
 layout_of (Hpet t) = hpet_layout t
 
 -- the signature of a table
@@ -41,9 +59,20 @@ rows_of table = layout_rows (layout_of table)
 abbrev pub linked_table : (List ℕ → ℕ) → Table → Table
 linked_table place_of table = table_of (linked_layout place_of (layout_of table))
 
--- a table that can be written, beyond that its values fit their rows
-abbrev pub IsWritable : Table → Type 0
-IsWritable table = IsLawful (layout_of table)
+-- the rows of a table's pointers as they are written
+abbrev pub pointer_rows : Table → List Row
+pointer_rows table = option_map_or link_rows (links_of table) []
+
+-- A table that can be written, beyond that the values of its records fit their rows: its layout is lawful, and what its pointers tell
+-- fits their rows, also with any place of a file added.
+pub record IsWritable (table : Table) : Type 0 where
+  pub lawful : IsLawful (layout_of table)
+  pub lead : AllByRecursion IsRow (pointer_rows table)
+
+-- how many bytes tables have behind their headers
+abbrev pub bytes_behind : List Table → ℕ
+bytes_behind [] = 0
+bytes_behind (table ∷ tables) = size (rows_behind (layout_of table)) + bytes_behind tables
 
 -- a table that can be put into a file: its values fit their rows, too
 pub record CanBePut (table : Table) : Type 0 where
@@ -90,18 +119,25 @@ first_with signature tables = find (λ table. bytes_eq (signature_of table) sign
 abbrev pub first_of : {T : Type 0} → Kind → (Table → Option T) → List Table → Option T
 first_of kind as_kind tables = option_and_then as_kind (first_with kind.signature tables)
 
--- What an RSDP and an XSDT tell, with the tables that the XSDT names: of each kind the first of them, and the others.
-abbrev pub gathered : List ℕ → Head → List Table → List OtherTable → AcpiTables
-gathered oem_id xsdt tables others = record {
+-- the pointers of the first FADT of some tables
+abbrev pub first_links : List Table → Option FadtLinks
+first_links tables = first_of fadt_kind links_of tables
+
+-- What an RSDP and an XSDT tell, with the tables that the XSDT names, of each kind the first of them, what the FADT leads to, and the
+-- others.
+abbrev pub gathered : List ℕ → Head → List Table → FadtTargets → List OtherTable → AcpiTables
+gathered oem_id xsdt tables targets others = record {
   oem_id = oem_id;
   xsdt = xsdt;
+  fadt = first_of fadt_kind as_fadt tables;
+  facs = targets.facs;
+  dsdt = targets.dsdt;
+  madt = first_of madt_kind as_madt tables;
+  srat = first_of srat_kind as_srat tables;
+  slit = first_of slit_kind as_slit tables;
   hpet = first_of hpet_kind as_hpet tables;
   others = others;
 }
-
--- with one more table in front of those of which it was gathered
-abbrev pub with_table : Table → AcpiTables → AcpiTables
-with_table (Hpet t) all = record all { hpet = Some t }
 
 -- The view shows the tables: the least valid RSDP has the maker's id and leads to the XSDT, its entries name the tables, no two of
 -- which are of one kind, and what they tell is gathered of them.
@@ -115,11 +151,23 @@ pub record ShowsAcpi (view : View) (t : AcpiTables) : Type 0 where
   pub tables : List Table
   pub named : Walks view addresses tables t.others
   pub distinct : AreDistinct tables
-  pub told : t ≡ gathered t.oem_id t.xsdt tables t.others
+  pub targets : FadtTargets
+  pub lead : LeadTo view (first_links tables) targets
+  pub told : t ≡ gathered t.oem_id t.xsdt tables targets t.others
+
+-- Where the FACS of a machine stands in the file of the tables: before all others. The file is placed at a multiple of 64, as the FACS
+-- has to be (ACPI 6.5, 5.2.10).
+abbrev pub facs_place : ℕ
+facs_place = 0
 
 -- of each known kind a machine's table, where it has one
 abbrev pub parts_of : Machine → Acpi → List (Option Table)
-parts_of m acpi = option_map (λ hpet. Hpet (hpet_of acpi hpet)) m.hpet ∷ []
+parts_of m acpi =
+    option_map (λ power. Fadt (fadt_of acpi power) (fadt_links facs_place)) m.power
+    ∷ option_map (λ apic. Madt (madt_of_machine m acpi apic)) m.apic
+    ∷ option_map (λ numa. Srat (srat_of_machine m acpi)) m.numa
+    ∷ option_map (λ numa. Slit (slit_of_machine acpi numa)) m.numa
+    ∷ option_map (λ hpet. Hpet (hpet_of acpi hpet)) m.hpet ∷ []
 
 -- the parts that are there
 abbrev pub present : List (Option Table) → List Table
@@ -129,6 +177,10 @@ present parts = flat_map option_to_list parts
 abbrev pub tables_of : Machine → Acpi → List Table
 tables_of m acpi = present (parts_of m acpi)
 
+-- what a machine's FADT leads to
+abbrev pub targets_of : Machine → FadtTargets
+targets_of m = record { facs = option_map (λ power. initial_facs) m.power; dsdt = None }
+
 -- the tables of a machine that has some
 abbrev pub acpi_of : Machine → Acpi → AcpiTables
-acpi_of m acpi = gathered (padded 6 acpi.oem_id) (head_of acpi 1) (tables_of m acpi) []
+acpi_of m acpi = gathered (padded 6 acpi.oem_id) (head_of acpi 1) (tables_of m acpi) (targets_of m) []

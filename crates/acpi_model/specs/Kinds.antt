@@ -10,15 +10,16 @@ use Rattle.vt_layout.specs.Shown.{LayoutHeld}
 use Rattle.vt_layout.specs.Entries.{Entry, Types, EntriesShown, IsOfType, entries_rows, linked_entries}
 use Rattle.vt_layout.specs.Values.{values_of}
 use Rattle.vt_layout.specs.Fields.{Field, field_rows}
-use Rattle.acpi_model.specs.declared.header.Head.{Head}
+use Rattle.acpi_records.specs.declared.header.Head.{Head}
 use Rattle.acpi_model.specs.declared.acpi.Table.{Table}
-use Rattle.acpi_model.specs.Header.{IsTable, head_fields, header_rows, table_rows, body_rows}
+use Rattle.acpi_records.specs.Header.{IsTable, head_fields, header_rows, table_rows, body_rows}
 
--- A kind of table: its signature; the shape of the rows behind its header, in a table of so many bytes at an address of a view; the
--- types of the entries that fill it behind them, where it has entries; and the table of a header, rows and entries.
+-- A kind of table: its signature; the shape of the rows behind its header, in a table of so many bytes at an address of a view, or none
+-- where so many bytes aren't of the kind's form; the types of the entries that fill it behind them, where it has entries; and the table
+-- of a header, rows and entries.
 pub record Kind : Type 0 where
   pub signature : List ℕ
-  pub shape : View → ℕ → ℕ → List Row
+  pub shape : View → ℕ → ℕ → Option (List Row)
   pub types : Option Types
   pub table : Head → List Row → List Entry → Table
 
@@ -34,7 +35,7 @@ pub record TableLayout : Type 0 where
 abbrev pub kind_with : {T : Type 0} → List ℕ → (T → List Field) → (List Value → T) → (T → Table) → Kind
 kind_with signature fields made table_of = record {
   signature = signature;
-  shape = λ view address total. shape (body_rows (fields (made [])));
+  shape = λ view address total. Some (shape (body_rows (fields (made []))));
   types = None;
   table = λ head body entries. table_of (made (values_of (header_rows signature 0 head ++ body) []));
 }
@@ -72,7 +73,7 @@ EndsWith (Some types) view start address count entries = EntriesShown types view
 pub record IsLayoutAt (view : View) (address : ℕ) (l : TableLayout) : Type 0 where
   pub total : ℕ
   pub stands : IsTable view address l.kind.signature l.head total l.body
-  pub shaped : shape l.body ≡ l.kind.shape view address total
+  pub shaped : l.kind.shape view address total ≡ Some (shape l.body)
   pub ends : EndsWith l.kind.types view address (address + (36 + size l.body)) (total - (36 + size l.body)) l.entries
 
 -- the file that holds the tables, and whose place the pointers to them have added
@@ -92,10 +93,10 @@ AreOfTypes (Some types) entries = AllByRecursion (IsOfType types) entries
 
 -- A layout that can be written, beyond that its values fit their rows. Where its pointers' targets' places are added, its rows have the
 -- shape of its kind wherever a view holds it, with lists as long as it tells there, and its entries are of the types of its kind. Behind
--- its header are at most 64 KiB, without a checksum, and its pointers lead to tables.
+-- its header are at most 16 MiB, without a checksum, and its pointers lead to tables.
 pub record IsLawful (l : TableLayout) : Type 0 where
   pub shaped : (place_of : List ℕ → ℕ) (view : View) (address : ℕ) → LayoutHeld view place_of address (layout_rows l)
-      → shape (linked place_of l.body) ≡ l.kind.shape view address (36 + size (rows_behind l))
+      → l.kind.shape view address (36 + size (rows_behind l)) ≡ Some (shape (linked place_of l.body))
   pub typed : (place_of : List ℕ → ℕ) → AreOfTypes l.kind.types (linked_entries place_of l.entries)
-  pub few : size (rows_behind l) ≤ 0x10000
+  pub few : size (rows_behind l) ≤ 0x1000000
   pub rows : AllByRecursion IsBodyRow (rows_behind l)

@@ -1,7 +1,7 @@
 -- The maker of tables, from its identifiers in an RSDP and in the header of an XSDT (ACPI 6.5, 5.2.5.3 and 5.2.6).
 use Rattle.std.specs.Prelude.{ℕ, List, [], ◌∷◌, ◌==◌, if◌then◌else◌}
 use Rattle.machine_desc.specs.declared.machine.Acpi.{Acpi}
-use Rattle.acpi_model.specs.declared.header.Head.{Head}
+use Rattle.acpi_records.specs.declared.header.Head.{Head}
 
 -- a byte in front of a text, but for a space in front of none
 abbrev pub in_front : ℕ → List ℕ → List ℕ

@@ -4,8 +4,8 @@ use Rattle.vt_bytes.specs.View.{View}
 use Rattle.vt_layout.specs.declared.row.Row.{Row}
 use Rattle.vt_layout.specs.declared.row.Row.TheVariants.{Number}
 use Rattle.vt_layout.specs.Shown.{LayoutShown}
-use Rattle.acpi_model.specs.declared.header.Head.{Head}
-use Rattle.acpi_model.specs.Header.{table_rows}
+use Rattle.acpi_records.specs.declared.header.Head.{Head}
+use Rattle.acpi_records.specs.Header.{table_rows}
 
 -- an XSDT with a row for each entry
 abbrev pub xsdt_rows : Head → List Row → List Row

@@ -1,20 +1,31 @@
 //! Laws over the definitions, each the contract of a function that does nothing.
 
-ghost use Rattle.std.specs.Prelude.{◌≡◌, ℕ, ◌+◌, List, [], ◌∷◌, ◌++◌, map, true, Some};
+ghost use Rattle.std.specs.Prelude.{◌≡◌, ℕ, ◌+◌, ◌<◌, ◌≤◌, List, [], ◌∷◌, ◌++◌, length, map, true, Some, IsSome, IfSome};
 ghost use Rattle.std.specs.List.{AllByRecursion};
 ghost use Rattle.vt_bytes.specs.View.{View};
 ghost use Rattle.vt_layout.specs.declared.row.Row.TheVariants.{Pointer};
-ghost use Rattle.vt_layout.specs.Rows.{IsRow};
+ghost use Rattle.vt_layout.specs.Rows.{IsRow, spelled};
+ghost use Rattle.vt_layout.specs.Entries.{entries_rows};
 ghost use Rattle.vt_layout.specs.Shown.{LayoutHeld};
 ghost use Rattle.machine_desc.specs.declared.machine.Machine.{Machine};
 ghost use Rattle.machine_desc.specs.declared.machine.Acpi.{Acpi};
-ghost use Rattle.machine_desc.specs.Rules.{is_padded_text};
+ghost use Rattle.machine_desc.specs.declared.acpi_parts.Apic.{Apic};
+ghost use Rattle.machine_desc.specs.Rules.{is_padded_text, apic_id, IsAccepted};
 ghost use Rattle.machine_desc.specs.Fields.{HasFittingFields};
-ghost use Rattle.acpi_model.specs.declared.header.Head.{Head};
+ghost use Rattle.acpi_records.specs.declared.header.Head.{Head};
 ghost use Rattle.acpi_model.specs.declared.acpi.Table.{Table};
-ghost use Rattle.acpi_model.specs.Header.{head_of, padded, FitsHead};
+ghost use Rattle.acpi_records.specs.Header.{head_of, padded, FitsHead};
 ghost use Rattle.acpi_model.specs.Maker.{acpi_in};
-ghost use Rattle.acpi_model.specs.Acpi.{IsAt, IsWritable, CanBePut, rows_of, linked_table, signature_of, Walks, AreAt, AreDistinct, first_with, gathered, tables_of, acpi_of};
+ghost use Rattle.acpi_model.specs.Acpi.{IsAt, IsWritable, CanBePut, rows_of, linked_table, signature_of, Walks, AreAt, AreDistinct, bytes_behind, first_with, first_links, gathered, facs_place, tables_of, targets_of, acpi_of};
+ghost use Rattle.acpi_model.specs.Kinds.{tables_name};
+ghost use Rattle.acpi_records.specs.Facs.{IsFacs};
+ghost use Rattle.acpi_model.specs.Found.{LeadTo};
+ghost use Rattle.acpi_records.specs.Facs.{initial_facs};
+ghost use Rattle.acpi_records.specs.MadtEntries.{madt_entry_of};
+ghost use Rattle.acpi_model.specs.MachineMadt.{cpu_entries, nmi_entry, madt_of_machine, apic_in, cpus_in, io_apics_in, overrides_in, nmis_in, without_node};
+ghost use Rattle.acpi_model.specs.WorkedMadt.{worked_cpus, worked_cpus_bytes, worked_nmis, worked_nmis_bytes};
+ghost use Rattle.acpi_model.specs.MachineSrat.{srat_of_machine, cpu_nodes, range_nodes};
+ghost use Rattle.acpi_model.specs.MachineSlit.{slit_of_machine, numa_in};
 ghost use Rattle.acpi_model.specs.Xsdt.{IsXsdt, xsdt_rows, given};
 
 /// States that at most one table of a known kind stands at an address.
@@ -38,14 +49,25 @@ pub fn table_in_a_list_is_found()
 pub fn tables_of_a_machine_are_gathered()
     ensures distinct { (place_of : List ℕ → ℕ) (machine : Machine) (acpi : Acpi) → AreDistinct (map (linked_table place_of) (tables_of machine acpi)) }
     ensures told { (place_of : List ℕ → ℕ) (machine : Machine) (acpi : Acpi)
-        → gathered (padded 6 acpi.oem_id) (head_of acpi 1) (map (linked_table place_of) (tables_of machine acpi)) [] ≡ acpi_of machine acpi }
+        → gathered (padded 6 acpi.oem_id) (head_of acpi 1) (map (linked_table place_of) (tables_of machine acpi)) (targets_of machine) []
+        ≡ acpi_of machine acpi }
 {}
 
-/// States that the tables that a machine's XSDT names can be written, and that they can be put into a file where the machine's numbers
-/// fit their fields.
+/// States that, where the file of the tables isn't placed at 0, a machine's FADT leads to the FACS that a view shows where that file
+/// begins, and to nothing else; and that a machine without an FADT leads to none.
+pub fn fadt_of_a_machine_leads_to_its_facs()
+    ensures { (view : View) (place_of : List ℕ → ℕ) (machine : Machine) (acpi : Acpi) → 0 < place_of tables_name
+        → (IsSome machine.power → IsFacs view (place_of tables_name + facs_place) initial_facs)
+        → LeadTo view (first_links (map (linked_table place_of) (tables_of machine acpi))) (targets_of machine) }
+{}
+
+/// States that the tables that a machine's XSDT names are few, and that those of an accepted machine can be written, are short, and can be
+/// put into a file where its numbers fit their fields.
 pub fn tables_of_a_machine_can_be_put()
-    ensures writable { (machine : Machine) (acpi : Acpi) → AllByRecursion IsWritable (tables_of machine acpi) }
-    ensures put { (machine : Machine) (acpi : Acpi) → FitsHead acpi → HasFittingFields machine
+    ensures writable { (machine : Machine) (acpi : Acpi) → IsAccepted machine → AllByRecursion IsWritable (tables_of machine acpi) }
+    ensures number { (machine : Machine) (acpi : Acpi) → length (tables_of machine acpi) ≤ 16 }
+    ensures bytes { (machine : Machine) (acpi : Acpi) → IsAccepted machine → bytes_behind (tables_of machine acpi) ≤ 0x30000 }
+    ensures put { (machine : Machine) (acpi : Acpi) → FitsHead acpi → HasFittingFields machine → IsAccepted machine
         → AllByRecursion CanBePut (tables_of machine acpi) }
 {}
 
@@ -66,8 +88,36 @@ pub fn held_xsdt_is_there()
         → IsXsdt view address head (given (map (λ offset. offset + place_of name) offsets)) }
 {}
 
+/// States that the nodes of an accepted machine are got back from its tables: those of its processors, and of its ranges behind them, each
+/// from the entry of the SRAT at its own place, and the distances from the SLIT.
+pub fn nodes_of_a_machine_are_got_back()
+    ensures cpus { (machine : Machine) (acpi : Acpi) → IsAccepted machine
+        → cpu_nodes (map apic_id machine.cpus) (srat_of_machine machine acpi).entries ≡ map (λ cpu. cpu.node) machine.cpus }
+    ensures ranges { (machine : Machine) (acpi : Acpi) → IsAccepted machine
+        → range_nodes (length machine.cpus) machine.ranges (srat_of_machine machine acpi).entries ≡ map (λ range. range.node) machine.ranges }
+    ensures numa { (machine : Machine) (acpi : Acpi) → IsAccepted machine
+        → IfSome machine.numa (λ numa. numa_in (slit_of_machine acpi numa) ≡ numa) }
+{}
+
 /// States that the maker of tables is got back from the RSDP's id and the header of the XSDT, where its identifiers can be padded.
 pub fn maker_is_got_back()
     ensures { (acpi : Acpi) → is_padded_text 6 acpi.oem_id ≡ true → is_padded_text 8 acpi.oem_table_id ≡ true
         → acpi_in (padded 6 acpi.oem_id) (head_of acpi 1) ≡ acpi }
+{}
+
+/// States what the entries of worked processors and NMIs are written as, one after the other: a processor, and the NMI of one, is told by
+/// the longer entry where its position or its APIC id is above 254.
+pub fn worked_processors_are_spelled()
+    ensures cpus { spelled (entries_rows (map madt_entry_of (cpu_entries worked_cpus))) ≡ worked_cpus_bytes }
+    ensures nmis { spelled (entries_rows (map madt_entry_of (map nmi_entry worked_nmis))) ≡ worked_nmis_bytes }
+{}
+
+/// States that the interrupt controllers of a machine, its I/O APICs, its overrides and its NMIs are got back from its MADT, and its
+/// processors but for their nodes.
+pub fn parts_of_a_machine_are_got_back_from_its_madt()
+    ensures apic { (machine : Machine) (acpi : Acpi) (apic : Apic) → apic_in (madt_of_machine machine acpi apic) ≡ apic }
+    ensures cpus { (machine : Machine) (acpi : Acpi) (apic : Apic) → cpus_in (madt_of_machine machine acpi apic) ≡ map without_node machine.cpus }
+    ensures io_apics { (machine : Machine) (acpi : Acpi) (apic : Apic) → io_apics_in (madt_of_machine machine acpi apic) ≡ machine.io_apics }
+    ensures overrides { (machine : Machine) (acpi : Acpi) (apic : Apic) → overrides_in (madt_of_machine machine acpi apic) ≡ machine.overrides }
+    ensures nmis { (machine : Machine) (acpi : Acpi) (apic : Apic) → nmis_in (madt_of_machine machine acpi apic) ≡ machine.nmis }
 {}

@@ -1,21 +1,33 @@
-//! ACPI tables as records, their layouts as rows, and the tables that a view of memory shows from its RSDP on.
+//! ACPI tables, each a record in its layout, and the tables that a view of memory shows from its RSDP on.
 //!
-//! The definitions say which records a view shows (ACPI 6.5, 5.2; IA-PC HPET 1.0a, 3.2.4). The contract is that each record puts and
-//! takes its rows, and that the tables of a machine, and what is gathered of tables, are those of the definitions. The laws are that at
-//! most one table stands at an address, that a table and an XSDT which a view holds as they were written stand there, that the tables
-//! that a machine's XSDT names can be put into a file, are walked, and tell what the machine's do, and that a machine's parts are got
-//! back from its tables. A kind of tables is its signature with the shape of its rows and the types of its entries.
+//! The definitions say which tables a view shows (ACPI 6.5, 5.2; IA-PC HPET 1.0a, 3.2.4). The contract is that the tables of a machine,
+//! and what they tell, are those of the definitions. The laws are that at most one table stands at an address, that a table and an XSDT
+//! which a view holds as they were written stand there, that the tables that a machine's XSDT names can be put into a file, are walked,
+//! lead to the machine's FACS and tell what the machine's do, and that a machine's parts are got back from its tables. A kind of tables is
+//! its signature with the shape of its rows and the types of its entries. The records are those of `acpi_records`, which are passed on.
 #![tactic(auto)]
 
 mod acpi;
-mod generic_address;
-mod header;
-mod hpet;
+mod dsdt;
 pub mod laws;
+mod link;
+mod machine_fadt;
+mod machine_madt;
+mod machine_slit;
+mod machine_srat;
 mod rsdp;
 
-pub use acpi::{AcpiTables, OtherTable, Table, acpi_of, gathered, tables_of};
-pub use generic_address::GenericAddress;
-pub use header::{HEADER_SIZE, Head, head_of};
-pub use hpet::{HpetTable, hpet_of};
+pub use acpi::{AcpiTables, FadtTargets, OtherTable, Table, acpi_of, tables_of};
+pub use acpi_records::{
+    ApicAffinity, FACS_SIZE, FADT_DSDT_ROW, FADT_FACS_ROW, FADT_X_DSDT_ROW, FADT_X_FACS_ROW, Facs,
+    Fadt, GenericAddress, HEADER_SIZE, Head, HpetTable, IoApicEntry, LocalApicEntry, LocalNmiEntry,
+    Madt, MadtEntry, MadtFront, MemoryAffinity, OverrideEntry, Slit, SlitFront, Srat, SratEntry,
+    SratFront, X2ApicAffinity, X2ApicEntry, X2ApicNmiEntry, head_of, hpet_of, initial_facs,
+};
+pub use dsdt::Dsdt;
+pub use link::{FadtLinks, Link};
+pub use machine_fadt::{FACS_PLACE, fadt_links, fadt_of};
+pub use machine_madt::madt_of_machine;
+pub use machine_slit::slit_of_machine;
+pub use machine_srat::srat_of_machine;
 pub use rsdp::rsdp_rows;

@@ -13,3 +13,4 @@ pub mod Grew
 pub mod Pieces
 pub mod Unsummed
 pub mod RowsKept
+pub mod Spelled

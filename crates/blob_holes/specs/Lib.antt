@@ -2,6 +2,7 @@ pub mod Blob
 pub mod Filled
 pub mod Grown
 pub mod Rows
+pub mod Plain
 pub mod Held
 pub mod Appended
 pub use Rattle.vt_outside.specs.Name

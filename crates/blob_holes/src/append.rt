@@ -1,4 +1,4 @@
-ghost use Rattle.std.specs.Prelude.{◌≡◌, ◌+◌, ◌<◌, ◌^◌, ◌++◌, length, slice_index, IfOk, OnOk, IsTrue};
+ghost use Rattle.std.specs.Prelude.{◌≡◌, ◌+◌, ◌<◌, ◌^◌, [], ◌∷◌, ◌++◌, length, slice_index, IfOk, OnOk, IsTrue};
 ghost use Rattle.std.specs.Int.{is_power_of_two};
 ghost use Rattle.std.specs.List.{AllByRecursion};
 ghost use Rattle.vt_layout.specs.Rows.{IsRow, width_of, bytes_of, size};
@@ -8,7 +8,8 @@ ghost use Rattle.blob_holes.specs.Blob.{IsBlob, FitsSum, next_place};
 ghost use Rattle.blob_holes.specs.Grown.{Extends, IsLinkable};
 ghost use Rattle.blob_holes.specs.Rows.{AreRows, pointer_of, sum_of, sum_holes, unsummed, with_rows};
 ghost use Rattle.blob_holes.specs.Held.{WhereHeld};
-ghost use Rattle.blob_holes.specs.Appended.{IsAppended};
+ghost use Rattle.blob_holes.specs.Plain.{bytes_row};
+ghost use Rattle.blob_holes.specs.Appended.{IsAppendedWith};
 
 use crate::blob::Blob;
 use vt_layout::Row;
@@ -28,44 +29,62 @@ pub fn append_rows(blob: &mut Blob, rows: &[Row]) -> Result<(), OutOfMemory>
     ensures held { OnOk result (WhereHeld blob.new
         (λ view address place_of. LayoutHeld view place_of (address + length blob.old.bytes) rows.now)) }
 {
-    append_parts(blob, rows, &[])
+    append_parts(blob, rows, &[], &[])
 }
 
-/// Appends zeros to `blob` up to a multiple of `align` bytes, a power of two, and then the rows of `header` and those of `body`
-/// as one layout. Returns the offset in the file at which the layout begins. The rows must be as [`append_rows`] asks, and the
-/// file must stay below 2^32 bytes. It fails with `OutOfMemory` only where memory runs out. `blob` is then still a file with holes,
-/// but may hold the zeros and a part of the rows.
+/// Appends zeros to `blob` up to a multiple of `align` bytes, a power of two, and then, as one layout, the rows of `header`, those of
+/// `body` and the bytes `plain`. Returns the offset in the file at which the layout begins. The rows must be as [`append_rows`] asks;
+/// a sum's range may reach over `plain`. The file must stay below 2^32 bytes. It fails with `OutOfMemory` only where memory runs out.
+/// `blob` is then still a file with holes, but may hold the zeros and a part of the layout.
 pub fn append_layout(
     blob: &mut Blob,
     align: u32,
     header: &[Row],
     body: &[Row],
+    plain: &[u8],
 ) -> Result<u32, OutOfMemory>
     requires power { IsTrue (is_power_of_two align) }
-    requires rows { AreRows (header.now ++ body.now) }
-    requires short { next_place align blob.old + size (header.now ++ body.now) < 2 ^ 32 }
+    requires rows { AreRows (header.now ++ body.now ++ bytes_row plain.now ∷ []) }
+    requires short { next_place align blob.old + size (header.now ++ body.now) + length plain.now < 2 ^ 32 }
     ensures place { IfOk result (λ place. place ≡ next_place align blob.old) }
-    ensures appended { OnOk result (IsAppended align blob.old blob.new (header.now ++ body.now)) }
+    ensures appended { OnOk result (IsAppendedWith align blob.old blob.new (header.now ++ body.now) plain.now) }
 {
     let place = blob.len().next_multiple_of(align);
     blob.align(align)?;
-    append_parts(blob, header, body)?;
+    append_parts(blob, header, body, plain)?;
     Ok(place)
 }
 
-// Appends the rows of `header` and then of `body` as one layout. The sums come last, since a sum's range reaches behind its row.
-fn append_parts(blob: &mut Blob, header: &[Row], body: &[Row]) -> Result<(), OutOfMemory>
-    requires rows { AreRows (header.now ++ body.now) }
-    requires short { length blob.old.bytes + size (header.now ++ body.now) < 2 ^ 32 }
-    ensures file { OnOk result (blob.new ≡ with_rows blob.old (header.now ++ body.now)) }
+// Appends the rows of `header`, those of `body` and the bytes `plain` as one layout. The sums come last, since a sum's range reaches
+// behind its row.
+fn append_parts(
+    blob: &mut Blob,
+    header: &[Row],
+    body: &[Row],
+    plain: &[u8],
+) -> Result<(), OutOfMemory>
+    requires rows { AreRows (header.now ++ body.now ++ bytes_row plain.now ∷ []) }
+    requires short { length blob.old.bytes + size (header.now ++ body.now) + length plain.now < 2 ^ 32 }
+    ensures file { OnOk result (blob.new ≡ with_rows blob.old (header.now ++ body.now ++ bytes_row plain.now ∷ [])) }
     ensures blob { IsBlob blob.old }
 {
     let start = blob.len();
     append_unsummed(blob, header)?;
     let behind = blob.len();
-    append_unsummed(blob, body)?;
+    append_body(blob, body, plain)?;
     add_sums(blob, start, start, header)?;
     add_sums(blob, start, behind, body)
+}
+
+// Appends rows, whose sums are no holes yet, and the bytes `plain`.
+fn append_body(blob: &mut Blob, rows: &[Row], plain: &[u8]) -> Result<(), OutOfMemory>
+    requires rows { AllByRecursion IsRow rows.now }
+    requires short { length blob.old.bytes + size rows.now + length plain.now < 2 ^ 32 }
+    ensures { OnOk result (blob.new ≡ unsummed blob.old (rows.now ++ bytes_row plain.now ∷ [])) }
+{
+    append_unsummed(blob, rows)?;
+    blob.append(plain)?;
+    Ok(())
 }
 
 // Appends rows. A sum is no hole yet.

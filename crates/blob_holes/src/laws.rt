@@ -1,11 +1,12 @@
 //! Laws over the definitions, each the contract of a function that does nothing.
 
-ghost use Rattle.std.specs.Prelude.{◌≡◌, ℕ, ◌+◌, ◌^◌, ◌<◌, List};
+ghost use Rattle.std.specs.Prelude.{◌≡◌, ℕ, ◌+◌, ◌^◌, ◌<◌, List, [], ◌∷◌, ◌++◌};
 ghost use Rattle.vt_bytes.specs.Parts.{part};
 ghost use Rattle.vt_layout.specs.declared.row.Row.{Row};
 ghost use Rattle.vt_layout.specs.Rows.{size};
 ghost use Rattle.blob_holes.specs.Blob.{BlobState, IsBlob, next_place, aligned};
 ghost use Rattle.blob_holes.specs.Rows.{AreRows, with_rows};
+ghost use Rattle.blob_holes.specs.Plain.{Spells, bytes_row};
 ghost use Rattle.blob_holes.specs.Appended.{IsAppended};
 ghost use Rattle.blob_holes.specs.Filled.{IsSolid, IsFilled, PlacesFit, AreInOrder, with_pointers, with_sums};
 
@@ -28,4 +29,11 @@ pub fn rows_at_its_end_are_appended()
         → IsBlob (with_rows (aligned align blob) rows) }
     ensures appended { (align : ℕ) (blob : BlobState) (rows : List Row) → IsBlob blob → AreRows rows → next_place align blob + size rows < 2 ^ 32
         → IsAppended align blob (with_rows (aligned align blob) rows) rows }
+{}
+
+/// States that one row spells any bytes, and that rows one after the other spell what each of them spells, one after the other.
+pub fn rows_spell_their_bytes()
+    ensures one { (bytes : List ℕ) → Spells (bytes_row bytes ∷ []) bytes }
+    ensures behind { (rows more : List Row) (bytes others : List ℕ) → Spells rows bytes → Spells more others
+        → Spells (rows ++ more) (bytes ++ others) }
 {}

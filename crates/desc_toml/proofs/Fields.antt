@@ -8,15 +8,17 @@ use Rattle.std.proofs.lemmas.Bool.{and_parts, leb-true}
 use Rattle.desc_schema.specs.declared.value.Value.{Value}
 use Rattle.desc_schema.specs.Form.{Form, Shape, Field, fields_at}
 use Rattle.desc_schema.specs.Form as forms
-use Rattle.desc_schema.specs.Taken.{first, rest, skip, value_at, number_to, uuid_if, count_of}
+use Rattle.desc_schema.specs.Taken.{first, rest, skip, value_at, number_to, number_if, uuid_if, count_of}
 use Rattle.desc_schema.specs.Fits.{FitsForm, IsOne, AreParts, FitsShape, FitsField, FitsFields, FitsTable, Fits}
 use Rattle.desc_schema.proofs.Fitting.{walked_fit}
 use Rattle.desc_schema.proofs.UuidText.{small_parsed}
 use Rattle.machine_desc.specs.declared.machine.Machine.{Machine}
-use Rattle.machine_desc.specs.Fields.{IsFittingFirmware, IsFittingSocket, IsFittingSlot, IsFittingHpet, HasFittingFields}
+use Rattle.machine_desc.specs.Fields.{IsFittingFirmware, IsFittingSocket, IsFittingSlot, IsFittingPower, IsFittingHpet, HasFittingFields}
+use Rattle.machine_desc.specs.Fields.{IsFittingApic, IsFittingCpu, IsFittingIoApic, IsFittingOverride, IsFittingNmi, IsFittingNuma}
 use Rattle.desc_toml.specs.Keys.{schema}
-use Rattle.desc_toml.specs.Values.{part_of, each_of, list_of, one_text, firmware_of, socket_of, slot_of, hpet_of}
-use Rattle.desc_toml.specs.Values.{front_of, arrays_of, machine_of}
+use Rattle.desc_toml.specs.Values.{part_of, each_of, list_of, firmware_of, socket_of, slot_of, power_of, hpet_of, apic_of, cpu_of, io_apic_of, override_of, nmi_of, one_byte}
+use Rattle.desc_toml.specs.Values.{text_taken, firmware_taken, socket_taken, slot_taken, power_taken, hpet_taken, apic_taken, cpu_taken, io_apic_taken, override_taken, nmi_taken, byte_taken, numa_taken}
+use Rattle.desc_toml.specs.Values.{front_of, arrays_of, tables_of, entries_of, acpi_parts_of, rest_of, machine_of}
 use Rattle.desc_toml.specs.Reading.{Reads}
 use Rattle.desc_schema.proofs.EachTable.{at_each}
 use Rattle.desc_toml.proofs.Says.{values_walked}
@@ -115,13 +117,19 @@ first_fits : (values : List Value) → AreFitting values → IsFittingValue (fir
 first_fits [] fit = tt
 first_fits (value ∷ values) fit = fit.0
 
-each_left : {V : Type 0} (make : List Value → V) (size n : ℕ) (values : List Value) → AreFitting values → AreFitting (each_of make size n values).1
-each_left make size zero values fit = fit
-each_left make size (suc n) values fit = each_left make size n (skip size values) (skip_fits size values fit)
+-- a part that leaves fitting values of fitting ones
+abbrev LeavesFitting : {V : Type 0} → (List Value → V × List Value) → Type 0
+LeavesFitting taken = (values : List Value) → AreFitting values → AreFitting (taken values).1
 
-list_left : {V : Type 0} (make : List Value → V) (size : ℕ) (values : List Value) → AreFitting values → AreFitting (list_of make size values).1
+each_left : {V : Type 0} (taken : List Value → V × List Value) → LeavesFitting taken → (n : ℕ) (values : List Value) → AreFitting values
+    → AreFitting (each_of taken n values).1
+each_left taken leaves zero values fit = fit
+each_left taken leaves (suc n) values fit = each_left taken leaves n (taken values).1 (leaves values fit)
+
+list_left : {V : Type 0} (taken : List Value → V × List Value) → LeavesFitting taken → (values : List Value) → AreFitting values
+    → AreFitting (list_of taken values).1
 unfolding list_of
-list_left make size values fit = each_left make size (count_of (first values)) (rest values) (rest_fits values fit)
+list_left taken leaves values fit = each_left taken leaves (count_of (first values)) (rest values) (rest_fits values fit)
 
 uuid_fits : (value : Value) → IsFittingValue value → IfSome (uuid_if value) (λ uuid. uuid < 2 ^ 128)
 uuid_fits (Value.Uuid n) fits = fits
@@ -137,24 +145,32 @@ number_within : (most : ℕ) (value : Value) → number_to most value ≤ most
 number_within most (Value.Number n) = within (nat_le n most) n most refl
 number_within most value = omega arith
 
+within_if : (test : Bool) (n most bound : ℕ) → nat_le n most ≡ test → most < bound → IfSome (if test then Some n else None) (λ number. number < bound)
+within_if true n most bound is less = omega (arith, leb-true n most is, less)
+within_if false n most bound is less = tt
+
+number_if_within : (most bound : ℕ) (value : Value) → most < bound → IfSome (number_if most value) (λ number. number < bound)
+number_if_within most bound (Value.Number n) less = within_if (nat_le n most) n most bound refl less
+number_if_within most bound value less = tt
+
 -- what holds of a part of any values holds of one that may be left out, and of each in a list
 
-part_has : {V : Type 0} (P : V → Type 0) (make : List Value → V) (size : ℕ) → ((values : List Value) → P (make values)) → (values : List Value)
-    → IfSome (part_of make size values).0 P
+part_has : {V : Type 0} (P : V → Type 0) (taken : List Value → V × List Value) → ((values : List Value) → P (taken values).0) → (values : List Value)
+    → IfSome (part_of taken values).0 P
 unfolding part_of
-part_has {V} P make size has values =
+part_has {V} P taken has values =
     elim (count_of (first values) == 0) as (λ test. IfSome (if◌then◌else◌ {A = Option V × List Value} test (None, rest values)
-    (Some (make (rest values)), skip size (rest values))).0 P) [ true ↦ tt | false ↦ has (rest values) ]
+    (Some (taken (rest values)).0, (taken (rest values)).1)).0 P) [ true ↦ tt | false ↦ has (rest values) ]
 
-each_has : {V : Type 0} (P : V → Type 0) (make : List Value → V) (size : ℕ) → ((values : List Value) → P (make values)) → (n : ℕ) (values : List Value)
-    → AllByRecursion P (each_of make size n values).0
-each_has P make size has zero values = tt
-each_has P make size has (suc n) values = (has values, each_has P make size has n (skip size values))
+each_has : {V : Type 0} (P : V → Type 0) (taken : List Value → V × List Value) → ((values : List Value) → P (taken values).0) → (n : ℕ)
+    (values : List Value) → AllByRecursion P (each_of taken n values).0
+each_has P taken has zero values = tt
+each_has P taken has (suc n) values = (has values, each_has P taken has n (taken values).1)
 
-list_has : {V : Type 0} (P : V → Type 0) (make : List Value → V) (size : ℕ) → ((values : List Value) → P (make values)) → (values : List Value)
-    → AllByRecursion P (list_of make size values).0
+list_has : {V : Type 0} (P : V → Type 0) (taken : List Value → V × List Value) → ((values : List Value) → P (taken values).0) → (values : List Value)
+    → AllByRecursion P (list_of taken values).0
 unfolding list_of
-list_has P make size has values = each_has P make size has (count_of (first values)) (rest values)
+list_has P taken has values = each_has P taken has (count_of (first values)) (rest values)
 
 firmware_fits : (values : List Value) → IsFittingFirmware (firmware_of values)
 firmware_fits values = record {
@@ -173,6 +189,20 @@ slot_fits values = record {
   bus = omega (arith, number_within 0xFF (value_at 5 values));
 }
 
+power_fits : (values : List Value) → IsFittingPower (power_of values)
+power_fits values = record {
+  sci = omega (arith, number_within 0xFFFF (value_at 0 values));
+  profile = omega (arith, number_within 0xFF (value_at 1 values));
+  event = omega (arith, number_within 0xFFFF (value_at 2 values));
+  control = omega (arith, number_within 0xFFFF (value_at 3 values));
+  timer = omega (arith, number_within 0xFFFF (value_at 4 values));
+  gpe = omega (arith, number_within 0xFFFF (value_at 5 values));
+  gpe_len = omega (arith, number_within 0xFF (value_at 6 values));
+  reset = omega (arith, number_within 0xFFFF (value_at 7 values));
+  reset_value = omega (arith, number_within 0xFF (value_at 8 values));
+  century = omega (arith, number_within 0xFF (value_at 9 values));
+}
+
 hpet_fits : (values : List Value) → IsFittingHpet (hpet_of values)
 hpet_fits values = record {
   address = omega (arith, number_within 0xFFFFFFFF (value_at 0 values));
@@ -181,19 +211,54 @@ hpet_fits values = record {
   min_tick = omega (arith, number_within 0xFFFF (value_at 3 values));
 }
 
+apic_fits : (values : List Value) → IsFittingApic (apic_of values)
+apic_fits values = omega (arith, number_within 0xFFFFFFFF (value_at 0 values))
+
+cpu_fits : (values : List Value) → IsFittingCpu (cpu_of values)
+cpu_fits values = record {
+  apic = omega (arith, number_within 0xFFFFFFFF (value_at 0 values));
+  node = omega (arith, number_within 0xFF (value_at 1 values));
+}
+
+io_apic_fits : (values : List Value) → IsFittingIoApic (io_apic_of values)
+io_apic_fits values = record {
+  id = omega (arith, number_within 0xFF (value_at 0 values));
+  address = omega (arith, number_within 0xFFFFFFFF (value_at 1 values));
+  gsi = omega (arith, number_within 0xFFFFFFFF (value_at 2 values));
+}
+
+override_fits : (values : List Value) → IsFittingOverride (override_of values)
+override_fits values = omega (arith, number_within 0xFFFFFFFF (value_at 1 values))
+
+nmi_fits : (values : List Value) → IsFittingNmi (nmi_of values)
+nmi_fits values = number_if_within 0xFFFFFFFF (2 ^ 32) (value_at 0 values) (omega arith)
+
+byte_fits : (values : List Value) → one_byte values < 2 ^ 8
+byte_fits values = omega (arith, number_within 0xFF (first values))
+
+numa_fits : (values : List Value) → IsFittingNuma (numa_taken values).0
+numa_fits values = list_has (λ distance. distance < 2 ^ 8) byte_taken byte_fits (skip 1 values)
+
 -- the machine of fitting values
 machine_fits : (values : List Value) → AreFitting values → HasFittingFields (machine_of values)
-unfolding front_of arrays_of machine_of
+unfolding front_of arrays_of tables_of entries_of acpi_parts_of rest_of machine_of
 machine_fits values fit =
-    let strings = list_of one_text 1 (skip 2 values) in
+    let strings = list_of text_taken (skip 2 values) in
     record {
       uuid = uuid_fits (value_at 6 (skip 1 strings.1))
           (first_fits (skip 6 (skip 1 strings.1)) (skip_fits 6 (skip 1 strings.1) (skip_fits 1 strings.1
-          (list_left one_text 1 (skip 2 values) (skip_fits 2 values fit)))));
-      firmware = part_has IsFittingFirmware firmware_of _ firmware_fits _;
-      sockets = list_has IsFittingSocket socket_of _ socket_fits _;
-      slots = list_has IsFittingSlot slot_of _ slot_fits _;
-      hpet = part_has IsFittingHpet hpet_of _ hpet_fits _;
+          (list_left text_taken rest_fits (skip 2 values) (skip_fits 2 values fit)))));
+      firmware = part_has IsFittingFirmware firmware_taken firmware_fits _;
+      sockets = list_has IsFittingSocket socket_taken socket_fits _;
+      slots = list_has IsFittingSlot slot_taken slot_fits _;
+      power = part_has IsFittingPower power_taken power_fits _;
+      hpet = part_has IsFittingHpet hpet_taken hpet_fits _;
+      apic = part_has IsFittingApic apic_taken apic_fits _;
+      cpus = list_has IsFittingCpu cpu_taken cpu_fits _;
+      io_apics = list_has IsFittingIoApic io_apic_taken io_apic_fits _;
+      overrides = list_has IsFittingOverride override_taken override_fits _;
+      nmis = list_has IsFittingNmi nmi_taken nmi_fits _;
+      numa = part_has IsFittingNuma numa_taken numa_fits _;
     }
 
 -- and so one that is read

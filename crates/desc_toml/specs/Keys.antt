@@ -1,5 +1,5 @@
 -- The keys of a machine's description, table by table, in the order in which they are walked.
-use Rattle.std.specs.Prelude.{codes, ℕ, false, List, [], ◌∷◌, Option, Some, None}
+use Rattle.std.specs.Prelude.{codes, ℕ, Bool, true, false, List, [], ◌∷◌, Option, Some, None}
 use Rattle.desc_schema.specs.declared.value.Value.{Value}
 use Rattle.desc_schema.specs.Form.{Field, Shape, One, Table, Tables, Values, Text, Number, Flag, Uuid}
 
@@ -21,6 +21,10 @@ number n name most default = key n name (One (Number 0 most)) (Some (Value.Numbe
 -- a number up to the most that must be there
 abbrev pub number_given : ℕ → List ℕ → ℕ → Field
 number_given n name most = key n name (One (Number 0 most)) None
+
+-- a boolean, and the one that stands where it is left out
+abbrev pub flag : ℕ → List ℕ → Bool → Field
+flag n name default = key n name (One Flag) (Some (Value.Flag default))
 
 -- a table that may be left out
 abbrev pub part : ℕ → List ℕ → ℕ → Field
@@ -46,7 +50,14 @@ root_keys =
     parts 9 (codes "range") 6 ∷
     parts 10 (codes "slot") 7 ∷
     part 11 (codes "acpi") 8 ∷
-    part 13 (codes "hpet") 10 ∷ []
+    part 12 (codes "power") 9 ∷
+    part 13 (codes "hpet") 10 ∷
+    part 14 (codes "apic") 11 ∷
+    parts 15 (codes "cpu") 12 ∷
+    parts 16 (codes "ioapic") 13 ∷
+    parts 17 (codes "override") 14 ∷
+    parts 18 (codes "nmi") 15 ∷
+    part 19 (codes "numa") 16 ∷ []
 
 -- table 1
 abbrev pub system_keys : List Field
@@ -116,7 +127,7 @@ slot_keys =
     text_or_none 0 (codes "designation") ∷
     number 1 (codes "kind") 0xFF 1 ∷
     number 2 (codes "width") 0xFF 1 ∷
-    key 3 (codes "used") (One Flag) (Some (Value.Flag false)) ∷
+    flag 3 (codes "used") false ∷
     number 4 (codes "id") 0xFFFF 0 ∷
     number 5 (codes "bus") 0xFF 0 ∷
     number 6 (codes "device") 0xFF 0 ∷
@@ -128,6 +139,21 @@ acpi_keys =
     text 0 (codes "oem_id") (codes "BOCHS") ∷
     text 1 (codes "oem_table_id") (codes "BXPC") ∷ []
 
+-- table 9: numbers of 16 and 8 bits
+abbrev pub power_keys : List Field
+power_keys =
+    number 0 (codes "sci") 0xFFFF 9 ∷
+    number 1 (codes "profile") 0xFF 0 ∷
+    number_given 2 (codes "event") 0xFFFF ∷
+    number_given 3 (codes "control") 0xFFFF ∷
+    number_given 4 (codes "timer") 0xFFFF ∷
+    number 5 (codes "gpe") 0xFFFF 0 ∷
+    number 6 (codes "gpe_len") 0xFF 0 ∷
+    number 7 (codes "reset") 0xFFFF 0 ∷
+    number 8 (codes "reset_value") 0xFF 0 ∷
+    number 9 (codes "century") 0xFF 0 ∷
+    flag 11 (codes "keyboard") true ∷ []
+
 -- table 10: numbers of 32, 32, 8 and 16 bits
 abbrev pub hpet_keys : List Field
 hpet_keys =
@@ -136,7 +162,48 @@ hpet_keys =
     number 2 (codes "number") 0xFF 0 ∷
     number 3 (codes "min_tick") 0xFFFF 100 ∷ []
 
--- the tables by their numbers; number 9 is no table yet, and has no keys
+-- table 11: an address of 32 bits
+abbrev pub apic_keys : List Field
+apic_keys =
+    number 0 (codes "local") 0xFFFFFFFF 0xFEE00000 ∷
+    flag 1 (codes "legacy") true ∷ []
+
+-- table 12: numbers of 32 and 8 bits
+abbrev pub cpu_keys : List Field
+cpu_keys =
+    number_given 0 (codes "apic") 0xFFFFFFFF ∷
+    number 1 (codes "node") 0xFF 0 ∷
+    flag 2 (codes "enabled") true ∷ []
+
+-- table 13: numbers of 8, 32 and 32 bits
+abbrev pub io_apic_keys : List Field
+io_apic_keys =
+    number_given 0 (codes "id") 0xFF ∷
+    number_given 1 (codes "address") 0xFFFFFFFF ∷
+    number 2 (codes "gsi") 0xFFFFFFFF 0 ∷ []
+
+-- table 14: numbers of 8, 32 and 16 bits
+abbrev pub override_keys : List Field
+override_keys =
+    number_given 0 (codes "irq") 0xFF ∷
+    number_given 1 (codes "gsi") 0xFFFFFFFF ∷
+    number 2 (codes "flags") 0xFFFF 0 ∷ []
+
+-- table 15: a number of 32 bits that may be left out, and numbers of 16 and 8
+abbrev pub nmi_keys : List Field
+nmi_keys =
+    key 0 (codes "cpu") (One (Number 0 0xFFFFFFFF)) (Some Value.Nothing) ∷
+    number 1 (codes "flags") 0xFFFF 0 ∷
+    number 2 (codes "lint") 0xFF 1 ∷ []
+
+-- table 16: a number of 8 bits, and numbers of 8 bits
+abbrev pub numa_keys : List Field
+numa_keys =
+    number_given 0 (codes "nodes") 0xFF ∷
+    key 1 (codes "distance") (Values (Number 0 0xFF)) None ∷ []
+
+-- the tables by their numbers
 abbrev pub schema : List (List Field)
 schema =
-    root_keys ∷ system_keys ∷ firmware_keys ∷ chassis_keys ∷ socket_keys ∷ dimm_keys ∷ range_keys ∷ slot_keys ∷ acpi_keys ∷ [] ∷ hpet_keys ∷ []
+    root_keys ∷ system_keys ∷ firmware_keys ∷ chassis_keys ∷ socket_keys ∷ dimm_keys ∷ range_keys ∷ slot_keys ∷ acpi_keys ∷ power_keys ∷ hpet_keys
+    ∷ apic_keys ∷ cpu_keys ∷ io_apic_keys ∷ override_keys ∷ nmi_keys ∷ numa_keys ∷ []

@@ -11,7 +11,9 @@ table_name table =
     if table == 0 then codes "root" else if table == 1 then codes "system" else if table == 2 then codes "firmware"
     else if table == 3 then codes "chassis" else if table == 4 then codes "socket" else if table == 5 then codes "dimm"
     else if table == 6 then codes "range" else if table == 7 then codes "slot" else if table == 8 then codes "acpi"
-    else if table == 10 then codes "hpet" else []
+    else if table == 9 then codes "power" else if table == 10 then codes "hpet" else if table == 11 then codes "apic"
+    else if table == 12 then codes "cpu" else if table == 13 then codes "ioapic" else if table == 14 then codes "override"
+    else if table == 15 then codes "nmi" else if table == 16 then codes "numa" else []
 
 -- a byte of a key, or a question mark for one that doesn't show
 abbrev pub shown_byte : ℕ → ℕ

@@ -1,14 +1,26 @@
 -- A machine from the values of its description, by their positions. A value of another kind stands for nothing: no walk gives one.
 use Rattle.std.specs.Prelude.{ℕ, zero, suc, List, [], ◌∷◌, length, Option, Some, None, ◌==◌, if◌then◌else◌}
 use Rattle.desc_schema.specs.declared.value.Value.{Value}
-use Rattle.desc_schema.specs.Taken.{first, rest, skip, value_at, text_of, number_to, flag_of, uuid_if, count_of}
-use Rattle.desc_toml.specs.Keys.{system_keys, firmware_keys, chassis_keys, socket_keys, dimm_keys, range_keys, slot_keys, acpi_keys, hpet_keys}
+use Rattle.desc_schema.specs.Taken.{first, rest, skip, value_at, text_of, number_to, number_if, flag_of, uuid_if, count_of}
+use Rattle.desc_toml.specs.Keys.{system_keys, firmware_keys, chassis_keys, socket_keys, dimm_keys, range_keys, slot_keys, acpi_keys, power_keys, hpet_keys}
+use Rattle.desc_toml.specs.Keys.{apic_keys, cpu_keys, io_apic_keys, override_keys, nmi_keys}
 use Rattle.desc_toml.specs.declared.machine.Front.{Front}
 use Rattle.desc_toml.specs.declared.machine.Arrays.{Arrays}
+use Rattle.desc_toml.specs.declared.machine.Tables.{Tables}
+use Rattle.desc_toml.specs.declared.machine.Entries.{Entries}
+use Rattle.desc_toml.specs.declared.machine.AcpiParts.{AcpiParts}
+use Rattle.desc_toml.specs.declared.machine.Rest.{Rest}
 use Rattle.machine_desc.specs.declared.machine.Machine.{Machine}
 use Rattle.machine_desc.specs.declared.machine.System.{System}
 use Rattle.machine_desc.specs.declared.machine.Acpi.{Acpi}
 use Rattle.machine_desc.specs.declared.machine.Hpet.{Hpet}
+use Rattle.machine_desc.specs.declared.acpi_parts.Power.{Power}
+use Rattle.machine_desc.specs.declared.acpi_parts.Apic.{Apic}
+use Rattle.machine_desc.specs.declared.acpi_parts.Cpu.{Cpu}
+use Rattle.machine_desc.specs.declared.acpi_parts.IoApic.{IoApic}
+use Rattle.machine_desc.specs.declared.acpi_parts.Override.{Override}
+use Rattle.machine_desc.specs.declared.acpi_parts.Nmi.{Nmi}
+use Rattle.machine_desc.specs.declared.acpi_parts.Numa.{Numa}
 use Rattle.machine_desc.specs.declared.smbios_parts.Firmware.{Firmware}
 use Rattle.machine_desc.specs.declared.smbios_parts.Chassis.{Chassis}
 use Rattle.machine_desc.specs.declared.smbios_parts.Socket.{Socket}
@@ -16,24 +28,35 @@ use Rattle.machine_desc.specs.declared.smbios_parts.Dimm.{Dimm}
 use Rattle.machine_desc.specs.declared.smbios_parts.MemRange.{MemRange}
 use Rattle.machine_desc.specs.declared.smbios_parts.Slot.{Slot}
 
--- a table that may be left out, of so many values, and what follows it
-unfoldable pub part_of : {V : Type 0} → (List Value → V) → ℕ → List Value → Option V × List Value
-part_of make size values = if count_of (first values) == 0 then (None, rest values) else (Some (make (rest values)), skip size (rest values))
+-- What is taken from the front of values: what is made of them, and those that follow. A part of a fixed number of values:
+abbrev pub fixed : {V : Type 0} → (List Value → V) → ℕ → List Value → V × List Value
+fixed make size values = (make values, skip size values)
 
--- so many parts of so many values each, and what follows them
-abbrev pub each_of : {V : Type 0} → (List Value → V) → ℕ → ℕ → List Value → List V × List Value
-each_of make size zero values = ([], values)
-each_of make size (suc n) values =
-    let others = each_of make size n (skip size values) in
-    (make values ∷ others.0, others.1)
+-- a table that may be left out, and what follows it
+unfoldable pub part_of : {V : Type 0} → (List Value → V × List Value) → List Value → Option V × List Value
+part_of taken values =
+    if count_of (first values) == 0 then (None, rest values) else (Some (taken (rest values)).0, (taken (rest values)).1)
 
--- an array: how many parts it has, then each of them, of so many values; and what follows it
-unfoldable pub list_of : {V : Type 0} → (List Value → V) → ℕ → List Value → List V × List Value
-list_of make size values = each_of make size (count_of (first values)) (rest values)
+-- so many parts, and what follows them
+abbrev pub each_of : {V : Type 0} → (List Value → V × List Value) → ℕ → List Value → List V × List Value
+each_of taken zero values = ([], values)
+each_of taken (suc n) values =
+    let others = each_of taken n (taken values).1 in
+    ((taken values).0 ∷ others.0, others.1)
+
+-- an array: how many parts it has, then each of them; and what follows it
+unfoldable pub list_of : {V : Type 0} → (List Value → V × List Value) → List Value → List V × List Value
+list_of taken values = each_of taken (count_of (first values)) (rest values)
 
 -- a text alone
 abbrev pub one_text : List Value → List ℕ
 one_text values = text_of (first values)
+
+-- a number of 8 bits alone
+abbrev pub one_byte : List Value → ℕ
+one_byte values = number_to 0xFF (first values)
+
+-- the parts by their keys
 
 abbrev pub system_of : List Value → System
 system_of values = record {
@@ -112,6 +135,21 @@ slot_of values = record {
 abbrev pub acpi_of : List Value → Acpi
 acpi_of values = record { oem_id = text_of (value_at 0 values); oem_table_id = text_of (value_at 1 values) }
 
+abbrev pub power_of : List Value → Power
+power_of values = record {
+  sci = number_to 0xFFFF (value_at 0 values);
+  profile = number_to 0xFF (value_at 1 values);
+  event = number_to 0xFFFF (value_at 2 values);
+  control = number_to 0xFFFF (value_at 3 values);
+  timer = number_to 0xFFFF (value_at 4 values);
+  gpe = number_to 0xFFFF (value_at 5 values);
+  gpe_len = number_to 0xFF (value_at 6 values);
+  reset = number_to 0xFFFF (value_at 7 values);
+  reset_value = number_to 0xFF (value_at 8 values);
+  century = number_to 0xFF (value_at 9 values);
+  keyboard = flag_of (value_at 10 values);
+}
+
 abbrev pub hpet_of : List Value → Hpet
 hpet_of values = record {
   address = number_to 0xFFFFFFFF (value_at 0 values);
@@ -120,17 +158,108 @@ hpet_of values = record {
   min_tick = number_to 0xFFFF (value_at 3 values);
 }
 
+abbrev pub apic_of : List Value → Apic
+apic_of values = record { local = number_to 0xFFFFFFFF (value_at 0 values); legacy = flag_of (value_at 1 values) }
+
+abbrev pub cpu_of : List Value → Cpu
+cpu_of values = record {
+  apic = number_to 0xFFFFFFFF (value_at 0 values);
+  node = number_to 0xFF (value_at 1 values);
+  enabled = flag_of (value_at 2 values);
+}
+
+abbrev pub io_apic_of : List Value → IoApic
+io_apic_of values = record {
+  id = number_to 0xFF (value_at 0 values);
+  address = number_to 0xFFFFFFFF (value_at 1 values);
+  gsi = number_to 0xFFFFFFFF (value_at 2 values);
+}
+
+abbrev pub override_of : List Value → Override
+override_of values = record {
+  irq = number_to 0xFF (value_at 0 values);
+  gsi = number_to 0xFFFFFFFF (value_at 1 values);
+  flags = number_to 0xFFFF (value_at 2 values);
+}
+
+abbrev pub nmi_of : List Value → Nmi
+nmi_of values = record {
+  cpu = number_if 0xFFFFFFFF (value_at 0 values);
+  flags = number_to 0xFFFF (value_at 1 values);
+  lint = number_to 0xFF (value_at 2 values);
+}
+
+-- each part with what follows it
+
+abbrev pub text_taken : List Value → List ℕ × List Value
+text_taken values = fixed one_text 1 values
+
+abbrev pub system_taken : List Value → System × List Value
+system_taken values = fixed system_of (length system_keys) values
+
+abbrev pub firmware_taken : List Value → Firmware × List Value
+firmware_taken values = fixed firmware_of (length firmware_keys) values
+
+abbrev pub chassis_taken : List Value → Chassis × List Value
+chassis_taken values = fixed chassis_of (length chassis_keys) values
+
+abbrev pub socket_taken : List Value → Socket × List Value
+socket_taken values = fixed socket_of (length socket_keys) values
+
+abbrev pub dimm_taken : List Value → Dimm × List Value
+dimm_taken values = fixed dimm_of (length dimm_keys) values
+
+abbrev pub range_taken : List Value → MemRange × List Value
+range_taken values = fixed range_of (length range_keys) values
+
+abbrev pub slot_taken : List Value → Slot × List Value
+slot_taken values = fixed slot_of (length slot_keys) values
+
+abbrev pub acpi_taken : List Value → Acpi × List Value
+acpi_taken values = fixed acpi_of (length acpi_keys) values
+
+abbrev pub power_taken : List Value → Power × List Value
+power_taken values = fixed power_of (length power_keys) values
+
+abbrev pub hpet_taken : List Value → Hpet × List Value
+hpet_taken values = fixed hpet_of (length hpet_keys) values
+
+abbrev pub apic_taken : List Value → Apic × List Value
+apic_taken values = fixed apic_of (length apic_keys) values
+
+abbrev pub cpu_taken : List Value → Cpu × List Value
+cpu_taken values = fixed cpu_of (length cpu_keys) values
+
+abbrev pub io_apic_taken : List Value → IoApic × List Value
+io_apic_taken values = fixed io_apic_of (length io_apic_keys) values
+
+abbrev pub override_taken : List Value → Override × List Value
+override_taken values = fixed override_of (length override_keys) values
+
+abbrev pub nmi_taken : List Value → Nmi × List Value
+nmi_taken values = fixed nmi_of (length nmi_keys) values
+
+abbrev pub byte_taken : List Value → ℕ × List Value
+byte_taken values = fixed one_byte 1 values
+
+-- a number, and as many more as their count says
+abbrev pub numa_taken : List Value → Numa × List Value
+numa_taken values =
+    let distance = list_of byte_taken (skip 1 values) in
+    (record { nodes = number_to 0xFF (value_at 0 values); distance = distance.0 }, distance.1)
+
 -- The version, the top, the texts of the maker, the one table of the system, and two tables that may be left out, each behind what stands
 -- before it; and what follows them.
 unfoldable pub front_of : List Value → Front × List Value
 front_of values =
-    let oem_strings = list_of one_text 1 (skip 2 values) in
-    let firmware = part_of firmware_of (length firmware_keys) (skip (length system_keys) (skip 1 oem_strings.1)) in
-    let chassis = part_of chassis_of (length chassis_keys) firmware.1 in (
+    let oem_strings = list_of text_taken (skip 2 values) in
+    let system = system_taken (skip 1 oem_strings.1) in
+    let firmware = part_of firmware_taken system.1 in
+    let chassis = part_of chassis_taken firmware.1 in (
       record {
         top_mib = number_to 0xFFFFFFFF (value_at 1 values);
         oem_strings = oem_strings.0;
-        system = system_of (skip 1 oem_strings.1);
+        system = system.0;
         firmware = firmware.0;
         chassis = chassis.0;
       },
@@ -140,32 +269,69 @@ front_of values =
 -- the arrays, one after the other, and what follows them
 unfoldable pub arrays_of : List Value → Arrays × List Value
 arrays_of values =
-    let sockets = list_of socket_of (length socket_keys) values in
-    let dimms = list_of dimm_of (length dimm_keys) sockets.1 in
-    let ranges = list_of range_of (length range_keys) dimms.1 in
-    let slots = list_of slot_of (length slot_keys) ranges.1 in
+    let sockets = list_of socket_taken values in
+    let dimms = list_of dimm_taken sockets.1 in
+    let ranges = list_of range_taken dimms.1 in
+    let slots = list_of slot_taken ranges.1 in
     (record { sockets = sockets.0; dimms = dimms.0; ranges = ranges.0; slots = slots.0 }, slots.1)
 
-abbrev pub joined : Front → Arrays → Option Acpi → Option Hpet → Machine
-joined front arrays acpi hpet = record {
+-- the tables about ACPI, one after the other, each of which may be left out, and what follows them
+unfoldable pub tables_of : List Value → Tables × List Value
+tables_of values =
+    let acpi = part_of acpi_taken values in
+    let power = part_of power_taken acpi.1 in
+    let hpet = part_of hpet_taken power.1 in
+    let apic = part_of apic_taken hpet.1 in
+    (record { acpi = acpi.0; power = power.0; hpet = hpet.0; apic = apic.0 }, apic.1)
+
+-- the arrays about ACPI, one after the other, and the table that has one; and what follows them
+unfoldable pub entries_of : List Value → Entries × List Value
+entries_of values =
+    let cpus = list_of cpu_taken values in
+    let io_apics = list_of io_apic_taken cpus.1 in
+    let overrides = list_of override_taken io_apics.1 in
+    let nmis = list_of nmi_taken overrides.1 in
+    let numa = part_of numa_taken nmis.1 in
+    (record { cpus = cpus.0; io_apics = io_apics.0; overrides = overrides.0; nmis = nmis.0; numa = numa.0 }, numa.1)
+
+-- these tables and arrays
+unfoldable pub acpi_parts_of : List Value → AcpiParts × List Value
+acpi_parts_of values =
+    let tables = tables_of values in
+    let entries = entries_of tables.1 in
+    (record { tables = tables.0; entries = entries.0 }, entries.1)
+
+-- the arrays, and what is about ACPI
+unfoldable pub rest_of : List Value → Rest × List Value
+rest_of values =
+    let arrays = arrays_of values in
+    let acpi_parts = acpi_parts_of arrays.1 in
+    (record { arrays = arrays.0; acpi_parts = acpi_parts.0 }, acpi_parts.1)
+
+abbrev pub joined : Front → Rest → Machine
+joined front rest = record {
   top_mib = front.top_mib;
   oem_strings = front.oem_strings;
   system = front.system;
   firmware = front.firmware;
   chassis = front.chassis;
-  sockets = arrays.sockets;
-  dimms = arrays.dimms;
-  ranges = arrays.ranges;
-  slots = arrays.slots;
-  acpi = acpi;
-  hpet = hpet;
+  sockets = rest.arrays.sockets;
+  dimms = rest.arrays.dimms;
+  ranges = rest.arrays.ranges;
+  slots = rest.arrays.slots;
+  acpi = rest.acpi_parts.tables.acpi;
+  power = rest.acpi_parts.tables.power;
+  hpet = rest.acpi_parts.tables.hpet;
+  apic = rest.acpi_parts.tables.apic;
+  cpus = rest.acpi_parts.entries.cpus;
+  io_apics = rest.acpi_parts.entries.io_apics;
+  overrides = rest.acpi_parts.entries.overrides;
+  nmis = rest.acpi_parts.entries.nmis;
+  numa = rest.acpi_parts.entries.numa;
 }
 
--- what stands before the arrays, these, and two tables that may be left out
+-- what stands before the arrays, and what stands there and behind
 unfoldable pub machine_of : List Value → Machine
 machine_of values =
     let front = front_of values in
-    let arrays = arrays_of front.1 in
-    let acpi = part_of acpi_of (length acpi_keys) arrays.1 in
-    let hpet = part_of hpet_of (length hpet_keys) acpi.1 in
-    joined front.0 arrays.0 acpi.0 hpet.0
+    joined front.0 (rest_of front.1).0

@@ -92,7 +92,14 @@ fn table_name(table: u8) -> &'static str
         6 => "range",
         7 => "slot",
         8 => "acpi",
+        9 => "power",
         10 => "hpet",
+        11 => "apic",
+        12 => "cpu",
+        13 => "ioapic",
+        14 => "override",
+        15 => "nmi",
+        16 => "numa",
         _ => "",
     }
 }

@@ -1,11 +1,14 @@
 //! A machine from the values of its description, which are taken out one after the other.
 
 ghost use Rattle.std.specs.Prelude.{◌≡◌, IfOk};
-ghost use Rattle.desc_toml.specs.Values.{part_of, list_of, front_of, arrays_of, joined, machine_of};
+ghost use Rattle.desc_toml.specs.Values.{front_of, arrays_of, tables_of, entries_of, acpi_parts_of, rest_of, joined, machine_of};
 
-use crate::parts::Part;
+use crate::parts::{Part, list_of, part_of};
 use desc_schema::Values;
-use machine_desc::{Acpi, Chassis, Dimm, Firmware, Hpet, Machine, MemRange, Slot, Socket, System};
+use machine_desc::{
+    Acpi, Apic, Chassis, Cpu, Dimm, Firmware, Hpet, IoApic, Machine, MemRange, Nmi, Numa, Override,
+    Power, Slot, Socket, System,
+};
 use std::alloc::Global;
 use vt_outside::{List, OutOfMemory, Text};
 
@@ -28,18 +31,47 @@ struct Arrays {
     slots: List<Slot>,
 }
 
+// The tables of a machine that are about ACPI.
+#[derive(Drop)]
+struct Tables {
+    acpi: Option<Acpi>,
+    power: Option<Power>,
+    hpet: Option<Hpet>,
+    apic: Option<Apic>,
+}
+
+// The arrays of a machine that are about ACPI, and the table that has one.
+#[derive(Drop)]
+struct Entries {
+    cpus: List<Cpu>,
+    io_apics: List<IoApic>,
+    overrides: List<Override>,
+    nmis: List<Nmi>,
+    numa: Option<Numa>,
+}
+
+// What a machine has that is about ACPI.
+#[derive(Drop)]
+struct AcpiParts {
+    tables: Tables,
+    entries: Entries,
+}
+
+// What a machine has from its arrays on.
+#[derive(Drop)]
+struct Rest {
+    arrays: Arrays,
+    acpi_parts: AcpiParts,
+}
+
 // The machine of these values. It is made in parts, since the proof of a function grows steeply with the values that it owns at a `?`.
 #[tactic(auto, unfolding(crate::specs::Values::machine_of))]
 pub(crate) fn machine_of(alloc: Global, values: &mut Values) -> Result<Machine, OutOfMemory>
     ensures { IfOk result (λ machine. machine ≡ machine_of values.old) }
 {
     let front = front_of(alloc, values)?;
-    match arrays_of(alloc, values) {
-        Ok(arrays) => {
-            let acpi = part_of(alloc, values);
-            let hpet = part_of(alloc, values);
-            Ok(joined(front, arrays, acpi, hpet))
-        }
+    match rest_of(alloc, values) {
+        Ok(rest) => Ok(joined(front, rest)),
         Err(error) => {
             // Given up by a call, since each of its parts would be a step of this proof if it ended in place.
             drop(front);
@@ -49,9 +81,11 @@ pub(crate) fn machine_of(alloc: Global, values: &mut Values) -> Result<Machine, 
 }
 
 // The machine of these parts.
-fn joined(front: Front, arrays: Arrays, acpi: Option<Acpi>, hpet: Option<Hpet>) -> Machine
-    ensures { result ≡ joined front arrays acpi hpet }
+fn joined(front: Front, rest: Rest) -> Machine
+    ensures { result ≡ joined front rest }
 {
+    let Rest { arrays, acpi_parts } = rest;
+    let AcpiParts { tables, entries } = acpi_parts;
     Machine {
         top_mib: front.top_mib,
         oem_strings: front.oem_strings,
@@ -62,8 +96,15 @@ fn joined(front: Front, arrays: Arrays, acpi: Option<Acpi>, hpet: Option<Hpet>) 
         dimms: arrays.dimms,
         ranges: arrays.ranges,
         slots: arrays.slots,
-        acpi,
-        hpet,
+        acpi: tables.acpi,
+        power: tables.power,
+        hpet: tables.hpet,
+        apic: tables.apic,
+        cpus: entries.cpus,
+        io_apics: entries.io_apics,
+        overrides: entries.overrides,
+        nmis: entries.nmis,
+        numa: entries.numa,
     }
 }
 
@@ -79,10 +120,40 @@ fn front_of(alloc: Global, values: &mut Values) -> Result<Front, OutOfMemory>
     Ok(Front {
         top_mib,
         oem_strings,
-        system: System::take(alloc, values),
-        firmware: part_of(alloc, values),
-        chassis: part_of(alloc, values),
+        system: System::take(alloc, values)?,
+        firmware: part_of(alloc, values)?,
+        chassis: part_of(alloc, values)?,
     })
+}
+
+// What a machine has from its arrays on.
+#[tactic(auto, unfolding(crate::specs::Values::rest_of))]
+fn rest_of(alloc: Global, values: &mut Values) -> Result<Rest, OutOfMemory>
+    ensures { IfOk result (λ rest. (rest, values.new) ≡ rest_of values.old) }
+{
+    let arrays = arrays_of(alloc, values)?;
+    match acpi_parts_of(alloc, values) {
+        Ok(acpi_parts) => Ok(Rest { arrays, acpi_parts }),
+        Err(error) => {
+            drop(arrays);
+            Err(error)
+        }
+    }
+}
+
+// What a machine has that is about ACPI.
+#[tactic(auto, unfolding(crate::specs::Values::acpi_parts_of))]
+fn acpi_parts_of(alloc: Global, values: &mut Values) -> Result<AcpiParts, OutOfMemory>
+    ensures { IfOk result (λ parts. (parts, values.new) ≡ acpi_parts_of values.old) }
+{
+    let tables = tables_of(alloc, values)?;
+    match entries_of(alloc, values) {
+        Ok(entries) => Ok(AcpiParts { tables, entries }),
+        Err(error) => {
+            drop(tables);
+            Err(error)
+        }
+    }
 }
 
 // The arrays of a machine.
@@ -98,25 +169,29 @@ fn arrays_of(alloc: Global, values: &mut Values) -> Result<Arrays, OutOfMemory>
     })
 }
 
-// A table that may be left out.
-#[tactic(auto, unfolding(crate::specs::Values::part_of))]
-fn part_of<T: Part>(alloc: Global, values: &mut Values) -> Option<T>
-    ensures { (result, values.new) ≡ part_of T.make T.size values.old }
+// The tables that are about ACPI.
+#[tactic(auto, unfolding(crate::specs::Values::tables_of))]
+fn tables_of(alloc: Global, values: &mut Values) -> Result<Tables, OutOfMemory>
+    ensures { IfOk result (λ tables. (tables, values.new) ≡ tables_of values.old) }
 {
-    if values.take_count() == 0 {
-        return None;
-    }
-    Some(T::take(alloc, values))
+    Ok(Tables {
+        acpi: part_of(alloc, values)?,
+        power: part_of(alloc, values)?,
+        hpet: part_of(alloc, values)?,
+        apic: part_of(alloc, values)?,
+    })
 }
 
-// An array.
-fn list_of<T: Part>(alloc: Global, values: &mut Values) -> Result<List<T>, OutOfMemory>
-    ensures { IfOk result (λ list. (list, values.new) ≡ list_of T.make T.size values.old) }
+// The arrays that are about ACPI, and the table that has one.
+#[tactic(auto, unfolding(crate::specs::Values::entries_of))]
+fn entries_of(alloc: Global, values: &mut Values) -> Result<Entries, OutOfMemory>
+    ensures { IfOk result (λ entries. (entries, values.new) ≡ entries_of values.old) }
 {
-    let count = values.take_count();
-    let mut list = List::new(alloc);
-    for _ in 0..count {
-        list.push(T::take(alloc, values))?;
-    }
-    Ok(list)
+    Ok(Entries {
+        cpus: list_of(alloc, values)?,
+        io_apics: list_of(alloc, values)?,
+        overrides: list_of(alloc, values)?,
+        nmis: list_of(alloc, values)?,
+        numa: part_of(alloc, values)?,
+    })
 }

@@ -46,6 +46,17 @@ macro_rules! number {
     };
 }
 
+macro_rules! flag {
+    ($number:literal, $name:literal, $default:literal) => {
+        key!(
+            $number,
+            $name,
+            Kind::One(Scalar::Flag),
+            Otherwise::Flag($default)
+        )
+    };
+}
+
 // A table that may be left out.
 macro_rules! part {
     ($number:literal, $name:literal, $table:literal) => {
@@ -62,6 +73,10 @@ macro_rules! parts {
 
 const VERSION: Kind = Kind::One(Scalar::Number(1, 1));
 
+const ANY_U32: Kind = Kind::One(Scalar::Number(0, 0xFFFF_FFFF));
+
+const BYTES: Kind = Kind::Values(Scalar::Number(0, 0xFF));
+
 const TEXTS: Kind = Kind::Values(Scalar::Text);
 
 // A line for each key, which begins with its number. Numbers that no line has are those of keys that are still to come.
@@ -77,7 +92,14 @@ const ROOT: &[Key] = &[
     parts!(9, "range", 6),
     parts!(10, "slot", 7),
     part!(11, "acpi", 8),
+    part!(12, "power", 9),
     part!(13, "hpet", 10),
+    part!(14, "apic", 11),
+    parts!(15, "cpu", 12),
+    parts!(16, "ioapic", 13),
+    parts!(17, "override", 14),
+    parts!(18, "nmi", 15),
+    part!(19, "numa", 16),
 ];
 
 const SYSTEM: &[Key] = &[
@@ -140,7 +162,7 @@ const SLOT: &[Key] = &[
     text!(0, "designation"),
     number!(1, "kind", 0xFF, 1),
     number!(2, "width", 0xFF, 1),
-    key!(3, "used", Kind::One(Scalar::Flag), Otherwise::Flag(false)),
+    flag!(3, "used", false),
     number!(4, "id", 0xFFFF, 0),
     number!(5, "bus", 0xFF, 0),
     number!(6, "device", 0xFF, 0),
@@ -152,6 +174,20 @@ const ACPI: &[Key] = &[
     text!(1, "oem_table_id", "BXPC"),
 ];
 
+const POWER: &[Key] = &[
+    number!(0, "sci", 0xFFFF, 9),
+    number!(1, "profile", 0xFF, 0),
+    number!(2, "event", 0xFFFF),
+    number!(3, "control", 0xFFFF),
+    number!(4, "timer", 0xFFFF),
+    number!(5, "gpe", 0xFFFF, 0),
+    number!(6, "gpe_len", 0xFF, 0),
+    number!(7, "reset", 0xFFFF, 0),
+    number!(8, "reset_value", 0xFF, 0),
+    number!(9, "century", 0xFF, 0),
+    flag!(11, "keyboard", true),
+];
+
 const HPET: &[Key] = &[
     number!(0, "address", 0xFFFF_FFFF, 0xFED0_0000),
     number!(1, "block_id", 0xFFFF_FFFF, 0x8086_A201),
@@ -159,7 +195,41 @@ const HPET: &[Key] = &[
     number!(3, "min_tick", 0xFFFF, 100),
 ];
 
-// A table's number is its place here. A table that is still to come has its number, and no keys: no key leads to it.
+const APIC: &[Key] = &[
+    number!(0, "local", 0xFFFF_FFFF, 0xFEE0_0000),
+    flag!(1, "legacy", true),
+];
+
+const CPU: &[Key] = &[
+    number!(0, "apic", 0xFFFF_FFFF),
+    number!(1, "node", 0xFF, 0),
+    flag!(2, "enabled", true),
+];
+
+const IO_APIC: &[Key] = &[
+    number!(0, "id", 0xFF),
+    number!(1, "address", 0xFFFF_FFFF),
+    number!(2, "gsi", 0xFFFF_FFFF, 0),
+];
+
+const OVERRIDE: &[Key] = &[
+    number!(0, "irq", 0xFF),
+    number!(1, "gsi", 0xFFFF_FFFF),
+    number!(2, "flags", 0xFFFF, 0),
+];
+
+const NMI: &[Key] = &[
+    key!(0, "cpu", ANY_U32, Otherwise::Nothing),
+    number!(1, "flags", 0xFFFF, 0),
+    number!(2, "lint", 0xFF, 1),
+];
+
+const NUMA: &[Key] = &[
+    number!(0, "nodes", 0xFF),
+    key!(1, "distance", BYTES, Otherwise::Required),
+];
+
+// A table's number is its place here.
 pub(crate) const SCHEMA: &[TableSchema] = &[
     TableSchema { keys: ROOT },
     TableSchema { keys: SYSTEM },
@@ -170,6 +240,12 @@ pub(crate) const SCHEMA: &[TableSchema] = &[
     TableSchema { keys: RANGE },
     TableSchema { keys: SLOT },
     TableSchema { keys: ACPI },
-    TableSchema { keys: &[] },
+    TableSchema { keys: POWER },
     TableSchema { keys: HPET },
+    TableSchema { keys: APIC },
+    TableSchema { keys: CPU },
+    TableSchema { keys: IO_APIC },
+    TableSchema { keys: OVERRIDE },
+    TableSchema { keys: NMI },
+    TableSchema { keys: NUMA },
 ];

@@ -1,5 +1,5 @@
 -- What the rules say of an accepted machine: each is kept, so lists are short, texts are lawful, and the numbers of ranges fit.
-use Rattle.std.proofs.Common.{◌≡◌, ℕ, ◌^◌, ◌≤◌, Bool, true, false, ◌&&◌, ◌||◌, List, [], ◌∷◌, get_or, map, filter, None, cond, nat_le}
+use Rattle.std.proofs.Common.{◌≡◌, ℕ, ◌^◌, ◌≤◌, Bool, true, false, ◌&&◌, ◌||◌, List, [], ◌∷◌, get_or, map, filter, None, IsSome, is_some, cond, nat_le}
 use Rattle.std.proofs.Common.{◌==◌, ⊎_elim, refl, sym, ◌∙◌, arith}
 use Rattle.std.proofs.lemmas.Bool.{and_parts, leb-true, lt-ltb, cases_lt}
 use Rattle.std.specs.List.{list_all, zip, AllByRecursion}
@@ -7,7 +7,8 @@ use Rattle.std.specs.Option.{option_map_or}
 use Rattle.machine_desc.specs.declared.machine.Machine.{Machine}
 use Rattle.machine_desc.specs.declared.smbios_parts.MemRange.{MemRange}
 use Rattle.machine_desc.specs.Rules.{first_failing, only_at, is_text, text_parts, texts_of, counts, is_own_uuid, end_of, with_ends, is_lawful_range}
-use Rattle.machine_desc.specs.Rules.{is_low, is_empty, are_joined, is_memory, breaches, breach_of, IsAccepted}
+use Rattle.machine_desc.specs.Rules.{is_low, is_empty, are_joined, is_memory, is_met, parts_on_acpi, lists_on_apic, breaches, breach_of, IsAccepted}
+use Rattle.machine_desc.specs.Rules.{is_node, node_count, nodes_of, is_lawful_numa}
 use Rattle.machine_desc.specs.Fields.{IsFittingRange}
 use Rattle.machine_desc.proofs.Addresses.{joined_up}
 use Rattle.machine_desc.proofs.AllTexts.{all_of_each}
@@ -40,6 +41,43 @@ texts_at m accepted place =
 
 pub own_uuid : (m : Machine) → IsAccepted m → option_map_or is_own_uuid m.system.uuid true ≡ true
 own_uuid m accepted = holds_where_kept 0 (option_map_or is_own_uuid m.system.uuid true) (kept m accepted 4)
+
+-- what a part needs is there where the part is
+met : (needed there : Bool) → is_met needed there ≡ true → there ≡ true → needed ≡ true
+met true there is here = refl
+met false true is here = absurd (cc)
+met false false is here = absurd (cc)
+
+-- a machine with a part that needs ACPI tables, at the part's index in the rule, has them
+pub needs_acpi : (m : Machine) → IsAccepted m → (index : ℕ) → get_or (parts_on_acpi m) index false ≡ true → IsSome m.acpi
+needs_acpi m accepted index there =
+    let all = each_kept m accepted 13 (is_met (is_some m.acpi)) (parts_on_acpi m) refl in
+    met (is_some m.acpi) (get_or (parts_on_acpi m) index false) (passing_at (is_met (is_some m.acpi)) (parts_on_acpi m) index false all refl) there
+
+pub power_needs_acpi : (m : Machine) → IsAccepted m → IsSome m.power → IsSome m.acpi
+power_needs_acpi m accepted some = needs_acpi m accepted 0 some
+
+pub hpet_needs_acpi : (m : Machine) → IsAccepted m → IsSome m.hpet → IsSome m.acpi
+hpet_needs_acpi m accepted some = needs_acpi m accepted 1 some
+
+pub apic_needs_acpi : (m : Machine) → IsAccepted m → IsSome m.apic → IsSome m.acpi
+apic_needs_acpi m accepted some = needs_acpi m accepted 2 some
+
+pub numa_needs_acpi : (m : Machine) → IsAccepted m → IsSome m.numa → IsSome m.acpi
+numa_needs_acpi m accepted some = needs_acpi m accepted 3 some
+
+-- a machine with elements in a list that needs interrupt controllers, at the list's index in the rule, has them
+pub needs_apic : (m : Machine) → IsAccepted m → (index : ℕ) → get_or (lists_on_apic m) index false ≡ true → IsSome m.apic
+needs_apic m accepted index there =
+    let all = each_kept m accepted 15 (is_met (is_some m.apic)) (lists_on_apic m) refl in
+    met (is_some m.apic) (get_or (lists_on_apic m) index false) (passing_at (is_met (is_some m.apic)) (lists_on_apic m) index false all refl) there
+
+-- the nodes of processors and ranges are there
+pub nodes_are_there : (m : Machine) → IsAccepted m → list_all (is_node (node_count m.numa)) (nodes_of m) ≡ true
+nodes_are_there m accepted = each_kept m accepted 24 (is_node (node_count m.numa)) (nodes_of m) refl
+
+pub lawful_numa : (m : Machine) → IsAccepted m → option_map_or is_lawful_numa m.numa true ≡ true
+lawful_numa m accepted = holds_where_kept 0 (option_map_or is_lawful_numa m.numa true) (kept m accepted 23)
 
 -- where a range ends that begins below 4 GiB, and those behind it are joined
 record IsJoined (r : MemRange) (top : ℕ) (others : List MemRange) : Type 0 where

@@ -1,15 +1,18 @@
 -- The index at which a machine breaks a rule is a small number.
-use Rattle.std.proofs.Common.{◌≡◌, ℕ, ◌<◌, ◌≤◌, Bool, true, false, List, [], ◌∷◌, length, get_or, drop, map, Option, Some, None, refl, ◌∙◌, subst, arith, if◌then◌else◌}
-use Rattle.std.proofs.lemmas.List.{at_drop_more}
+use Rattle.std.proofs.Common.{◌≡◌, ℕ, ◌+◌, ◌<◌, ◌≤◌, Bool, true, false, ◌&&◌, List, [], ◌∷◌, length, get_or, drop, map, Option, Some, None, refl, ◌∙◌, subst, arith, is_some, if◌then◌else◌}
+use Rattle.std.proofs.lemmas.List.{at_drop_more, length-map, length-append}
+use Rattle.std.proofs.lemmas.List.FromFn.{length-enumerate_from}
 use Rattle.std.proofs.lemmas.Option.{same_Some}
 use Rattle.std.proofs.lemmas.Bool.{leb-true}
-use Rattle.std.specs.List.{zip}
+use Rattle.std.specs.List.{zip, enumerate_from}
 use Rattle.std.specs.Option.{option_map_or}
 use Rattle.machine_desc.specs.declared.machine.Machine.{Machine}
 use Rattle.machine_desc.specs.declared.machine.Acpi.{Acpi}
 use Rattle.machine_desc.specs.declared.machine.Broken.{Broken}
+use Rattle.machine_desc.proofs.Kept.{each_is_kept}
 use Rattle.machine_desc.proofs.Passing.{failing_within, all_pass, passing_at, ◌⨾◌}
-use Rattle.machine_desc.specs.Rules.{first_broken, only_at, first_failing, is_padded_text, breach_of_acpi, breaches, broken_rule, counts, is_within, with_ends, end_of, is_some_text, is_lawful_socket, is_lawful_dimm, is_lawful_range, is_lawful_slot, is_on_node_0}
+use Rattle.machine_desc.specs.Rules.{first_broken, only_at, first_failing, is_padded_text, breach_of_acpi, breaches_of_sizes, breaches_of_parts, breaches_of_acpi_parts, counts, is_within, with_ends, end_of, is_some_text, is_lawful_socket, is_lawful_dimm, is_lawful_range, is_lawful_slot, is_met, parts_on_acpi, lists_on_apic}
+use Rattle.machine_desc.specs.Rules.{is_new, first_refused, is_lawful_cpu, apic_id, is_lawful_io_apic, io_apic_id, is_lawful_override, irq_of, is_lawful_nmi, is_node, node_count, nodes_of}
 
 -- the rule at a place is the first broken one of those that are left
 pub broken_here : (rules : List (ℕ × Option ℕ)) (i index : ℕ) (d : ℕ × Option ℕ) → i < length rules → (get_or rules i d).1 ≡ Some index
@@ -38,11 +41,11 @@ either_below most false a b first second = second
 failing_below : {A : Type 0} (most : ℕ) (test : A → Bool) (xs : List A) → length xs ≤ most → IsBelow most (first_failing test xs)
 failing_below most test xs short index is = omega (arith, failing_within test xs index is)
 
-acpi_below : (acpi : Option Acpi) → IsBelow 256 (breach_of_acpi acpi)
-acpi_below None = nothing_below 256
+acpi_below : (acpi : Option Acpi) → IsBelow 8192 (breach_of_acpi acpi)
+acpi_below None = nothing_below 8192
 acpi_below (Some acpi) =
-    either_below 256 (is_padded_text 6 acpi.oem_id) (only_at 1 (is_padded_text 8 acpi.oem_table_id)) (Some 0)
-    (only_below 256 1 (is_padded_text 8 acpi.oem_table_id) (omega arith)) (only_below 256 0 false (omega arith))
+    either_below 8192 (is_padded_text 6 acpi.oem_id) (only_at 1 (is_padded_text 8 acpi.oem_table_id)) (Some 0)
+    (only_below 8192 1 (is_padded_text 8 acpi.oem_table_id) (omega arith)) (only_below 8192 0 false (omega arith))
 
 zip_short : {A B : Type 0} (xs : List A) (ys : List B) → length (zip xs ys) ≤ length ys
 zip_short [] ys = omega arith
@@ -73,31 +76,63 @@ within m index none =
     let count : ℕ × ℕ = get_or (counts m) index (0, 0) in
     leb-true count.0 count.1 (passing_at is_within (counts m) index (0, 0) (all_pass is_within (counts m) none) refl)
 
--- the rules behind that one
-others_below : (m : Machine) → first_failing is_within (counts m) ≡ None → AreBelow 256 (drop 2 (breaches m))
-others_below m short =
-    let only : (at : ℕ) (holds : Bool) → at < 2 → IsBelow 256 (only_at at holds) = λ at holds small. only_below 256 at holds (omega arith) in
-    let first : 0 < 2 = omega arith in
-    let second : 1 < 2 = omega arith in
-    only 0 _ first
-    ⨾ only 0 _ first
-    ⨾ failing_below 256 is_some_text m.oem_strings (omega (arith, within m 0 short))
-    ⨾ only 0 _ first
-    ⨾ failing_below 256 is_lawful_socket m.sockets (within m 1 short)
-    ⨾ failing_below 256 is_lawful_dimm m.dimms (within m 2 short)
-    ⨾ only 0 _ first
-    ⨾ failing_below 256 is_lawful_range (with_ends m.ranges) (omega (arith, zip_short (0 ∷ map end_of m.ranges) m.ranges, within m 3 short))
-    ⨾ only 0 _ first
-    ⨾ failing_below 256 is_lawful_slot m.slots (omega (arith, within m 4 short))
-    ⨾ only 1 _ second
-    ⨾ acpi_below m.acpi
-    ⨾ only 0 _ first
-    ⨾ failing_below 256 is_on_node_0 m.ranges (omega (arith, within m 3 short))
+refused_below : {A : Type 0} (most : ℕ) (test : A → Bool) (number : A → ℕ) (xs : List A) → length xs ≤ most → IsBelow most (first_refused test number xs)
+refused_below most test number xs short =
+    let same : length (enumerate_from 0 xs) ≡ length xs = length-enumerate_from 0 xs in
+    failing_below most (λ e. test e.1 && is_new number xs e) (enumerate_from 0 xs) (omega (arith, short, same))
+
+nodes_few : (m : Machine) → length m.cpus ≤ 4096 → length m.ranges ≤ 64 → length (nodes_of m) ≤ 8192
+nodes_few m few_cpus few_ranges =
+    let all : length (nodes_of m) ≡ length (map (λ c. c.node) m.cpus) + length (map (λ r. r.node) m.ranges) = length-append _ _ in
+    let cpus : length (map (λ c. c.node) m.cpus) ≡ length m.cpus = length-map m.cpus (λ c. c.node) in
+    let ranges : length (map (λ r. r.node) m.ranges) ≡ length m.ranges = length-map m.ranges (λ r. r.node) in
+    omega (arith, all, cpus, ranges, few_cpus, few_ranges)
+
+only_first : (holds : Bool) → IsBelow 8192 (only_at 0 holds)
+only_first holds = only_below 8192 0 holds (omega arith)
+
+-- where no rule on sizes is broken
+parts_below : (m : Machine) → first_failing is_within (counts m) ≡ None → AreBelow 8192 (breaches_of_parts m)
+parts_below m short =
+    only_first _
+    ⨾ only_first _
+    ⨾ failing_below 8192 is_some_text m.oem_strings (omega (arith, within m 0 short))
+    ⨾ only_first _
+    ⨾ failing_below 8192 is_lawful_socket m.sockets (omega (arith, within m 1 short))
+    ⨾ failing_below 8192 is_lawful_dimm m.dimms (omega (arith, within m 2 short))
+    ⨾ only_first _
+    ⨾ failing_below 8192 is_lawful_range (with_ends m.ranges) (omega (arith, zip_short (0 ∷ map end_of m.ranges) m.ranges, within m 3 short))
+    ⨾ only_first _
+    ⨾ failing_below 8192 is_lawful_slot m.slots (omega (arith, within m 4 short))
     ⨾ tt
 
-pub index_is_small : (m : Machine) (broken : Broken) → broken_rule m ≡ Some broken → broken.index < 256
-index_is_small m broken is =
-    first_below 256 1 _ (first_broken (drop 1 (breaches m))) broken (only_below 256 0 _ (omega arith))
-    (λ _. first_below 256 2 (first_failing is_within (counts m)) (first_broken (drop 2 (breaches m))) broken
-    (failing_below 256 is_within (counts m) (omega arith))
-    (λ none. some_below 256 (drop 2 (breaches m)) broken (others_below m none))) is
+acpi_parts_below : (m : Machine) → first_failing is_within (counts m) ≡ None → AreBelow 8192 (breaches_of_acpi_parts m)
+acpi_parts_below m short =
+    failing_below 8192 (is_met (is_some m.acpi)) (parts_on_acpi m) (omega arith)
+    ⨾ failing_below 8192 (is_met (is_some m.apic)) (lists_on_apic m) (omega arith)
+    ⨾ acpi_below m.acpi
+    ⨾ only_first _
+    ⨾ only_first _
+    ⨾ refused_below 8192 is_lawful_cpu apic_id m.cpus (omega (arith, within m 5 short))
+    ⨾ refused_below 8192 is_lawful_io_apic io_apic_id m.io_apics (omega (arith, within m 6 short))
+    ⨾ refused_below 8192 is_lawful_override irq_of m.overrides (omega (arith, within m 7 short))
+    ⨾ failing_below 8192 (is_lawful_nmi (length m.cpus)) m.nmis (omega (arith, within m 8 short))
+    ⨾ only_first _
+    ⨾ failing_below 8192 (is_node (node_count m.numa)) (nodes_of m) (nodes_few m (within m 5 short) (within m 3 short))
+    ⨾ tt
+
+-- the index at which a rule of each list is broken first
+
+pub index_of_size : (m : Machine) (broken : Broken) → first_broken (breaches_of_sizes m) ≡ Some broken → broken.index < 8192
+index_of_size m broken is =
+    some_below 8192 (breaches_of_sizes m) broken (only_first _ ⨾ failing_below 8192 is_within (counts m) (omega arith) ⨾ tt) is
+
+pub index_of_part : (m : Machine) (broken : Broken) → first_broken (breaches_of_sizes m) ≡ None → first_broken (breaches_of_parts m) ≡ Some broken
+    → broken.index < 8192
+index_of_part m broken none is =
+    some_below 8192 (breaches_of_parts m) broken (parts_below m (each_is_kept 2 (breaches_of_sizes m) none)) is
+
+pub index_of_acpi_part : (m : Machine) (broken : Broken) → first_broken (breaches_of_sizes m) ≡ None
+    → first_broken (breaches_of_acpi_parts m) ≡ Some broken → broken.index < 8192
+index_of_acpi_part m broken none is =
+    some_below 8192 (breaches_of_acpi_parts m) broken (acpi_parts_below m (each_is_kept 2 (breaches_of_sizes m) none)) is

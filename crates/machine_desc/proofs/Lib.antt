@@ -4,4 +4,6 @@ pub mod AllTexts
 pub mod Kept
 pub mod Indices
 pub mod InOrder
+pub mod Distinct
+pub mod OwnNumbers
 pub mod Passing

@@ -1,4 +1,5 @@
 pub mod Rules
 pub mod Fields
 pub mod Memory
+pub mod Numbers
 pub use Rattle.vt_outside.specs.Name

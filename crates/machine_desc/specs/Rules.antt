@@ -1,13 +1,19 @@
 -- The rules that an accepted machine keeps.
-use Rattle.std.specs.Prelude.{◌≡◌, ℕ, ◌+◌, ◌-◌, ◌%◌, ◌^◌, Bool, true, false, not, ◌&&◌, ◌||◌, List, [], ◌∷◌, length, map, filter, Option, Some, None, IfSome, ◌<◌}
+use Rattle.std.specs.Prelude.{◌≡◌, ℕ, ◌+◌, ◌-◌, ◌*◌, ◌/◌, ◌%◌, ◌^◌, Bool, true, false, not, ◌&&◌, ◌||◌, List, [], ◌∷◌, ◌++◌, length, map, filter, take, Option, Some, None, IfSome, ◌<◌}
 use Rattle.std.specs.Prelude.{is_some, nat_le, nat_lt, ◌==◌, slice_get, if◌then◌else◌}
-use Rattle.std.specs.List.{list_all, flat_map, position, zip}
+use Rattle.std.specs.List.{list_all, list_any, flat_map, position, zip, enumerate_from}
 use Rattle.std.specs.Option.{option_map_or}
 use Rattle.vt_outside.specs.Name.{is_printable}
 use Rattle.machine_desc.specs.declared.machine.Machine.{Machine}
 use Rattle.machine_desc.specs.declared.machine.System.{System}
 use Rattle.machine_desc.specs.declared.machine.Acpi.{Acpi}
 use Rattle.machine_desc.specs.declared.machine.Hpet.{Hpet}
+use Rattle.machine_desc.specs.declared.acpi_parts.Power.{Power}
+use Rattle.machine_desc.specs.declared.acpi_parts.Cpu.{Cpu}
+use Rattle.machine_desc.specs.declared.acpi_parts.IoApic.{IoApic}
+use Rattle.machine_desc.specs.declared.acpi_parts.Override.{Override}
+use Rattle.machine_desc.specs.declared.acpi_parts.Nmi.{Nmi}
+use Rattle.machine_desc.specs.declared.acpi_parts.Numa.{Numa}
 use Rattle.machine_desc.specs.declared.machine.Broken.{Broken}
 use Rattle.machine_desc.specs.declared.smbios_parts.Firmware.{Firmware}
 use Rattle.machine_desc.specs.declared.smbios_parts.Chassis.{Chassis}
@@ -64,10 +70,12 @@ text_parts m =
 abbrev pub texts_of : Machine → List (List ℕ)
 texts_of m = flat_map (λ texts. texts) (text_parts m)
 
--- How many elements each list of a machine has, and how many it may have at most: texts of the maker, sockets, modules, ranges, and slots.
+-- How many elements each list of a machine has, and how many it may have at most: texts of the maker, sockets, modules, ranges, slots,
+-- processors, I/O APICs, overrides and NMIs. A place here is the list's index in the rule.
 abbrev pub counts : Machine → List (ℕ × ℕ)
 counts m =
-    (length m.oem_strings, 32) ∷ (length m.sockets, 256) ∷ (length m.dimms, 256) ∷ (length m.ranges, 64) ∷ (length m.slots, 64) ∷ []
+    (length m.oem_strings, 32) ∷ (length m.sockets, 256) ∷ (length m.dimms, 256) ∷ (length m.ranges, 64) ∷ (length m.slots, 64)
+    ∷ (length m.cpus, 4096) ∷ (length m.io_apics, 16) ∷ (length m.overrides, 16) ∷ (length m.nmis, 16) ∷ []
 
 abbrev pub is_within : ℕ × ℕ → Bool
 is_within count = nat_le count.0 count.1
@@ -135,6 +143,21 @@ breach_of_acpi None = None
 breach_of_acpi (Some acpi) =
     if is_padded_text 6 acpi.oem_id then only_at 1 (is_padded_text 8 acpi.oem_table_id) else Some 0
 
+-- the ports of the blocks that must be there aren't 0
+abbrev pub has_ports : Power → Bool
+has_ports p = not (p.event == 0) && not (p.control == 0) && not (p.timer == 0)
+
+-- The block of general-purpose events has two halves (ACPI 6.5, 4.8.4.1), so that its size is even. It is 0 exactly where there is no block.
+abbrev pub has_lawful_gpe : Power → Bool
+has_lawful_gpe p = (p.gpe_len % 2 == 0) && nat_le p.gpe_len 30 && (if p.gpe_len == 0 then p.gpe == 0 else not (p.gpe == 0))
+
+-- without a reset register no value is written there
+abbrev pub has_lawful_reset : Power → Bool
+has_lawful_reset p = not (p.reset == 0) || (p.reset_value == 0)
+
+abbrev pub is_lawful_power : Power → Bool
+is_lawful_power p = has_ports p && has_lawful_gpe p && has_lawful_reset p
+
 -- the address of an HPET is a multiple of 1024
 abbrev pub is_hpet_address : Hpet → Bool
 is_hpet_address hpet = hpet.address % 1024 == 0
@@ -143,13 +166,81 @@ is_hpet_address hpet = hpet.address % 1024 == 0
 abbrev pub is_own_uuid : ℕ → Bool
 is_own_uuid uuid = not (uuid == 0) && not (uuid == 2 ^ 128 - 1)
 
--- no other node than 0 is described yet
-abbrev pub is_on_node_0 : MemRange → Bool
-is_on_node_0 r = r.node == 0
+-- a part isn't there, or what it needs is
+abbrev pub is_met : Bool → Bool → Bool
+is_met needed there = not there || needed
 
--- Each rule in its order: its number, and the least index at which the machine breaks it, if it does.
+-- the place of the first part that is there although what it needs isn't
+abbrev pub first_unmet : Bool → List Bool → Option ℕ
+first_unmet needed parts = first_failing (is_met needed) parts
+
+-- The parts that need ACPI tables: power management, the HPET, the interrupt controllers and the NUMA nodes. A place here is the part's
+-- index in the rule.
+abbrev pub parts_on_acpi : Machine → List Bool
+parts_on_acpi m = is_some m.power ∷ is_some m.hpet ∷ is_some m.apic ∷ is_some m.numa ∷ []
+
+-- the lists that need the interrupt controllers, and whether they have elements, by their indices in the rule
+abbrev pub lists_on_apic : Machine → List Bool
+lists_on_apic m = not (is_empty m.cpus) ∷ not (is_empty m.io_apics) ∷ not (is_empty m.overrides) ∷ not (is_empty m.nmis) ∷ []
+
+-- an element at its place in a list: no earlier one has its number
+abbrev pub is_new : {A : Type 0} → (A → ℕ) → List A → ℕ × A → Bool
+is_new number elements e = not (list_any (λ earlier. number earlier == number e.1) (take e.0 elements))
+
+-- the place of the first element that doesn't pass a test, or has the number of an earlier one
+abbrev pub first_refused : {A : Type 0} → (A → Bool) → (A → ℕ) → List A → Option ℕ
+first_refused test number elements = first_failing (λ e. test e.1 && is_new number elements e) (enumerate_from 0 elements)
+
+-- a processor's APIC id, which isn't the one that names all of them
+abbrev pub apic_id : Cpu → ℕ
+apic_id c = c.apic
+
+abbrev pub is_lawful_cpu : Cpu → Bool
+is_lawful_cpu c = not (c.apic == 0xFFFFFFFF)
+
+-- an I/O APIC's id; nothing else is asked of it
+abbrev pub io_apic_id : IoApic → ℕ
+io_apic_id a = a.id
+
+abbrev pub is_lawful_io_apic : IoApic → Bool
+is_lawful_io_apic a = true
+
+-- an override's ISA interrupt, one of 16, and its four flags
+abbrev pub irq_of : Override → ℕ
+irq_of o = o.irq
+
+abbrev pub is_lawful_override : Override → Bool
+is_lawful_override o = nat_le o.irq 15 && nat_le o.flags 15
+
+-- of so many processors an NMI is that of one, or of all; it has four flags, and one of two inputs
+abbrev pub is_lawful_nmi : ℕ → Nmi → Bool
+is_lawful_nmi cpus nmi = option_map_or (λ cpu. nat_lt cpu cpus) nmi.cpu true && nat_le nmi.flags 15 && nat_le nmi.lint 1
+
+-- the nodes of the processors, and then of the ranges
+abbrev pub nodes_of : Machine → List ℕ
+nodes_of m = map (λ c. c.node) m.cpus ++ map (λ r. r.node) m.ranges
+
+-- how many nodes there are; where none are described, everything is on node 0
+abbrev pub node_count : Option Numa → ℕ
+node_count numa = option_map_or (λ n. n.nodes) numa 1
+
+abbrev pub is_node : ℕ → ℕ → Bool
+is_node count node = nat_lt node count
+
+-- Of so many nodes, the distance at a place: row by row, so that it is that from the node of the place's row to the node of its column. From
+-- a node to itself it is 10, and less is reserved (ACPI 6.5, 5.2.17).
+abbrev pub is_lawful_distance : ℕ → ℕ × ℕ → Bool
+is_lawful_distance nodes d = if d.0 / nodes == d.0 % nodes then d.1 == 10 else nat_le 10 d.1
+
+abbrev pub is_lawful_numa : Numa → Bool
+is_lawful_numa n =
+    nat_le 1 n.nodes && nat_le n.nodes 64 && (length n.distance == n.nodes * n.nodes)
+    && list_all (is_lawful_distance n.nodes) (enumerate_from 0 n.distance)
+
+-- Each rule in its order: its number, and the least index at which the machine breaks it, if it does. Those on sizes stand apart, since where
+-- one of them is broken nothing else is worked out.
 --   1 the top is 64 MiB to 3 GiB
---   2 no list is too long; the index is 0 for texts of the maker, 1 for sockets, 2 for modules, 3 for ranges, 4 for slots
+--   2 no list is too long; the index is the list's place in `counts`
 --   3 each text has at most 64 bytes, each 0x20 to 0x7E
 --   4 the system's UUID (index 0), where given, is neither all zeros nor all ones
 --   5 the maker's text of this index isn't empty
@@ -160,14 +251,24 @@ is_on_node_0 r = r.node == 0
 --  10 the range of this index isn't empty, ends within 2^32 MiB, and begins at or behind the end of the one before
 --  11 where ranges are given, those that begin below 4 GiB are all memory below the top
 --  12 the slot of this index has a kind and a width, and is a device and a function of a PCI bus
---  13 an HPET (index 1) needs ACPI tables
+--  13 power management (index 0), an HPET (index 1), interrupt controllers (index 2) and NUMA nodes (index 3) need ACPI tables
+--  15 processors (index 0), I/O APICs (index 1), overrides (index 2) and NMIs (index 3) need interrupt controllers
 --  16 the maker's id (index 0) has at most 6 bytes, its id of the tables (index 1) at most 8, and neither ends in a space
+--  17 the ports of power management that must be there aren't 0, and its block of events and its reset value are lawful
 --  18 the HPET's address is a multiple of 1024
---  24 the range of this index is on node 0
-abbrev pub breaches : Machine → List (ℕ × Option ℕ)
-breaches m =
+--  19 the processor of this index has an APIC id that names one, and is no earlier one's
+--  20 the I/O APIC of this index has no earlier one's id
+--  21 the override of this index is of one of 16 ISA interrupts and no earlier one's, with four flags
+--  22 the NMI of this index is of a processor that is there, or of all, with four flags and one of two inputs
+--  23 there are 1 to 64 nodes, and a distance for each two: 10 from a node to itself, at least 10 to another
+--  24 the processor of this index, or the range that stands there behind the processors, is on a node that is there
+abbrev pub breaches_of_sizes : Machine → List (ℕ × Option ℕ)
+breaches_of_sizes m =
     (1, only_at 0 (nat_le 64 m.top_mib && nat_le m.top_mib 3072)) ∷
-    (2, first_failing is_within (counts m)) ∷
+    (2, first_failing is_within (counts m)) ∷ []
+
+abbrev pub breaches_of_parts : Machine → List (ℕ × Option ℕ)
+breaches_of_parts m =
     (3, only_at 0 (list_all is_text (texts_of m))) ∷
     (4, only_at 0 (option_map_or is_own_uuid m.system.uuid true)) ∷
     (5, first_failing is_some_text m.oem_strings) ∷
@@ -177,11 +278,27 @@ breaches m =
     (9, only_at 0 (if is_empty m.dimms then is_empty m.ranges else not (is_empty m.ranges))) ∷
     (10, first_failing is_lawful_range (with_ends m.ranges)) ∷
     (11, only_at 0 (is_empty m.ranges || is_memory m.top_mib m.ranges)) ∷
-    (12, first_failing is_lawful_slot m.slots) ∷
-    (13, only_at 1 (not (is_some m.hpet) || is_some m.acpi)) ∷
+    (12, first_failing is_lawful_slot m.slots) ∷ []
+
+abbrev pub breaches_of_acpi_parts : Machine → List (ℕ × Option ℕ)
+breaches_of_acpi_parts m =
+    (13, first_unmet (is_some m.acpi) (parts_on_acpi m)) ∷
+    (15, first_unmet (is_some m.apic) (lists_on_apic m)) ∷
     (16, breach_of_acpi m.acpi) ∷
+    (17, only_at 0 (option_map_or is_lawful_power m.power true)) ∷
     (18, only_at 0 (option_map_or is_hpet_address m.hpet true)) ∷
-    (24, first_failing is_on_node_0 m.ranges) ∷ []
+    (19, first_refused is_lawful_cpu apic_id m.cpus) ∷
+    (20, first_refused is_lawful_io_apic io_apic_id m.io_apics) ∷
+    (21, first_refused is_lawful_override irq_of m.overrides) ∷
+    (22, first_failing (is_lawful_nmi (length m.cpus)) m.nmis) ∷
+    (23, only_at 0 (option_map_or is_lawful_numa m.numa true)) ∷
+    (24, first_failing (is_node (node_count m.numa)) (nodes_of m)) ∷ []
+
+abbrev pub breaches_within_sizes : Machine → List (ℕ × Option ℕ)
+breaches_within_sizes m = breaches_of_parts m ++ breaches_of_acpi_parts m
+
+abbrev pub breaches : Machine → List (ℕ × Option ℕ)
+breaches m = breaches_of_sizes m ++ breaches_within_sizes m
 
 -- the first rule in a list that is broken
 abbrev pub first_broken : List (ℕ × Option ℕ) → Option Broken

@@ -4,7 +4,8 @@ ghost use Rattle.std.specs.Prelude.{◌≡◌, ◌↔◌, ◌<◌, ℕ, List, No
 ghost use Rattle.std.specs.List.{AllByRecursion};
 ghost use Rattle.machine_desc.specs.declared.machine.Machine.{Machine};
 ghost use Rattle.machine_desc.specs.declared.smbios_parts.MemRange.{MemRange};
-ghost use Rattle.machine_desc.specs.Rules.{IsAccepted, breach_of, is_memory};
+ghost use Rattle.machine_desc.specs.Rules.{IsAccepted, breach_of, is_memory, apic_id, io_apic_id, irq_of};
+ghost use Rattle.machine_desc.specs.Numbers.{AreDistinct};
 ghost use Rattle.machine_desc.specs.Fields.{IsFittingRange};
 ghost use Rattle.machine_desc.specs.Memory.{AreInOrder, IsLowMemory};
 
@@ -23,4 +24,11 @@ pub fn memory_is_what_lies_below_the_top()
 /// States that the numbers of an accepted machine's ranges fit 32 bits.
 pub fn ranges_of_an_accepted_machine_fit()
     ensures { (machine : Machine) → IsAccepted machine → AllByRecursion IsFittingRange machine.ranges }
+{}
+
+/// States that no two processors of an accepted machine have one APIC id, no two I/O APICs one id, and no two overrides one ISA interrupt.
+pub fn numbers_in_an_accepted_machine_differ()
+    ensures cpus { (machine : Machine) → IsAccepted machine → AreDistinct apic_id machine.cpus }
+    ensures io_apics { (machine : Machine) → IsAccepted machine → AreDistinct io_apic_id machine.io_apics }
+    ensures overrides { (machine : Machine) → IsAccepted machine → AreDistinct irq_of machine.overrides }
 {}

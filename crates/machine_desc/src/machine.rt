@@ -1,3 +1,4 @@
+use crate::acpi_parts::{Apic, Cpu, IoApic, Nmi, Numa, Override, Power};
 use crate::smbios_parts::{Chassis, Dimm, Firmware, MemRange, Slot, Socket};
 use vt_outside::{List, Text};
 
@@ -25,8 +26,23 @@ pub struct Machine {
     pub slots: List<Slot>,
     /// Its ACPI tables; none where they aren't wanted.
     pub acpi: Option<Acpi>,
+    /// Its fixed hardware of power management, where it is described. An accepted machine with it has ACPI tables.
+    pub power: Option<Power>,
     /// Its HPET, where it has one. An accepted machine with an HPET has ACPI tables.
     pub hpet: Option<Hpet>,
+    /// Its interrupt controllers, where they are described. An accepted machine with them has ACPI tables.
+    pub apic: Option<Apic>,
+    /// Its processors, at most 4,096 in an accepted machine. An accepted machine with a processor here, or an element of one of the
+    /// three lists that follow, has `apic`.
+    pub cpus: List<Cpu>,
+    /// Its I/O APICs, at most 16 in an accepted machine.
+    pub io_apics: List<IoApic>,
+    /// The overrides of its ISA interrupts, at most 16 in an accepted machine.
+    pub overrides: List<Override>,
+    /// Its non-maskable interrupts, at most 16 in an accepted machine.
+    pub nmis: List<Nmi>,
+    /// Its NUMA nodes, where they are described. An accepted machine with them has ACPI tables.
+    pub numa: Option<Numa>,
 }
 
 /// What identifies the machine as a product (System Information, DSP0134 7.2). An empty text stands for none.
@@ -73,7 +89,7 @@ pub struct Hpet {
 /// The first rule that a machine breaks, as `Machine::check` finds it.
 #[derive(Clone, Copy, Debug, PartialEq, Eq)]
 pub struct Broken {
-    /// The rule's number: 1 to 13, 16, 18 or 24.
+    /// The rule's number: 1 to 13 or 15 to 24.
     pub rule: u16,
     /// The least index at which it is broken. `Machine::check` says what the index means for each rule.
     pub index: u32,

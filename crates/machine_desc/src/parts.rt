@@ -1,10 +1,13 @@
 //! The rules of a machine's parts, each for itself.
 
-ghost use Rattle.std.specs.Prelude.{◌≡◌, true};
+ghost use Rattle.std.specs.Prelude.{◌≡◌, true, is_some, length};
 ghost use Rattle.std.specs.Option.{option_map_or};
 ghost use Rattle.machine_desc.specs.Rules.{first_failing, counts, is_within, is_own_uuid, is_lawful_chassis, is_lawful_socket};
 ghost use Rattle.machine_desc.specs.Rules.{is_lawful_dimm, is_lawful_slot, breach_of_acpi, is_padded_text, is_hpet_address};
+ghost use Rattle.machine_desc.specs.Rules.{is_met, first_unmet, parts_on_acpi, lists_on_apic, is_lawful_nmi};
+ghost use Rattle.machine_desc.specs.Rules.{has_ports, has_lawful_gpe, has_lawful_reset, is_lawful_power};
 
+use crate::acpi_parts::{Nmi, Power};
 use crate::machine::{Acpi, Hpet, Machine, System};
 use crate::smbios_parts::{Chassis, Dimm, Slot, Socket};
 use vt_outside::Text;
@@ -20,9 +23,67 @@ impl Machine {
             (self.dimms.len(), 256),
             (self.ranges.len(), 64),
             (self.slots.len(), 64),
+            (self.cpus.len(), 4096),
+            (self.io_apics.len(), 16),
+            (self.overrides.len(), 16),
+            (self.nmis.len(), 16),
         ];
         counts.iter().position(|count| count.0 > count.1)
     }
+
+    // The first part that needs ACPI tables, where there are none.
+    pub(crate) fn part_without_acpi(&self) -> Option<usize>
+        ensures { result ≡ first_unmet (is_some self.now.acpi) (parts_on_acpi self.now) }
+    {
+        first_unmet(
+            self.acpi.is_some(),
+            &[
+                self.power.is_some(),
+                self.hpet.is_some(),
+                self.apic.is_some(),
+                self.numa.is_some(),
+            ],
+        )
+    }
+
+    // The first list that needs interrupt controllers and has elements, where there are none.
+    pub(crate) fn list_without_apic(&self) -> Option<usize>
+        ensures { result ≡ first_unmet (is_some self.now.apic) (lists_on_apic self.now) }
+    {
+        first_unmet(
+            self.apic.is_some(),
+            &[
+                self.cpus.len() != 0,
+                self.io_apics.len() != 0,
+                self.overrides.len() != 0,
+                self.nmis.len() != 0,
+            ],
+        )
+    }
+
+    // The place of the first non-maskable interrupt whose processor, flags or input aren't lawful.
+    pub(crate) fn unlawful_nmi(&self) -> Option<usize>
+        ensures { result ≡ first_failing (is_lawful_nmi (length self.now.cpus)) self.now.nmis }
+    {
+        let cpus = self.cpus.len();
+        self.nmis
+            .as_slice()
+            .iter()
+            .position(|nmi| !is_lawful_nmi(cpus, *nmi))
+    }
+}
+
+// The place of the first part that is there although what it needs isn't.
+fn first_unmet(needed: bool, parts: &[bool]) -> Option<usize>
+    ensures { result ≡ first_unmet needed parts.now }
+{
+    parts.iter().position(|there| !is_met(needed, *there))
+}
+
+fn is_met(needed: bool, there: bool) -> bool
+    ensures { result ≡ is_met needed there }
+{
+    !there || needed
 }
 
 impl System {
@@ -101,6 +162,43 @@ fn is_padded(size: usize, text: &Text) -> bool
 {
     let len = text.len();
     len <= size && (len == 0 || *text.get(len - 1) != b' ')
+}
+
+fn is_lawful_nmi(cpus: usize, nmi: Nmi) -> bool
+    ensures { result ≡ is_lawful_nmi cpus nmi }
+{
+    let is_of_one = match nmi.cpu {
+        None => true,
+        Some(cpu) => (cpu as usize) < cpus,
+    };
+    is_of_one && nmi.flags <= 15 && nmi.lint <= 1
+}
+
+pub(crate) fn has_lawful_power(power: Option<Power>) -> bool
+    ensures { result ≡ option_map_or is_lawful_power power true }
+{
+    match power {
+        None => true,
+        Some(power) => has_ports(power) && has_lawful_gpe(power) && has_lawful_reset(power),
+    }
+}
+
+fn has_ports(power: Power) -> bool
+    ensures { result ≡ has_ports power }
+{
+    power.event != 0 && power.control != 0 && power.timer != 0
+}
+
+fn has_lawful_gpe(power: Power) -> bool
+    ensures { result ≡ has_lawful_gpe power }
+{
+    power.gpe_len % 2 == 0 && power.gpe_len <= 30 && (power.gpe_len == 0) == (power.gpe == 0)
+}
+
+fn has_lawful_reset(power: Power) -> bool
+    ensures { result ≡ has_lawful_reset power }
+{
+    power.reset != 0 || power.reset_value == 0
 }
 
 pub(crate) fn has_hpet_address(hpet: Option<Hpet>) -> bool

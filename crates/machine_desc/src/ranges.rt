@@ -1,7 +1,7 @@
 //! The rules of a machine's ranges of memory.
 
 ghost use Rattle.std.specs.Prelude.{◌≡◌, ◌||◌, not, if◌then◌else◌};
-ghost use Rattle.machine_desc.specs.Rules.{first_failing, is_empty, is_memory, is_low, is_lawful_range, is_on_node_0, end_of, with_ends};
+ghost use Rattle.machine_desc.specs.Rules.{first_failing, is_empty, is_memory, is_low, is_lawful_range, end_of, with_ends};
 
 use crate::machine::Machine;
 use crate::smbios_parts::MemRange;
@@ -54,13 +54,6 @@ fn is_lawful_range(end_before: u64, range: MemRange) -> bool
     ensures { result ≡ is_lawful_range (end_before, range) }
 {
     1 <= range.size_mib && end_of(range) <= 1 << 32 && end_before <= range.base_mib as u64
-}
-
-// The place of the first range on another node than 0.
-pub(crate) fn range_of_another_node(ranges: &[MemRange]) -> Option<usize>
-    ensures { result ≡ first_failing is_on_node_0 ranges.now }
-{
-    ranges.iter().position(|range| range.node != 0)
 }
 
 fn is_low(range: MemRange) -> bool

@@ -1,13 +1,15 @@
 ghost use Rattle.std.specs.Prelude.{◌≡◌, ◌<◌, ◌^◌, None, Some, MatchResult};
 ghost use Rattle.machine_desc.specs.declared.machine.Broken.{Broken as ABroken};
-ghost use Rattle.machine_desc.specs.Rules.{broken_rule, breaches, first_broken, only_at};
+ghost use Rattle.machine_desc.specs.Rules.{broken_rule, breaches_of_sizes, breaches_within_sizes, breaches_of_parts, breaches_of_acpi_parts, first_broken, only_at};
 
 use crate::machine::{Broken, Machine};
+use crate::nodes::has_lawful_numa;
+use crate::numbers::first_refused;
 use crate::parts::{
-    breach_of_acpi, has_hpet_address, has_lawful_chassis, unlawful_dimm, unlawful_slot,
-    unlawful_socket,
+    breach_of_acpi, has_hpet_address, has_lawful_chassis, has_lawful_power, unlawful_dimm,
+    unlawful_slot, unlawful_socket,
 };
-use crate::ranges::{range_of_another_node, unlawful_range};
+use crate::ranges::unlawful_range;
 use crate::texts::empty_text;
 
 impl Machine {
@@ -15,7 +17,8 @@ impl Machine {
     /// Else the error gives the first rule that is broken and the least index at which it is broken:
     /// - Rule 1, index 0: `top_mib` is 64 to 3072.
     /// - Rule 2: `oem_strings` (index 0) has at most 32 texts, `sockets` (index 1) and `dimms` (index 2) at most 256 elements,
-    ///   `ranges` (index 3) and `slots` (index 4) at most 64.
+    ///   `ranges` (index 3) and `slots` (index 4) at most 64, `cpus` (index 5) at most 4,096, `io_apics` (index 6), `overrides` (index 7)
+    ///   and `nmis` (index 8) at most 16.
     /// - Rule 3, index 0: each text has at most 64 bytes, each 0x20 to 0x7E.
     /// - Rule 4, index 0: the UUID, where given, is neither all zeros nor all ones (RFC 9562).
     /// - Rule 5, index of the text: no text of `oem_strings` is empty.
@@ -27,26 +30,66 @@ impl Machine {
     ///   the one before.
     /// - Rule 11, index 0: where ranges are given, those that begin below 4096 MiB are all memory below `top_mib`.
     /// - Rule 12, index of the slot: `kind` and `width` are at least 1, `device` is at most 31, and `function` at most 7.
-    /// - Rule 13, index 1: a machine with an HPET has ACPI tables.
+    /// - Rule 13: a machine with `power` (index 0), `hpet` (index 1), `apic` (index 2) or `numa` (index 3) has ACPI tables.
+    /// - Rule 15: a machine with `cpus` (index 0), `io_apics` (index 1), `overrides` (index 2) or `nmis` (index 3) has `apic`.
     /// - Rule 16: `oem_id` (index 0) has at most 6 bytes, `oem_table_id` (index 1) at most 8, and neither ends in a space.
+    /// - Rule 17, index 0: of `power` the ports `event`, `control` and `timer` aren't 0; `gpe_len` is even, at most 30, and 0 exactly where
+    ///   `gpe` is; and `reset_value` is 0 where `reset` is.
     /// - Rule 18, index 0: the address of the HPET is a multiple of 1024.
-    /// - Rule 24, index of the range: its `node` is 0.
+    /// - Rule 19, index of the processor: its `apic` isn't 0xFFFFFFFF, and isn't an earlier one's.
+    /// - Rule 20, index of the I/O APIC: its `id` isn't an earlier one's.
+    /// - Rule 21, index of the override: its `irq` is at most 15 and isn't an earlier one's, and its `flags` are at most 15.
+    /// - Rule 22, index of the NMI: its `cpu`, where given, is less than the number of processors, its `flags` are at most 15, and its
+    ///   `lint` at most 1.
+    /// - Rule 23, index 0: `nodes` is 1 to 64, and `distance` has `nodes` times `nodes` numbers, row by row: 10 from a node to itself, at
+    ///   least 10 elsewhere.
+    /// - Rule 24, index of the processor, or the number of processors and the index of the range: its `node` is below the number of
+    ///   nodes, or 0 where `numa` isn't given.
     pub fn check(&self) -> Result<(), Broken>
         ensures { MatchResult result (λ _. broken_rule self.now ≡ None) (λ broken. broken_rule self.now ≡ Some broken) }
     {
-        match first_broken(&self.breaches()) {
+        match self.broken_rule() {
             None => Ok(()),
             Some(broken) => Err(broken),
         }
     }
 
-    // Each rule's number, and the least index at which the machine breaks it, if it does.
-    fn breaches(&self) -> [(u16, Option<usize>); 16]
-        ensures { result ≡ breaches self.now }
+    // The first rule that the machine breaks. Where a list is too long no other rule is worked out: a description may hold millions of
+    // elements, and some of them are compared in pairs.
+    fn broken_rule(&self) -> Option<Broken>
+        ensures { result ≡ broken_rule self.now }
+    {
+        match first_broken(&self.breaches_of_sizes()) {
+            None => self.broken_within_sizes(),
+            Some(broken) => Some(broken),
+        }
+    }
+
+    fn broken_within_sizes(&self) -> Option<Broken>
+        requires { first_broken (breaches_of_sizes self.now) ≡ None }
+        ensures { result ≡ first_broken (breaches_within_sizes self.now) }
+    {
+        match first_broken(&self.breaches_of_parts()) {
+            None => first_broken(&self.breaches_of_acpi_parts()),
+            Some(broken) => Some(broken),
+        }
+    }
+
+    // The number of each rule on sizes, and the least index at which the machine breaks it, if it does.
+    fn breaches_of_sizes(&self) -> [(u16, Option<usize>); 2]
+        ensures { result ≡ breaches_of_sizes self.now }
     {
         [
             (1, only_at(0, (64..=3072).contains(&self.top_mib))),
             (2, self.long_list()),
+        ]
+    }
+
+    // The same of the rules on texts and on parts that no ACPI table tells.
+    fn breaches_of_parts(&self) -> [(u16, Option<usize>); 10]
+        ensures { result ≡ breaches_of_parts self.now }
+    {
+        [
             (3, only_at(0, self.has_lawful_texts())),
             (4, only_at(0, self.system.has_own_uuid())),
             (5, empty_text(self.oem_strings.as_slice())),
@@ -57,10 +100,25 @@ impl Machine {
             (10, unlawful_range(self.ranges.as_slice())),
             (11, only_at(0, self.has_memory_below_its_top())),
             (12, unlawful_slot(self.slots.as_slice())),
-            (13, only_at(1, self.hpet.is_none() || self.acpi.is_some())),
+        ]
+    }
+
+    // The same of the rules on parts that ACPI tables tell.
+    fn breaches_of_acpi_parts(&self) -> [(u16, Option<usize>); 11]
+        ensures { result ≡ breaches_of_acpi_parts self.now }
+    {
+        [
+            (13, self.part_without_acpi()),
+            (15, self.list_without_apic()),
             (16, breach_of_acpi(&self.acpi)),
+            (17, only_at(0, has_lawful_power(self.power))),
             (18, only_at(0, has_hpet_address(self.hpet))),
-            (24, range_of_another_node(self.ranges.as_slice())),
+            (19, first_refused(self.cpus.as_slice())),
+            (20, first_refused(self.io_apics.as_slice())),
+            (21, first_refused(self.overrides.as_slice())),
+            (22, self.unlawful_nmi()),
+            (23, only_at(0, has_lawful_numa(&self.numa))),
+            (24, self.missing_node()),
         ]
     }
 }

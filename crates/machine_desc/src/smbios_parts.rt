@@ -83,7 +83,7 @@ pub struct MemRange {
     pub base_mib: u32,
     /// Its size in MiB: at least 1 in an accepted machine.
     pub size_mib: u32,
-    /// The NUMA node that the memory belongs to: 0 in an accepted machine.
+    /// The NUMA node that the memory belongs to: in an accepted machine one of `numa`, or 0 where that isn't given.
     pub node: u8,
 }
 

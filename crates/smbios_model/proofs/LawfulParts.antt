@@ -8,7 +8,7 @@ use Rattle.std.proofs.lemmas.List.{length-map}
 use Rattle.vt_bytes.proofs.Each.{each_from}
 use Rattle.machine_desc.specs.declared.machine.Machine.{Machine}
 use Rattle.machine_desc.specs.Rules.{is_text, texts_if, firmware_texts, chassis_texts, socket_texts, dimm_texts, slot_texts}
-use Rattle.machine_desc.specs.Rules.{is_some_text, is_lawful_chassis, is_lawful_socket, is_lawful_dimm, is_lawful_slot, is_lawful_range, is_on_node_0}
+use Rattle.machine_desc.specs.Rules.{is_some_text, is_lawful_chassis, is_lawful_socket, is_lawful_dimm, is_lawful_slot, is_lawful_range}
 use Rattle.machine_desc.specs.Rules.{with_ends, IsAccepted}
 use Rattle.machine_desc.specs.Fields.{HasFittingFields}
 use Rattle.machine_desc.proofs.Accepted.{kept, each_kept, holds_where_kept, few_at, texts_at, lawful_ends}
@@ -138,8 +138,10 @@ lawful_slots m accepted = each_kept m accepted 12 is_lawful_slot m.slots refl
 pub lawful_dimms : (m : Machine) → IsAccepted m → list_all is_lawful_dimm m.dimms ≡ true
 lawful_dimms m accepted = each_kept m accepted 8 is_lawful_dimm m.dimms refl
 
-pub on_node_0 : (m : Machine) → IsAccepted m → list_all is_on_node_0 m.ranges ≡ true
-on_node_0 m accepted = each_kept m accepted 24 is_on_node_0 m.ranges refl
+-- of which nothing is asked
+pub each_whatever : {X : Type 0} (xs : List X) → list_all (λ x. true) xs ≡ true
+each_whatever [] = refl
+each_whatever (x ∷ xs) = each_whatever xs
 
 pub lawful_parts : (m : Machine) → IsAccepted m → AllByRecursion (IsLawfulPart m) (told_parts m)
 lawful_parts m accepted =

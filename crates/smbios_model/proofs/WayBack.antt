@@ -1,21 +1,19 @@
 -- An accepted machine is got back from its structures, part by part.
-use Rattle.std.proofs.Common.{◌≡◌, ℕ, true, List, [], ◌∷◌, ◌++◌, map, Option, Some, None, slice_get, get_or, ◌==◌, arith, refl, ap, sym, ◌∙◌}
+use Rattle.std.proofs.Common.{◌≡◌, ℕ, true, List, [], ◌∷◌, ◌++◌, length, map, Option, Some, None, slice_get, get_or, refl, ap, sym, ◌∙◌}
 use Rattle.std.proofs.Common.{append-nil}
+use Rattle.std.proofs.lemmas.List.{length-map}
 use Rattle.std.specs.List.{cons_option, filter_map, AllByRecursion}
 use Rattle.std.specs.Option.{option_to_list}
-use Rattle.std.proofs.lemmas.Bool.Decides.{nat_tests}
-use Rattle.vt_bytes.proofs.Each.{each_from, each_weaker}
+use Rattle.vt_bytes.proofs.Each.{each_weaker}
 use Rattle.machine_desc.specs.declared.machine.Machine.{Machine}
 use Rattle.machine_desc.specs.declared.machine.System.{System as SystemPart}
-use Rattle.machine_desc.specs.declared.machine.Acpi.{Acpi}
-use Rattle.machine_desc.specs.declared.machine.Hpet.{Hpet}
 use Rattle.machine_desc.specs.declared.smbios_parts.Socket.{Socket}
 use Rattle.machine_desc.specs.declared.smbios_parts.Slot.{Slot as SlotPart}
 use Rattle.machine_desc.specs.declared.smbios_parts.Dimm.{Dimm}
 use Rattle.machine_desc.specs.declared.smbios_parts.MemRange.{MemRange}
 use Rattle.machine_desc.specs.declared.smbios_parts.Firmware.{Firmware}
 use Rattle.machine_desc.specs.declared.smbios_parts.Chassis.{Chassis as ChassisPart}
-use Rattle.machine_desc.specs.Rules.{is_lawful_slot, is_on_node_0, IsAccepted, HasFittingUuid}
+use Rattle.machine_desc.specs.Rules.{is_lawful_slot, IsAccepted, HasFittingUuid}
 use Rattle.machine_desc.specs.Fields.{IsFittingRange}
 use Rattle.machine_desc.proofs.Accepted.{own_uuid, fitting_ranges}
 use Rattle.smbios_model.specs.declared.smbios.Body.{Body}
@@ -31,7 +29,7 @@ use Rattle.smbios_model.specs.MappedAddress.{range_in}
 use Rattle.smbios_model.specs.MachineStructures.{if_some, bios_body, system_body, chassis_body, processor_body, slot_body, device_body, mapped_body}
 use Rattle.smbios_model.specs.MachineStructures.{parts_of, structures_of}
 use Rattle.smbios_model.proofs.GotBack.{system_back, slot_back, dimm_back, range_back}
-use Rattle.smbios_model.proofs.LawfulParts.{always, each_true, lawful_slots, on_node_0}
+use Rattle.smbios_model.proofs.LawfulParts.{always, each_true, lawful_slots}
 use Rattle.smbios_model.proofs.PartsByType.{bodies_of, bodies_in, are_typed, of_type}
 
 -- the part of a machine that a body tells
@@ -72,20 +70,29 @@ range_told body = None
 abbrev unknown : SystemPart
 unknown = record { manufacturer = []; product = []; version = []; serial = []; sku = []; family = []; uuid = None }
 
--- the machine that structures tell, with what they don't tell given
-abbrev pub machine_in : ℕ → List Structure → Option Acpi → Option Hpet → Machine
-machine_in top_mib structures acpi hpet = record {
-  top_mib = top_mib;
+-- Of a range structures don't tell the node. Ranges on these nodes, one after the other; those for which there is none stay.
+abbrev node_of : MemRange → ℕ
+node_of r = r.node
+
+abbrev off_node : MemRange → MemRange
+off_node r = record r { node = 0 }
+
+abbrev on_nodes : List ℕ → List MemRange → List MemRange
+on_nodes [] ranges = ranges
+on_nodes (node ∷ nodes) [] = []
+on_nodes (node ∷ nodes) (r ∷ ranges) = record r { node = node } ∷ on_nodes nodes ranges
+
+-- a machine with the parts that structures tell, and with its own of which they don't
+abbrev pub machine_in : Machine → List Structure → Machine
+machine_in m structures = record m {
   oem_strings = get_or (filter_map texts_told (bodies_of 11 structures)) 0 [];
   system = get_or (filter_map system_told (bodies_of 1 structures)) 0 unknown;
   firmware = slice_get (filter_map firmware_told (bodies_of 0 structures)) 0;
   chassis = slice_get (filter_map chassis_told (bodies_of 3 structures)) 0;
   sockets = filter_map socket_told (bodies_of 4 structures);
   dimms = filter_map dimm_told (bodies_of 17 structures);
-  ranges = filter_map range_told (bodies_of 19 structures);
+  ranges = on_nodes (map node_of m.ranges) (filter_map range_told (bodies_of 19 structures));
   slots = filter_map slot_told (bodies_of 9 structures);
-  acpi = acpi;
-  hpet = hpet;
 }
 
 -- elements of which each is got back are all got back
@@ -118,16 +125,36 @@ first_if_some : {Element : Type 0} (all : List Element) → get_or (if_some all)
 first_if_some [] = refl
 first_if_some (x ∷ xs) = refl
 
--- on node 0
-one_range : (r : MemRange) → IsFittingRange r → is_on_node_0 r ≡ true → range_told (mapped_body r) ≡ Some r
-one_range r fits on_0 =
-    let node : r.node ≡ 0 = is_0 r.node on_0 in
-    ap Some (range_back r fits ∙ ap (λ n. record r { node = n }) (sym node))
-  where
-    is_0 : (node : ℕ) → (node == 0) ≡ true → node ≡ 0
-    is_0 node is = grind (arith, nat_tests)
+-- the ranges that bodies tell
+ranges_told : (ranges : List MemRange) → AllByRecursion IsFittingRange ranges
+    → filter_map range_told (map mapped_body ranges) ≡ map off_node ranges
+ranges_told [] fit = refl
+ranges_told (r ∷ ranges) fit =
+    ap (λ first. first ∷ filter_map range_told (map mapped_body ranges)) (range_back r fit.0)
+    ∙ ap (λ others. off_node r ∷ others) (ranges_told ranges fit.1)
 
-pub machine_back : (m : Machine) → IsAccepted m → HasFittingUuid m → machine_in m.top_mib (structures_of m) m.acpi m.hpet ≡ m
+-- on their own nodes they are got back
+on_own_nodes : (ranges : List MemRange) → on_nodes (map node_of ranges) (map off_node ranges) ≡ ranges
+on_own_nodes [] = refl
+on_own_nodes (r ∷ ranges) = ap (λ others. r ∷ others) (on_own_nodes ranges)
+
+-- structures tell all of a machine's ranges but their nodes
+ranges_but_nodes : (m : Machine) → IsAccepted m → filter_map range_told (bodies_of 19 (structures_of m)) ≡ map off_node m.ranges
+ranges_but_nodes m accepted =
+    ap (filter_map range_told) (of_type 19 (parts_of m) (are_typed m accepted) ∙ append-nil (map mapped_body m.ranges))
+    ∙ ranges_told m.ranges (fitting_ranges m accepted)
+
+-- so two machines with the same structures have as many
+pub as_many_ranges : (a b : Machine) → IsAccepted a → IsAccepted b → structures_of a ≡ structures_of b → length a.ranges ≡ length b.ranges
+as_many_ranges a b a_accepted b_accepted same =
+    sym (length-map a.ranges off_node)
+    ∙ ap length (sym (ranges_but_nodes a a_accepted) ∙ ap (λ those. filter_map range_told (bodies_of 19 those)) same ∙ ranges_but_nodes b b_accepted)
+    ∙ length-map b.ranges off_node
+
+ranges_back : (m : Machine) → IsAccepted m → on_nodes (map node_of m.ranges) (filter_map range_told (bodies_of 19 (structures_of m))) ≡ m.ranges
+ranges_back m accepted = ap (on_nodes (map node_of m.ranges)) (ranges_but_nodes m accepted) ∙ on_own_nodes m.ranges
+
+pub machine_back : (m : Machine) → IsAccepted m → HasFittingUuid m → machine_in m (structures_of m) ≡ m
 machine_back m accepted fits =
     let firmware = any_back m accepted 0 bios_body firmware_told (option_to_list m.firmware) refl (λ f. refl) in
     let system = got_back m accepted 1 system_body system_told (m.system ∷ []) refl (ap Some (system_back m.system fits (own_uuid m accepted)), tt) in
@@ -138,7 +165,5 @@ machine_back m accepted fits =
     (each_true is_lawful_slot m.slots (lawful_slots m accepted))) in
     let texts = any_back m accepted 11 OemStrings texts_told (if_some m.oem_strings) refl (λ texts. refl) in
     let dimms = any_back m accepted 17 device_body dimm_told m.dimms refl (λ d. ap Some (dimm_back d)) in
-    let ranges = got_back m accepted 19 mapped_body range_told m.ranges refl
-    (each_from IsFittingRange (λ r. is_on_node_0 r ≡ true) (λ r. range_told (mapped_body r) ≡ Some r) one_range m.ranges (fitting_ranges m accepted)
-    (each_true is_on_node_0 m.ranges (on_node_0 m accepted))) in
+    let ranges = ranges_back m accepted in
     rw (texts, first_if_some m.oem_strings, system, firmware, first_given m.firmware, chassis, first_given m.chassis, sockets, dimms, ranges, slots) refl

@@ -1,7 +1,7 @@
 ghost use Rattle.std.specs.Prelude.{◌≡◌, ◌+◌, ◌^◌, ◌<◌, ◌≤◌, ◌++◌, ◌∷◌, [], map, length, IfOk, OnOk, Bool, true};
 ghost use Rattle.std.specs.List.{flat_map, list_all};
 ghost use Rattle.std.specs.Option.{option_map_or, option_to_list};
-ghost use Rattle.machine_desc.specs.Rules.{IsAccepted, is_lawful_chassis, is_lawful_socket, is_lawful_slot, is_lawful_dimm, is_on_node_0};
+ghost use Rattle.machine_desc.specs.Rules.{IsAccepted, is_lawful_chassis, is_lawful_socket, is_lawful_slot, is_lawful_dimm};
 ghost use Rattle.smbios_model.specs.declared.smbios.Body.{Body as ABody};
 ghost use Rattle.smbios_model.specs.MachineStructures.{with_handles, structures_in, structures_of, bios_part, system_part, chassis_part};
 ghost use Rattle.smbios_model.specs.MachineStructures.{processor_part, slot_part, oem_strings_part, array_part, device_part, mapped_part, boot_part};
@@ -79,7 +79,7 @@ fn push_board(
 }
 
 // Appends those of its memory.
-#[tactic(auto, using(crate::proofs::LawfulParts::lawful_dimms, crate::proofs::LawfulParts::on_node_0))]
+#[tactic(auto, using(crate::proofs::LawfulParts::lawful_dimms, crate::proofs::LawfulParts::each_whatever))]
 fn push_memory(structures: &mut List<Structure>, machine: &Machine) -> Result<(), OutOfMemory>
     requires { IsAccepted machine.now }
     ensures { OnOk result (structures.new ≡ structures.old
@@ -211,7 +211,7 @@ impl Told for Dimm {
 }
 
 impl Told for MemRange {
-    ghost is_lawful = { is_on_node_0 };
+    ghost is_lawful = { λ _. true };
 
     ghost says = { mapped_body };
 

@@ -1,12 +1,12 @@
 -- Two accepted machines with one inventory are the same.
-use Rattle.std.proofs.Common.{◌≡◌, ℕ, ◌*◌, Option, Some, arith, ap, sym, ◌∙◌}
+use Rattle.std.proofs.Common.{◌≡◌, ◌*◌, Option, Some, arith, ap, sym, ◌∙◌}
 use Rattle.machine_desc.specs.declared.machine.Machine.{Machine}
 use Rattle.machine_desc.specs.Rules.{IsAccepted, HasFittingUuid}
 use Rattle.acpi_model.proofs.SameAcpi.{same_acpi}
 use Rattle.smbios_model.specs.declared.smbios.SmbiosTable.{SmbiosTable}
 use Rattle.smbios_model.specs.MachineStructures.{structures_of}
 use Rattle.smbios_model.specs.Smbios.{smbios_of}
-use Rattle.smbios_model.proofs.WayBack.{machine_in, machine_back}
+use Rattle.smbios_model.proofs.WayBack.{machine_in, machine_back, as_many_ranges}
 use Rattle.table_model.specs.declared.inventory.Inventory.{Inventory}
 use Rattle.table_model.specs.Inventory.{inventory_of}
 
@@ -24,6 +24,20 @@ same_machine a b a_fits b_fits a_accepted b_accepted same =
     let top : a.top_mib ≡ b.top_mib = omega arith in
     let structures = structures_in a b same in
     let tables = same_acpi a b a_accepted b_accepted (ap (λ (i : Inventory). i.acpi) same) in
-    let told : machine_in a.top_mib (structures_of a) a.acpi a.hpet ≡ machine_in b.top_mib (structures_of b) b.acpi b.hpet =
-    cc (tables.acpi, tables.hpet) in
+    let nodes = tables.range_nodes (as_many_ranges a b a_accepted b_accepted structures) in
+    let told : machine_in a (structures_of a) ≡ machine_in b (structures_of b) =
+    cc (
+      top,
+      structures,
+      nodes,
+      tables.acpi,
+      tables.power,
+      tables.hpet,
+      tables.apic,
+      tables.cpus,
+      tables.io_apics,
+      tables.overrides,
+      tables.nmis,
+      tables.numa,
+    ) in
     sym (machine_back a a_accepted a_fits) ∙ told ∙ machine_back b b_accepted b_fits

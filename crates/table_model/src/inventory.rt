@@ -18,6 +18,8 @@ pub struct Inventory {
     pub smbios: Option<SmbiosTable>,
     /// The tables of its RSDP; none where no valid RSDP stands.
     pub acpi: Option<AcpiTables>,
+    /// The id of its generation, which a DSDT leads to. None is read of a DSDT yet.
+    pub generation: Option<[u8; 16]>,
 }
 
 /// Returns the inventory of `machine`, which is accepted. Its lists take their memory from `alloc`, and each copy of a text from
@@ -32,6 +34,7 @@ pub fn inventory_of(alloc: Global, machine: &Machine) -> Result<Inventory, OutOf
         top: machine.top_mib * BYTES_IN_MIB as u32,
         smbios: Some(smbios),
         acpi,
+        generation: None,
     })
 }
 

@@ -9,8 +9,12 @@ mod inventory;
 pub mod laws;
 
 pub use acpi_model::{
-    AcpiTables, GenericAddress, HEADER_SIZE, Head, HpetTable, OtherTable, Table, gathered, head_of,
-    hpet_of, rsdp_rows, tables_of,
+    AcpiTables, ApicAffinity, Dsdt, FACS_PLACE, FACS_SIZE, Facs, Fadt, FadtLinks, FadtTargets,
+    GenericAddress, HEADER_SIZE, Head, HpetTable, IoApicEntry, Link, LocalApicEntry, LocalNmiEntry,
+    Madt, MadtEntry, MadtFront, MemoryAffinity, OtherTable, OverrideEntry, Slit, SlitFront, Srat,
+    SratEntry, SratFront, Table, X2ApicAffinity, X2ApicEntry, X2ApicNmiEntry, fadt_links, fadt_of,
+    head_of, hpet_of, initial_facs, madt_of_machine, rsdp_rows, slit_of_machine, srat_of_machine,
+    tables_of,
 };
 pub use inventory::{Inventory, inventory_of};
 pub use smbios_model::{

@@ -342,6 +342,255 @@ oem_table_id = "VMTABLE "
 [acpi]
 oem_table_id = "VM\u0000"
 => description: rule 3 index 0
+--- the table `power`
+[power]
+event = 0x600
+control = 0x604
+timer = 0x608
+=> description: rule 13 index 0
+---
+[acpi]
+[power]
+event = 0x600
+control = 0x604
+timer = 0x608
+rtc = true
+=> description: unknown key power 0 rtc
+---
+[acpi]
+[power]
+control = 0x604
+timer = 0x608
+=> description: missing key power 0 event
+---
+[acpi]
+[power]
+event = 0x600
+timer = 0x608
+=> description: missing key power 0 control
+---
+[acpi]
+[power]
+event = 0x600
+control = 0x604
+=> description: missing key power 0 timer
+---
+[acpi]
+[power]
+event = 65536
+control = 0x604
+timer = 0x608
+=> description: out of range power 0 event
+---
+[acpi]
+[power]
+event = 0x600
+control = 0x604
+timer = 0x608
+keyboard = 0
+=> description: wrong kind power 0 keyboard
+---
+[acpi]
+[power]
+event = 0x600
+control = 0x604
+timer = 0x608
+century = 256
+=> description: out of range power 0 century
+---
+[acpi]
+[power]
+event = 0x600
+control = 0x604
+timer = 0
+=> description: rule 17 index 0
+---
+[acpi]
+[power]
+event = 0x600
+control = 0x604
+timer = 0x608
+gpe = 0x620
+gpe_len = 15
+=> description: rule 17 index 0
+---
+[acpi]
+[power]
+event = 0x600
+control = 0x604
+timer = 0x608
+gpe = 0x620
+=> description: rule 17 index 0
+---
+[acpi]
+[power]
+event = 0x600
+control = 0x604
+timer = 0x608
+reset_value = 15
+=> description: rule 17 index 0
+--- interrupt controllers
+[apic]
+=> description: rule 13 index 2
+---
+[acpi]
+[[cpu]]
+apic = 0
+=> description: rule 15 index 0
+---
+[acpi]
+[[nmi]]
+[[override]]
+irq = 0
+gsi = 2
+=> description: rule 15 index 2
+---
+[acpi]
+[apic]
+x2apic = true
+=> description: unknown key apic 0 x2apic
+---
+[acpi]
+[apic]
+legacy = 1
+=> description: wrong kind apic 0 legacy
+---
+[acpi]
+[apic]
+[cpu]
+apic = 0
+=> description: wrong kind root 0 cpu
+---
+[acpi]
+[apic]
+[[cpu]]
+apic = 0
+[[cpu]]
+=> description: missing key cpu 1 apic
+---
+[acpi]
+[apic]
+[[cpu]]
+apic = 4294967296
+=> description: out of range cpu 0 apic
+---
+[acpi]
+[apic]
+[[cpu]]
+apic = 4294967295
+=> description: rule 19 index 0
+---
+[acpi]
+[apic]
+[[cpu]]
+apic = 2
+[[cpu]]
+apic = 1
+[[cpu]]
+apic = 2
+=> description: rule 19 index 2
+---
+[acpi]
+[apic]
+[[ioapic]]
+id = 7
+address = 0xFEC00000
+[[ioapic]]
+id = 7
+address = 0xFEC01000
+=> description: rule 20 index 1
+---
+[acpi]
+[apic]
+[[override]]
+irq = 16
+gsi = 2
+=> description: rule 21 index 0
+---
+[acpi]
+[apic]
+[[cpu]]
+apic = 0
+[[nmi]]
+[[nmi]]
+cpu = 1
+=> description: rule 22 index 1
+---
+[acpi]
+[apic]
+[[nmi]]
+lint = 2
+=> description: rule 22 index 0
+--- nodes
+[numa]
+nodes = 1
+distance = [10]
+=> description: rule 13 index 3
+---
+[acpi]
+[numa]
+nodes = 1
+=> description: missing key numa 0 distance
+---
+[acpi]
+[numa]
+nodes = 256
+distance = [10]
+=> description: out of range numa 0 nodes
+---
+[acpi]
+[numa]
+nodes = 2
+distance = [10, 20, 256, 10]
+=> description: out of range numa 0 distance
+---
+[acpi]
+[numa]
+nodes = 2
+distance = [10, 20, "20", 10]
+=> description: wrong kind numa 0 distance
+---
+[acpi]
+[numa]
+nodes = 2
+distance = [10, 20, 20]
+=> description: rule 23 index 0
+---
+[acpi]
+[numa]
+nodes = 2
+distance = [10, 20, 9, 10]
+=> description: rule 23 index 0
+---
+[acpi]
+[numa]
+nodes = 0
+distance = []
+=> description: rule 23 index 0
+---
+[acpi]
+[apic]
+[[cpu]]
+apic = 0
+[[cpu]]
+apic = 1
+node = 1
+=> description: rule 24 index 1
+---
+[acpi]
+[apic]
+[[cpu]]
+apic = 0
+[[dimm]]
+size_mib = 64
+[[range]]
+base_mib = 0
+size_mib = 64
+node = 2
+[numa]
+nodes = 2
+distance = [10, 20, 20, 10]
+=> description: rule 24 index 1
 --- the table `hpet`
 [hpet]
 => description: rule 13 index 1
@@ -428,7 +677,7 @@ static KEYS: [&str; 6] = [
 ];
 
 // Descriptions that are accepted.
-static ACCEPTED: [&str; 12] = [
+static ACCEPTED: [&str; 17] = [
     "version = 1\ntop_mib = 64\nsystem = {}\n",
     "version = 1\ntop_mib = 3072\nsystem = {}\n",
     "version = 1\ntop_mib = 65\nsystem = { product = \" ~\" }\n",
@@ -441,6 +690,11 @@ static ACCEPTED: [&str; 12] = [
     "version = 1\ntop_mib = 64\nsystem = {}\nacpi = {}\nhpet = { address = 0, block_id = 0, number = 0, min_tick = 0 }\n",
     "version = 1\ntop_mib = 64\nsystem = {}\nacpi = {}\nhpet = { address = 0xFFFFFC00, block_id = 4294967295 }\n",
     "version = 1\ntop_mib = 64\nsystem = {}\nacpi = {}\nhpet = { number = 255, min_tick = 65535 }\n",
+    "version = 1\ntop_mib = 64\nsystem = {}\nacpi = {}\npower = { event = 1, control = 1, timer = 1, gpe = 1, gpe_len = 2, reset = 1 }\n",
+    "version = 1\ntop_mib = 64\nsystem = {}\nacpi = {}\npower = { sci = 65535, profile = 255, event = 65535, control = 65535, timer = 65535, gpe = 65535, gpe_len = 30, reset = 65535, reset_value = 255, century = 255 }\n",
+    "version = 1\ntop_mib = 64\nsystem = {}\nacpi = {}\napic = { local = 4294967295 }\ncpu = [{ apic = 4294967294 }]\nioapic = [{ id = 255, address = 4294967295, gsi = 4294967295 }]\n",
+    "version = 1\ntop_mib = 64\nsystem = {}\nacpi = {}\napic = {}\ncpu = []\noverride = [{ irq = 15, gsi = 4294967295, flags = 15 }]\nnmi = [{}, {}]\n",
+    "version = 1\ntop_mib = 64\nsystem = {}\nacpi = {}\nnuma = { nodes = 2, distance = [10, 255, 254, 10] }\n",
 ];
 
 // What stands above the header of `system`, and that header.

@@ -3,7 +3,9 @@
 use fixtures::{
     EMPTY, EMPTY_DUMP, LONG_TEXTS_DUMP, MINIMAL, MINIMAL_DUMP, ON_THE_BORDER, ON_THE_BORDER_DUMP,
     QUOTES, QUOTES_DUMP, WITH_ACPI, WITH_ACPI_AND_HPET, WITH_ACPI_AND_HPET_DUMP, WITH_ACPI_DUMP,
-    boot, booted, ends, long_texts_description,
+    WITH_ALL_OF_POWER, WITH_ALL_OF_POWER_DUMP, WITH_APIC, WITH_APIC_DUMP, WITH_INTERRUPTS,
+    WITH_INTERRUPTS_DUMP, WITH_NODES, WITH_NODES_DUMP, WITH_POWER, WITH_POWER_DUMP, boot, booted,
+    ends, long_texts_description,
 };
 use std::alloc::Global;
 use std::test::Fail;
@@ -30,7 +32,7 @@ static SPELLINGS: [&str; 9] = [
     "system.uuid = \"00112233-4455-6677-8899-aabbccddeeff\"\ntop_mib = 64\nsystem.product = \"VM\"\nversion = 1\nsystem.manufacturer = \"ACME\"\n",
 ];
 
-static MACHINES: [(&str, &str); 6] = [
+static MACHINES: [(&str, &str); 11] = [
     (MINIMAL, MINIMAL_DUMP),
     (EMPTY, EMPTY_DUMP),
     (QUOTES, QUOTES_DUMP),
@@ -38,6 +40,11 @@ static MACHINES: [(&str, &str); 6] = [
     (WITH_ACPI_AND_HPET, WITH_ACPI_AND_HPET_DUMP),
     (WITH_ACPI, WITH_ACPI_DUMP),
     (ON_THE_BORDER, ON_THE_BORDER_DUMP),
+    (WITH_POWER, WITH_POWER_DUMP),
+    (WITH_ALL_OF_POWER, WITH_ALL_OF_POWER_DUMP),
+    (WITH_APIC, WITH_APIC_DUMP),
+    (WITH_INTERRUPTS, WITH_INTERRUPTS_DUMP),
+    (WITH_NODES, WITH_NODES_DUMP),
 ];
 
 #[test]

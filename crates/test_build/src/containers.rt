@@ -60,7 +60,8 @@ fn are_files(items: &[Item]) -> Result<(), Fail> {
     is_file(script, SCRIPT, 512)
 }
 
-fn is_file(item: &Item, name: &str, size: usize) -> Result<(), Fail> {
+// The item has this name and so many bytes.
+pub(crate) fn is_file(item: &Item, name: &str, size: usize) -> Result<(), Fail> {
     is_same(name, "name", &item.name, &Name::of(name)?)?;
     is_same(name, "size", &item.bytes.len(), &size)
 }

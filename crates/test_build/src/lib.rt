@@ -7,6 +7,8 @@ mod containers;
 #[cfg(test)]
 mod endings;
 #[cfg(test)]
+mod greatest;
+#[cfg(test)]
 mod statuses;
 #[cfg(test)]
 mod words;

@@ -28,8 +28,8 @@ x = 1
 [bus]
 => unknown key root 0 bus
 ---
-[[cpu]]
-=> unknown key root 0 cpu
+[[cpus]]
+=> unknown key root 0 cpus
 ---
 'a bé~' = 1
 => unknown key root 0 a?b??~
@@ -206,10 +206,66 @@ acpi = ''
 hpet = ''
 => wrong kind root 0 acpi
 ---
+power = 1
 hpet = 1
 acpi.oem_table_id = []
 => wrong kind acpi 0 oem_table_id
+---
+hpet = 1
+power = {}
+=> missing key power 0 event
+---
+apic = 1
+hpet.number = -1
+=> out of range hpet 0 number
+---
+cpu = [{}]
+apic = []
+=> wrong kind root 0 apic
+---
+ioapic = 1
+cpu = [{}]
+=> missing key cpu 0 apic
+---
+override = 1
+ioapic = [{id = 256}]
+=> out of range ioapic 0 id
+---
+nmi = 1
+override = [{irq = 0, gsi = 0}, {irq = 1}]
+=> missing key override 1 gsi
+---
+nmi = [{}, {cpu = 'all'}]
+=> wrong kind nmi 1 cpu
+---
+nmi = [{cpu = 4294967296}]
+=> out of range nmi 0 cpu
+---
+numa = 1
+nmi = {}
+=> wrong kind root 0 nmi
+---
+numa.nodes = 2
+=> missing key numa 0 distance
+---
+numa = {nodes = 2, distance = [10, 256, 20, 10]}
+=> out of range numa 0 distance
+---
+numa = {nodes = 256, distance = [10, 256]}
+=> out of range numa 0 nodes
 --- in a table unknown keys come first, and then keys in their order
+power.rtc = true
+=> unknown key power 0 rtc
+---
+power = {control = 0x604, timer = 0x608}
+=> missing key power 0 event
+---
+power = {event = 0x600, timer = 0x608, keyboard = 1}
+=> missing key power 0 control
+---
+power = {event = 0x600, control = 0x604, gpe = 65536}
+=> missing key power 0 timer
+---
 firmware = {vendor = 1, serial = 1, release = 1}
 => unknown key firmware 0 release
 ---

@@ -34,8 +34,29 @@ slot = [{}, {function = ''}]
 acpi.oem_table_id = 1
 => 8 0 1
 ---
+power = {event = 1, control = 1, timer = 1, keyboard = ''}
+=> 9 0 11
+---
 hpet.min_tick = ''
 => 10 0 3
+---
+apic.legacy = 0
+=> 11 0 1
+---
+cpu = [{apic = 0}, {apic = 1, enabled = 0}]
+=> 12 1 2
+---
+ioapic = [{id = 0, address = 0}, {id = 1, address = 1, gsi = -1}]
+=> 13 1 2
+---
+override = [{irq = 0, gsi = 0, flags = ''}]
+=> 14 0 2
+---
+nmi = [{}, {}, {lint = ''}]
+=> 15 2 2
+---
+numa = {nodes = 1, distance = ['']}
+=> 16 0 1
 --- the bytes of an unknown key are all of them
 'é' = 1
 => 0 0 é
@@ -125,7 +146,7 @@ fn lines_of_other_numbers(rt: HostRuntime) {
     };
     has_line(&rt, &to_come, "description: missing key root 0 \n");
     let past = DescFault::MissingKey {
-        table: 9,
+        table: 17,
         index: 0,
         key: 255,
     };

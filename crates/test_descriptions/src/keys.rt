@@ -3,8 +3,8 @@
 /// A line for each key, in the order in which keys are looked at: its table, its number, its name, its kind, and what is read where it is
 /// left out. Numbers that no line has are kept for keys to come. A number behind a `u` is how many bits an integer has, and the version is
 /// the integer 1. `!` marks a key that must be there, and `none` one without which the machine has nothing there. Behind these stands the
-/// rule that the description with every key breaks where this key has the most that it may have, or where this table or array is left
-/// out, if it breaks one.
+/// rule that the description with every key breaks where this key has the most that it may have, and behind `without` the rule that it
+/// breaks where this key is left out, if it breaks one.
 pub(crate) const KEYS: &str = r#"root 0 version 1 !
 root 1 top_mib u32 ! rule 1 index 0
 root 2 oem_strings texts []
@@ -12,11 +12,18 @@ root 4 system table !
 root 5 firmware table none
 root 6 chassis table none
 root 7 socket tables []
-root 8 dimm tables [] rule 9 index 0
-root 9 range tables [] rule 9 index 0
+root 8 dimm tables [] without rule 9 index 0
+root 9 range tables [] without rule 9 index 0
 root 10 slot tables []
-root 11 acpi table none rule 13 index 1
+root 11 acpi table none without rule 13 index 0
+root 12 power table none
 root 13 hpet table none
+root 14 apic table none without rule 15 index 0
+root 15 cpu tables [] without rule 22 index 0
+root 16 ioapic tables []
+root 17 override tables []
+root 18 nmi tables []
+root 19 numa table none without rule 24 index 0
 system 0 manufacturer text ""
 system 1 product text ""
 system 2 version text ""
@@ -54,7 +61,7 @@ dimm 6 size_mib u32 ! rule 8 index 1
 dimm 7 speed u16 0 rule 8 index 1
 range 0 base_mib u32 !
 range 1 size_mib u32 ! rule 10 index 1
-range 2 node u8 0 rule 24 index 1
+range 2 node u8 0 rule 24 index 3
 slot 0 designation text ""
 slot 1 kind u8 1
 slot 2 width u8 1
@@ -65,18 +72,46 @@ slot 6 device u8 0 rule 12 index 1
 slot 7 function u8 0 rule 12 index 1
 acpi 0 oem_id text "BOCHS" rule 16 index 0
 acpi 1 oem_table_id text "BXPC" rule 16 index 1
+power 0 sci u16 9
+power 1 profile u8 0
+power 2 event u16 !
+power 3 control u16 !
+power 4 timer u16 !
+power 5 gpe u16 0 without rule 17 index 0
+power 6 gpe_len u8 0 rule 17 index 0 without rule 17 index 0
+power 7 reset u16 0 without rule 17 index 0
+power 8 reset_value u8 0
+power 9 century u8 0
+power 11 keyboard bool true
 hpet 0 address u32 0xFED00000 rule 18 index 0
 hpet 1 block_id u32 0x8086A201
 hpet 2 number u8 0
-hpet 3 min_tick u16 100"#;
+hpet 3 min_tick u16 100
+apic 0 local u32 0xFEE00000
+apic 1 legacy bool true
+cpu 0 apic u32 ! rule 19 index 1
+cpu 1 node u8 0 rule 24 index 1
+cpu 2 enabled bool true
+ioapic 0 id u8 !
+ioapic 1 address u32 !
+ioapic 2 gsi u32 0
+override 0 irq u8 ! rule 21 index 1
+override 1 gsi u32 !
+override 2 flags u16 0 rule 21 index 1
+nmi 0 cpu u32 none rule 22 index 1
+nmi 1 flags u16 0 rule 22 index 1
+nmi 2 lint u8 1 rule 22 index 1
+numa 0 nodes u8 ! rule 23 index 0
+numa 1 distance bytes !"#;
 
 /// Lines of values: kinds of keys, what is told of a description that has one of the values at a key of such a kind, and the values. A
-/// value that is accepted is the most that its kind may have. This and a text that breaks rule 3 are no faults of the key.
+/// value that is accepted is the most that its kind may have. This and a value that breaks a rule are no faults of the key.
 pub(crate) const VALUES: &str = r#"text uuid: wrong kind: 1 | 1.5 | true | 2024-01-02 | ['a'] | {}
 bool: wrong kind: 0 | 1.5 | 'true' | 2024-01-02 | [true] | {}
 1: wrong kind: '1' | 1.0 | nan | true | 2024-01-02 | [1] | {}
 u8 u16 u32: wrong kind: '1' | 1.0 | inf | true | 07:32:00 | [] | {}
 texts: wrong kind: 'a' | 1 | true | {} | [{}] | [1] | ['a', 1, 'b'] | ['a', ['b']] | ['a', 2024-01-02]
+bytes: wrong kind: 10 | '10' | true | {} | [{}] | ['a'] | [10, 10.0] | [10, [10]] | [10, true]
 table: wrong kind: '' | 1 | true | 1979-05-27T07:32:00Z | [] | [{}]
 tables: wrong kind: '' | 1 | true | {} | [1] | ['a'] | [[{}]]
 uuid: out of range: '' | '00112233'
@@ -84,8 +119,10 @@ uuid: out of range: '' | '00112233'
 u8: out of range: 256 | -1
 u16: out of range: 65536 | -1
 u32: out of range: 4294967296 | -1
+bytes: out of range: [256] | [10, 20, -1]
 text: rule 3 index 0: "\t" | 'é' | '01234567890123456789012345678901234567890123456789012345678901234'
 texts: rule 3 index 0: ["\n"] | ['a', '01234567890123456789012345678901234567890123456789012345678901234']
+bytes: rule 23 index 0: [] | [10] | [10, 20, 20]
 1: accepted: 1
 u8: accepted: 255
 u16: accepted: 65535
@@ -95,10 +132,10 @@ uuid: accepted: 'fffffffffffffffffffffffffffffffe'
 text: accepted: '0123456789012345678901234567890123456789012345678901234567890123'"#;
 
 // The kinds of keys.
-const KINDS: &str = "1 u8 u16 u32 bool text uuid texts table tables";
+const KINDS: &str = "1 u8 u16 u32 bool text uuid texts bytes table tables";
 
 // The tables that are elements of an array. The description with every key has two of each.
-const ELEMENTS: &str = "socket dimm range slot";
+const ELEMENTS: &str = "socket dimm range slot cpu ioapic override nmi";
 
 /// A key of a table.
 #[derive(Clone, Copy)]
@@ -113,8 +150,10 @@ pub(crate) struct Key<'a> {
     pub(crate) name: &'a str,
     pub(crate) kind: &'a str,
     pub(crate) default: &'a str,
-    /// Gives the rule that its line has, or nothing.
+    /// Gives the rule that the description with every key breaks where the key has its most, or nothing.
     pub(crate) rule: &'a str,
+    /// Gives the rule that the description with every key breaks without it, or nothing.
+    pub(crate) rule_without: &'a str,
 }
 
 impl<'a> Key<'a> {
@@ -127,6 +166,7 @@ impl<'a> Key<'a> {
         if !is_among(KINDS, kind) {
             return None;
         }
+        let (rest, rule_without) = rest.split_once(" without ").unwrap_or((rest, ""));
         let (default, rule) = rest.split_once(" ").unwrap_or((rest, ""));
         Some(Key {
             line,
@@ -137,6 +177,7 @@ impl<'a> Key<'a> {
             kind,
             default,
             rule,
+            rule_without,
         })
     }
 
@@ -148,14 +189,6 @@ impl<'a> Key<'a> {
     /// Says whether no element of an array stands behind its table.
     pub(crate) fn is_last(&self) -> bool {
         self.index == 1 || !self.is_in_array()
-    }
-
-    /// Returns the rule that the description with every key breaks without it.
-    pub(crate) fn rule_without(&self) -> &'a str {
-        match self.kind {
-            "table" | "tables" => self.rule,
-            _ => "",
-        }
     }
 }
 

@@ -2,6 +2,8 @@
 #![tactic(auto)]
 
 #[cfg(test)]
+mod apic_rules;
+#[cfg(test)]
 mod bytes;
 #[cfg(test)]
 mod changed;
@@ -11,6 +13,8 @@ mod each_key;
 mod faults;
 #[cfg(test)]
 mod fields;
+#[cfg(test)]
+mod interrupt_words;
 #[cfg(test)]
 mod keys;
 #[cfg(test)]

@@ -55,7 +55,7 @@ size_mib = 1
 [[range]]
 base_mib = 0
 size_mib = 2048
-node = 0
+node = 1
 [[range]]
 base_mib = 4294967295
 size_mib = 1
@@ -72,11 +72,54 @@ function = 7
 [acpi]
 oem_id = \"EXMPL\"
 oem_table_id = \"EXSERVER\"
+[power]
+sci = 65535
+profile = 4
+event = 0x600
+control = 0x604
+timer = 0x608
+gpe = 0x620
+gpe_len = 16
+reset = 0xCF9
+reset_value = 15
+century = 50
+keyboard = false
 [hpet]
 address = 0xFED00400
 block_id = 0xFFFFFFFF
 number = 255
 min_tick = 65535
+[apic]
+local = 0xFEE01000
+legacy = false
+[[cpu]]
+apic = 255
+node = 2
+enabled = false
+[[cpu]]
+apic = 4
+[[ioapic]]
+id = 9
+address = 0xFEC00000
+gsi = 24
+[[ioapic]]
+id = 0
+address = 4294967295
+[[override]]
+irq = 15
+gsi = 4294967295
+flags = 15
+[[override]]
+irq = 0
+gsi = 2
+[[nmi]]
+cpu = 1
+flags = 15
+lint = 0
+[[nmi]]
+[numa]
+nodes = 3
+distance = [10, 20, 30, 40, 10, 50, 60, 255, 10]
 ";
 
 // Its machine in words.
@@ -86,9 +129,11 @@ const EVERY_VALUE: &str =
     |chassis|Example Housing|3|C-0001|A-0001|EX-BOX-1| 127\
     |socket|CPU 0|Example Silicon|4|P-0001|A-0002|EX-CPU-1| 65534 65534 65535|socket||||||| 1 2 0\
     |dimm|DIMM 0|BANK 0|Example Memory|M-0001|A-0003|EX-RAM-1| 16777216 65534|dimm||||||| 1 0\
-    |range| 0 2048 0|range| 4294967295 1 0\
+    |range| 0 2048 1|range| 4294967295 1 0\
     |slot|SLOT 0| 255 254 1 65535 255 31 7|slot|| 1 1 0 0 0 0 0\
-    |acpi|EXMPL|EXSERVER|hpet fed00400 ffffffff 255 65535";
+    |acpi|EXMPL|EXSERVER|power| 65535 4 1536 1540 1544 1568 16 3321 15 50 0|hpet fed00400 ffffffff 255 65535\
+    |apic| 4276097024 0|cpu| 255 2 0|cpu| 4 0 1|ioapic| 9 4273995776 24|ioapic| 0 4294967295 0\
+    |override| 15 4294967295 15|override| 0 2 0|nmi 1| 15 0|nmi| 0 1|numa| 3 10 20 30 40 10 50 60 255 10";
 
 // Descriptions, and their machines.
 const MACHINES: &str = r#"---
@@ -244,6 +289,42 @@ chassis = {}
 firmware = {}
 oem_strings = ['o']
 => top 64|oem|o|||||||firmware|||| 0 0|chassis|||||| 1|slot|| 1 1 0 0 0 0 0|acpi|BOCHS|BXPC
+---
+acpi = {}
+power = {event = 1, control = 65535, timer = 3}
+=> top 64|||||||acpi|BOCHS|BXPC|power| 9 0 1 65535 3 0 0 0 0 0 1
+---
+acpi = {}
+apic = {}
+=> top 64|||||||acpi|BOCHS|BXPC|apic| 4276092928 1
+---
+nmi = []
+override = []
+ioapic = []
+cpu = []
+=> top 64||||||
+--- ids in any order, and an NMI of the last processor
+nmi = [{cpu = 3}]
+cpu = [{apic = 4294967294}, {apic = 0}, {apic = 7, enabled = false}, {apic = 3}]
+apic = {legacy = false}
+acpi = {}
+=> top 64|||||||acpi|BOCHS|BXPC|apic| 4276092928 0|cpu| 4294967294 0 1|cpu| 0 0 1|cpu| 7 0 0|cpu| 3 0 1|nmi 3| 0 1
+---
+acpi = {}
+apic = {}
+ioapic = [{id = 2, address = 1}, {id = 1, address = 1}]
+override = [{irq = 2, gsi = 0}, {irq = 1, gsi = 0}]
+=> top 64|||||||acpi|BOCHS|BXPC|apic| 4276092928 1|ioapic| 2 1 0|ioapic| 1 1 0|override| 2 0 0|override| 1 0 0
+--- nodes, which need no interrupt controllers
+acpi = {}
+numa = {nodes = 1, distance = [10]}
+=> top 64|||||||acpi|BOCHS|BXPC|numa| 1 10
+---
+acpi = {}
+numa = {nodes = 2, distance = [10, 10, 255, 10]}
+dimm = [{size_mib = 64}]
+range = [{base_mib = 0, size_mib = 64, node = 1}]
+=> top 64|||||||dimm||||||| 64 0|range| 0 64 1|acpi|BOCHS|BXPC|numa| 2 10 10 255 10
 --- each number at its limit
 chassis.kind = 127
 => top 64|||||||chassis|||||| 127
@@ -265,6 +346,14 @@ bus = 255
 ---
 oem_strings = ['0123456789012345678901234567890123456789012345678901234567890123']
 => top 64|oem|0123456789012345678901234567890123456789012345678901234567890123||||||
+---
+acpi = {}
+power = {event = 1, control = 1, timer = 1, gpe = 65535, gpe_len = 30}
+=> top 64|||||||acpi|BOCHS|BXPC|power| 9 0 1 1 1 65535 30 0 0 0 1
+---
+acpi = {}
+power = {event = 1, control = 1, timer = 1, gpe = 1, gpe_len = 2, reset = 1, reset_value = 255}
+=> top 64|||||||acpi|BOCHS|BXPC|power| 9 0 1 1 1 1 2 1 255 0 1
 ---
 oem_strings = [' ', '~']
 => top 64|oem| |~||||||"#;

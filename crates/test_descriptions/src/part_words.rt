@@ -157,7 +157,7 @@ fn push_part(
 }
 
 // A bar, and each number behind a space.
-fn push_numbers(alloc: Global, told: &mut String, numbers: &[u64]) -> Result<(), Fail> {
+pub(crate) fn push_numbers(alloc: Global, told: &mut String, numbers: &[u64]) -> Result<(), Fail> {
     told.push_str("|")?;
     for number in numbers {
         push_number(alloc, told, *number)?;

@@ -267,12 +267,54 @@ dimm = [{size_mib = 64}]
 range = [{base_mib = 0, size_mib = 64, node = 1}]
 hpet = {}
 => rule 13 index 1
---- an HPET needs the table `acpi`
+--- power management and an HPET need the table `acpi`
+power = {event = 1, control = 1, timer = 1}
+=> rule 13 index 0
+---
+hpet = {}
+power = {event = 0, control = 0, timer = 0}
+=> rule 13 index 0
+---
 hpet = {}
 => rule 13 index 1
 ---
 hpet.address = 1
 => rule 13 index 1
+---
+apic = {}
+=> rule 13 index 2
+---
+hpet = {}
+apic = {}
+nmi = [{lint = 2}]
+=> rule 13 index 1
+---
+numa = {nodes = 0, distance = []}
+=> rule 13 index 3
+---
+apic = {}
+numa = {nodes = 0, distance = []}
+=> rule 13 index 2
+--- processors and what else belongs to interrupt controllers need the table `apic`
+cpu = [{apic = 0}]
+=> rule 15 index 0
+---
+acpi = {}
+ioapic = [{id = 0, address = 0}]
+=> rule 15 index 1
+---
+acpi = {}
+override = [{irq = 0, gsi = 0}]
+=> rule 15 index 2
+---
+acpi = {}
+nmi = [{}]
+=> rule 15 index 3
+---
+acpi.oem_id = ' '
+nmi = [{cpu = 0}]
+override = [{irq = 16, gsi = 0}]
+=> rule 15 index 2
 --- texts of headers have 6 bytes and 8, and don't end in a space
 acpi.oem_id = 'ACMECO1'
 => rule 16 index 0
@@ -292,6 +334,55 @@ acpi.oem_table_id = 'VM '
 hpet.address = 1
 acpi.oem_table_id = ' '
 => rule 16 index 1
+--- the ports of power management, its block of events and its reset value
+acpi = {}
+power = {event = 0, control = 1, timer = 1}
+=> rule 17 index 0
+---
+acpi = {}
+power = {event = 1, control = 0, timer = 1}
+=> rule 17 index 0
+---
+acpi = {}
+power = {event = 1, control = 1, timer = 0}
+=> rule 17 index 0
+---
+acpi = {}
+power = {event = 1, control = 1, timer = 1, gpe = 1}
+=> rule 17 index 0
+---
+acpi = {}
+power = {event = 1, control = 1, timer = 1, gpe_len = 2}
+=> rule 17 index 0
+---
+acpi = {}
+power = {event = 1, control = 1, timer = 1, gpe = 1, gpe_len = 1}
+=> rule 17 index 0
+---
+acpi = {}
+power = {event = 1, control = 1, timer = 1, gpe = 1, gpe_len = 29}
+=> rule 17 index 0
+---
+acpi = {}
+power = {event = 1, control = 1, timer = 1, gpe = 1, gpe_len = 31}
+=> rule 17 index 0
+---
+acpi = {}
+power = {event = 1, control = 1, timer = 1, gpe = 1, gpe_len = 32}
+=> rule 17 index 0
+---
+acpi = {}
+power = {event = 1, control = 1, timer = 1, reset_value = 1}
+=> rule 17 index 0
+---
+acpi = {oem_id = ' '}
+power = {event = 0, control = 1, timer = 1}
+=> rule 16 index 0
+---
+acpi = {}
+power = {event = 0, control = 1, timer = 1}
+hpet.address = 1
+=> rule 17 index 0
 --- an HPET is at a multiple of 1024
 acpi = {}
 hpet.address = 1
@@ -299,6 +390,12 @@ hpet.address = 1
 ---
 acpi = {}
 hpet.address = 512
+=> rule 18 index 0
+---
+acpi = {}
+apic = {}
+hpet.address = 512
+cpu = [{apic = 0}, {apic = 0}]
 => rule 18 index 0"#;
 
 // A list in a description: what stands before its elements, the element, how often it stands there, and what stands behind; and what the
@@ -312,7 +409,7 @@ struct Long {
 }
 
 // Lists that are longer than they may be, and lists of as many elements as they may have, whose descriptions break a later rule.
-static LISTS: [Long; 12] = [
+static LISTS: [Long; 26] = [
     Long {
         before: "oem_strings = [",
         element: "'a', ",
@@ -396,6 +493,104 @@ static LISTS: [Long; 12] = [
         times: 63,
         behind: "]",
         wanted: "rule 12 index 0",
+    },
+    Long {
+        before: "cpu = [",
+        element: "{apic = 1}, ",
+        times: 4097,
+        behind: "]",
+        wanted: "rule 2 index 5",
+    },
+    Long {
+        before: "ioapic = [",
+        element: "{id = 1, address = 1}, ",
+        times: 17,
+        behind: "]",
+        wanted: "rule 2 index 6",
+    },
+    Long {
+        before: "override = [",
+        element: "{irq = 1, gsi = 1}, ",
+        times: 17,
+        behind: "]",
+        wanted: "rule 2 index 7",
+    },
+    Long {
+        before: "nmi = [",
+        element: "{}, ",
+        times: 17,
+        behind: "]",
+        wanted: "rule 2 index 8",
+    },
+    Long {
+        before: "nmi = [",
+        element: "{}, ",
+        times: 17,
+        behind: "]\nslot = [{kind = 0}]",
+        wanted: "rule 2 index 8",
+    },
+    Long {
+        before: "cpu = [",
+        element: "{apic = 1}, ",
+        times: 4096,
+        behind: "]",
+        wanted: "rule 15 index 0",
+    },
+    Long {
+        before: "acpi = {}\napic = {}\ncpu = [",
+        element: "{apic = 1}, ",
+        times: 4096,
+        behind: "]",
+        wanted: "rule 19 index 1",
+    },
+    Long {
+        before: "acpi = {}\napic = {}\nioapic = [",
+        element: "{id = 1, address = 1}, ",
+        times: 16,
+        behind: "]",
+        wanted: "rule 20 index 1",
+    },
+    Long {
+        before: "acpi = {}\napic = {}\noverride = [",
+        element: "{irq = 1, gsi = 1}, ",
+        times: 16,
+        behind: "]",
+        wanted: "rule 21 index 1",
+    },
+    Long {
+        before: "acpi = {}\napic = {}\nnmi = [{cpu = 0}, ",
+        element: "{}, ",
+        times: 15,
+        behind: "]",
+        wanted: "rule 22 index 0",
+    },
+    Long {
+        before: "acpi = {}\napic = {}\ncpu = [{apic = 0, node = 63}, {apic = 1, node = 64}]\nnuma = {nodes = 64, distance = [",
+        element: "10, ",
+        times: 4096,
+        behind: "]}",
+        wanted: "rule 24 index 1",
+    },
+    Long {
+        before: "acpi = {}\nnuma = {nodes = 64, distance = [",
+        element: "10, ",
+        times: 4095,
+        behind: "]}",
+        wanted: "rule 23 index 0",
+    },
+    Long {
+        before: "acpi = {}\nnuma = {nodes = 64, distance = [",
+        element: "10, ",
+        times: 4097,
+        behind: "]}",
+        wanted: "rule 23 index 0",
+    },
+    Long {
+        before: "acpi = {}\nnuma = {nodes = 65, distance = [",
+        element: "10, ",
+        times: 4225,
+        behind: "]}",
+        wanted: "rule 23 index 0",
     },
 ];
 

@@ -1,7 +1,8 @@
 //! Machines in words.
 
-use crate::part_words::{push_number, push_parts};
-use machine_desc::{Acpi, Hpet, Machine, System};
+use crate::interrupt_words::push_interrupts;
+use crate::part_words::{push_number, push_numbers, push_parts};
+use machine_desc::{Acpi, Hpet, Machine, Numa, Power, System};
 use std::alloc::Global;
 use std::test::Fail;
 use vt_outside::Text;
@@ -19,7 +20,10 @@ fn push_machine(alloc: Global, told: &mut String, machine: &Machine) -> Result<(
     push_system(alloc, told, &machine.system)?;
     push_parts(alloc, told, machine)?;
     push_acpi(told, &machine.acpi)?;
-    push_hpet(alloc, told, &machine.hpet)
+    push_power(alloc, told, &machine.power)?;
+    push_hpet(alloc, told, &machine.hpet)?;
+    push_interrupts(alloc, told, machine)?;
+    push_numa(alloc, told, &machine.numa)
 }
 
 fn push_top(alloc: Global, told: &mut String, top_mib: u32) -> Result<(), Fail> {
@@ -82,6 +86,30 @@ fn push_acpi(told: &mut String, acpi: &Option<Acpi>) -> Result<(), Fail> {
     Ok(())
 }
 
+fn push_power(alloc: Global, told: &mut String, power: &Option<Power>) -> Result<(), Fail> {
+    if let Some(power) = power {
+        told.push_str("|power")?;
+        push_numbers(
+            alloc,
+            told,
+            &[
+                u64::from(power.sci),
+                u64::from(power.profile),
+                u64::from(power.event),
+                u64::from(power.control),
+                u64::from(power.timer),
+                u64::from(power.gpe),
+                u64::from(power.gpe_len),
+                u64::from(power.reset),
+                u64::from(power.reset_value),
+                u64::from(power.century),
+                u64::from(power.keyboard),
+            ],
+        )?;
+    }
+    Ok(())
+}
+
 fn push_hpet(alloc: Global, told: &mut String, hpet: &Option<Hpet>) -> Result<(), Fail> {
     if let Some(hpet) = hpet {
         let Hpet {
@@ -92,6 +120,22 @@ fn push_hpet(alloc: Global, told: &mut String, hpet: &Option<Hpet>) -> Result<()
         } = *hpet;
         let hpet = format!(in alloc; "|hpet {address:x} {block_id:x} {number} {min_tick}")?;
         told.push_str(hpet.as_str())?;
+    }
+    Ok(())
+}
+
+fn push_numa(alloc: Global, told: &mut String, numa: &Option<Numa>) -> Result<(), Fail> {
+    if let Some(numa) = numa {
+        told.push_str("|numa")?;
+        push_numbers(alloc, told, &[u64::from(numa.nodes)])?;
+        push_distances(alloc, told, numa.distance.as_slice())?;
+    }
+    Ok(())
+}
+
+fn push_distances(alloc: Global, told: &mut String, distances: &[u8]) -> Result<(), Fail> {
+    for distance in distances {
+        push_number(alloc, told, u64::from(*distance))?;
     }
     Ok(())
 }

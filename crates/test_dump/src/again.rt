@@ -7,7 +7,8 @@ ghost use Rattle.memory_dump.specs.Dump.{dump};
 
 use fixtures::{
     EMPTY_DUMP, LONG_TEXTS_DUMP, MINIMAL_DUMP, ON_THE_BORDER_DUMP, QUOTES_DUMP,
-    WITH_ACPI_AND_HPET_DUMP, WITH_ACPI_DUMP, is_same, sink,
+    WITH_ACPI_AND_HPET_DUMP, WITH_ACPI_DUMP, WITH_ALL_OF_POWER_DUMP, WITH_APIC_DUMP,
+    WITH_INTERRUPTS_DUMP, WITH_NODES_DUMP, WITH_POWER_DUMP, is_same, sink,
 };
 use guest_memory::GuestMemory;
 use memory_dump::{dump_to, read_dump, whole_lines};
@@ -15,7 +16,7 @@ use std::alloc::Global;
 use std::test::Fail;
 use vt_outside::{Failed, ListSink};
 
-static DUMPS: [&str; 7] = [
+static DUMPS: [&str; 12] = [
     EMPTY_DUMP,
     LONG_TEXTS_DUMP,
     MINIMAL_DUMP,
@@ -23,6 +24,11 @@ static DUMPS: [&str; 7] = [
     QUOTES_DUMP,
     WITH_ACPI_AND_HPET_DUMP,
     WITH_ACPI_DUMP,
+    WITH_ALL_OF_POWER_DUMP,
+    WITH_APIC_DUMP,
+    WITH_INTERRUPTS_DUMP,
+    WITH_NODES_DUMP,
+    WITH_POWER_DUMP,
 ];
 
 #[test]

@@ -40,6 +40,7 @@ fn system_breaks(
         },
         uuid,
         acpi: None,
+        power: None,
         hpet: None,
     };
     breaks(alloc, product, &sketch, wanted)

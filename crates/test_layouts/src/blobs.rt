@@ -123,8 +123,42 @@ fn put_layout(rt: &impl Abort, blob: &mut Blob) -> Result<(), OutOfMemory>
     requires { blob.old ≡ record { bytes = []; pointers = []; sums = [] } }
 {
     blob.append(&[7, 7, 7])?;
-    let place = append_layout(blob, 4, &[Row::Number(2, 0x0102)], &[Row::Reserved(1)])?;
+    let place = append_layout(blob, 4, &[Row::Number(2, 0x0102)], &[Row::Reserved(1)], &[])?;
     is(rt, &place, &4);
+    Ok(())
+}
+
+#[test]
+fn a_layout_with_bytes(rt: HostRuntime) -> Result<(), Fail> {
+    let mut blob = Blob::new(rt.alloc());
+    put_layout_with_bytes(&mut blob)?;
+    let sum = SumHole {
+        at: 4,
+        start: 4,
+        length: 7,
+    };
+    are_parts(
+        &rt,
+        blob.finish(),
+        b"\x07\x07\x07\0\0\x02\x01\x05abc",
+        &[],
+        &[sum],
+    );
+    Ok(())
+}
+
+// Three bytes, and a layout at the next multiple of 4, whose sum covers its rows and the bytes behind them.
+fn put_layout_with_bytes(blob: &mut Blob) -> Result<(), OutOfMemory>
+    requires { blob.old ≡ record { bytes = []; pointers = []; sums = [] } }
+{
+    blob.append(&[7, 7, 7])?;
+    append_layout(
+        blob,
+        4,
+        &[Row::Sum(7), Row::Number(2, 0x0102)],
+        &[Row::Number(1, 5)],
+        b"abc",
+    )?;
     Ok(())
 }
 

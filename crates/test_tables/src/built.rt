@@ -47,7 +47,8 @@ pub fn inventory_of_sketch(alloc: Global, sketch: &Sketch) -> Result<Inventory, 
     inventory
 }
 
-fn inventory_of_accepted(alloc: Global, machine: &Machine) -> Result<Inventory, Fail> {
+/// Returns the inventory of `machine`, which must be accepted.
+pub fn inventory_of_accepted(alloc: Global, machine: &Machine) -> Result<Inventory, Fail> {
     if machine.check().is_err() {
         return Err(Fail::from("a machine that breaks a rule"));
     }

@@ -115,8 +115,8 @@ fn append_tables(blob: &mut Blob, machine: &Machine) -> Result<(), Fail>
     Ok(())
 }
 
-// A file of five bytes.
-fn five_bytes(alloc: Global) -> Result<Blob, OutOfMemory>
+/// Returns a file of five bytes.
+pub fn five_bytes(alloc: Global) -> Result<Blob, OutOfMemory>
     ensures { IfOk result (λ blob. length blob.bytes ≡ 5) }
 {
     let mut blob = Blob::new(alloc);

@@ -9,9 +9,15 @@ mod built;
 #[cfg(test)]
 mod files;
 #[cfg(test)]
+mod interrupts;
+#[cfg(test)]
 mod longest;
 #[cfg(test)]
+mod nodes;
+#[cfg(test)]
 mod parts;
+#[cfg(test)]
+mod power;
 #[cfg(test)]
 mod records;
 #[cfg(test)]

@@ -26,6 +26,7 @@ static LONGEST: Sketch = Sketch {
     },
     uuid: None,
     acpi: None,
+    power: None,
     hpet: None,
 };
 

@@ -2,7 +2,8 @@
 //! IA-PC HPET 1.0a 3.2.4.
 
 use crate::built::{inventory_of_sketch, is};
-use acpi_model::{AcpiTables, GenericAddress, Head, HpetTable, Table, gathered, head_of, hpet_of};
+use crate::power::{FACS, FADT};
+use acpi_model::{AcpiTables, GenericAddress, Head, HpetTable, head_of, hpet_of};
 use fixtures::{FULL_MACHINE, HPET, Sketch, acpi};
 use machine_desc::Acpi;
 use smbios_model::{Body, SmbiosTable, Structure, SystemInfo, uuid_field};
@@ -48,21 +49,6 @@ static HPET_TABLE: HpetTable = HpetTable {
 // The same table as bytes: its checksum makes them sum to zero.
 static HPET_BYTES: &[u8] = b"HPET\x38\0\0\0\x01\xACACME  VMTABLE \x01\0\0\0VMTB\x01\0\0\0\
     \x04\x03\x02\x01\0\x40\0\0\0\x04\xD0\xFE\0\0\0\0\x05\x07\x06\0";
-
-// The HPET table of another timer.
-static OTHER_HPET: HpetTable = HpetTable {
-    head: REVISION_1,
-    block_id: 1,
-    address: GenericAddress {
-        space: 1,
-        width: 32,
-        offset: 2,
-        access: 3,
-        address: 0x0102_0304_0506_0708,
-    },
-    number: 4,
-    min_tick: 5,
-};
 
 // The machine's UUID, whose first three fields are little-endian.
 static UUID: [u8; 16] = [
@@ -142,10 +128,10 @@ fn is_text(rt: &impl Abort, text: &Text, wanted: &[u8]) {
 fn are_the_acpi_tables(rt: &impl Abort, tables: &AcpiTables) {
     is(rt, &tables.oem_id, b"ACME  ");
     is(rt, &tables.xsdt, &HEAD);
-    match &tables.hpet {
-        Some(table) => is(rt, table, &HPET_TABLE),
-        None => panic!(rt; "no HPET table"),
-    }
+    is(rt, &tables.fadt, &Some(FADT));
+    is(rt, &tables.facs, &Some(FACS));
+    is(rt, &tables.dsdt, &None);
+    is(rt, &tables.hpet, &Some(HPET_TABLE));
     is(rt, &tables.others.len(), &0);
 }
 
@@ -172,21 +158,6 @@ fn an_hpet_table_is_read(rt: HostRuntime) {
         Err(_) => panic!(&rt; "no HPET table"),
     }
     assert!(rt; read::<HpetTable>(rt.alloc(), &HPET_BYTES[..55], &[]).is_err());
-}
-
-#[test]
-fn the_first_table_of_a_kind_is_gathered(rt: HostRuntime) {
-    let found = [Table::Hpet(HPET_TABLE), Table::Hpet(OTHER_HPET)];
-    let tables = gathered(*b"ACME  ", REVISION_1, &found, List::new(rt.alloc()));
-    are_the_acpi_tables(&rt, &tables);
-    drop(tables);
-}
-
-#[test]
-fn without_tables_none_is_gathered(rt: HostRuntime) {
-    let tables = gathered(*b"ACME  ", REVISION_1, &[], List::new(rt.alloc()));
-    assert!(rt; tables.hpet.is_none());
-    drop(tables);
 }
 
 #[test]

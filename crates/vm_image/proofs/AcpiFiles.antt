@@ -9,7 +9,7 @@ use Rattle.vt_bytes.specs.View.{View}
 use Rattle.vt_layout.specs.Rows.{size}
 use Rattle.vt_layout.specs.Shown.{LayoutHeld}
 use Rattle.machine_desc.specs.declared.machine.Acpi.{Acpi}
-use Rattle.acpi_model.specs.declared.header.Head.{Head}
+use Rattle.acpi_records.specs.declared.header.Head.{Head}
 use Rattle.acpi_model.specs.declared.acpi.Table.{Table}
 use Rattle.acpi_model.specs.Header.{head_of, padded}
 use Rattle.acpi_model.specs.Xsdt.{IsXsdt, given}
@@ -62,16 +62,29 @@ pub map_more : {A B : Type 0} (f : A → B) (xs : List A) (x : A) → map f (xs 
 map_more f [] x = refl
 map_more f (y ∷ xs) x = ap (λ ys. f y ∷ ys) (map_more f xs x)
 
+-- none was appended yet
+pub none_appended : (begin : BlobState) → IsLinkable begin → AreAppended begin [] [] begin
+none_appended begin linkable = record {
+  file_is = refl;
+  places_are = refl;
+  grown = extends_self begin;
+  linkable = linkable;
+  few = omega arith;
+  stand = λ later view address place_of grown held. tt;
+}
+
 -- one more was appended
-pub one_more_appended : (tables : List Table) (places : List ℕ) (old new : BlobState) (table : Table) (place : ℕ) → AreAppended tables places old
-    → place ≡ next_place 16 old → IsTablePut old new table → AreAppended (tables ++ table ∷ []) (places ++ place ∷ []) new
-one_more_appended tables places old new table place before place_is one =
-    let next : next_place 16 old ≡ next_place 16 (with_tables (whole []) tables) = ap (next_place 16) before.file_is in
+pub one_more_appended : (begin : BlobState) (tables : List Table) (places : List ℕ) (old new : BlobState) (table : Table) (place : ℕ)
+    → AreAppended begin tables places old → place ≡ next_place 16 old → IsTablePut old new table
+    → AreAppended begin (tables ++ table ∷ []) (places ++ place ∷ []) new
+one_more_appended begin tables places old new table place before place_is one =
+    let next : next_place 16 old ≡ next_place 16 (with_tables begin tables) = ap (next_place 16) before.file_is in
     let near : next_place 16 old ≤ length old.bytes + 16 = omega arith in
     record {
-      file_is = one.appended.file_is ∙ ap (λ b. with_table b table) before.file_is ∙ sym (with_tables-more (whole []) tables table);
-      places_are = ap (λ those. those ++ place ∷ []) before.places_are ∙ ap (λ p. places_in (whole []) tables ++ p ∷ []) (place_is ∙ next)
-          ∙ sym (places_in-more (whole []) tables table);
+      file_is = one.appended.file_is ∙ ap (λ b. with_table b table) before.file_is ∙ sym (with_tables-more begin tables table);
+      places_are = ap (λ those. those ++ place ∷ []) before.places_are ∙ ap (λ p. places_in begin tables ++ p ∷ []) (place_is ∙ next)
+          ∙ sym (places_in-more begin tables table);
+      grown = extends_twice begin old new before.grown one.appended.grown;
       linkable = one.appended.linkable before.linkable;
       few = omega (arith, before.few, one.appended.size_is, near, most_bytes-more tables table, length-append places (place ∷ []));
       stand = λ later view address place_of grown held.
@@ -92,17 +105,19 @@ all_given address (place ∷ places) above =
     ∙ ap (λ p. p ∷ given (map (λ q. q + address) places)) turned ∙ ap (λ ps. (address + place) ∷ ps) (all_given address places above)
 
 -- the XSDT behind its tables names them
-pub tables_named : (tables : List Table) (places : List ℕ) (old new : BlobState) (head : Head) → AreAppended tables places old
-    → length new.bytes ≡ next_place 16 old + (36 + 8 * length places) → IsXsdtPut old new head places → IsTablesFile head tables new
-tables_named tables places old new head before size_is xsdt =
+pub tables_named : (begin : BlobState) (tables : List Table) (places : List ℕ) (old new : BlobState) (head : Head)
+    → AreAppended begin tables places old → length new.bytes ≡ next_place 16 old + (36 + 8 * length places) → IsXsdtPut old new head places
+    → IsTablesFile begin head tables new
+tables_named begin tables places old new head before size_is xsdt =
     let near : next_place 16 old ≤ length old.bytes + 16 = omega arith in
     record {
+      grown = extends_twice begin old new before.grown xsdt.appended.grown;
       linkable = xsdt.appended.linkable before.linkable;
       some = omega (arith, size_is);
       few = omega (arith, before.few, size_is, near);
       behind = omega (arith, size_is, ap (next_place 16) before.file_is);
       held = λ view address place_of held there above.
-          let place : address + next_place 16 old ≡ xsdt_place tables + address =
+          let place : address + next_place 16 old ≡ xsdt_place begin tables + address =
           ap (λ b. address + next_place 16 b) before.file_is ∙ omega arith in
           let named : given (map (λ p. p + place_of tables_name) places) ≡ map (λ p. address + p) places =
           ap (λ a. given (map (λ p. p + a) places)) there ∙ all_given address places above in
@@ -126,10 +141,10 @@ file_from blob bytes pointers sums its_bytes its_pointers its_sums =
     ∙ ap (λ (s : List SumHole). blob_with blob.bytes blob.pointers s) its_sums
 
 -- both files are those of the tables, and all is known of them
-pub image_known : (acpi : Acpi) (tables : List Table) (empty rsdp file : BlobState) (xsdt : ℕ) → xsdt ≡ xsdt_place tables
-    → empty ≡ whole [] → IsRsdpPut empty rsdp (padded 6 acpi.oem_id) xsdt → IsBlob rsdp → IsBlob file → file ≡ (acpi_files acpi tables).tables
-    → IsTablesFile (head_of acpi 1) tables file → IsAcpiImage acpi tables (record { rsdp = rsdp; tables = file })
-image_known acpi tables empty rsdp file xsdt place empty_is put rsdp_blob tables_blob file_is known =
+pub image_known : (acpi : Acpi) (begin : BlobState) (tables : List Table) (empty rsdp file : BlobState) (xsdt : ℕ)
+    → xsdt ≡ xsdt_place begin tables → empty ≡ whole [] → IsRsdpPut empty rsdp (padded 6 acpi.oem_id) xsdt → IsBlob rsdp → IsBlob file
+    → IsTablesFile begin (head_of acpi 1) tables file → IsAcpiImage acpi begin tables (record { rsdp = rsdp; tables = file })
+image_known acpi begin tables empty rsdp file xsdt place empty_is put rsdp_blob tables_blob known =
     let first : next_place 16 empty ≡ 0 = ap (next_place 16) empty_is in
     record {
       tables_file = known;
@@ -149,13 +164,13 @@ abbrev pub image_with : BlobState → BlobState → AcpiImage
 image_with rsdp tables = record { rsdp = rsdp; tables = tables }
 
 -- they are the files of the maker's tables
-pub files_are : (acpi : Acpi) (tables : List Table) (empty rsdp file : BlobState) (xsdt : ℕ) → xsdt ≡ xsdt_place tables
-    → empty ≡ whole [] → IsRsdpPut empty rsdp (padded 6 acpi.oem_id) xsdt → file ≡ (acpi_files acpi tables).tables
-    → image_with rsdp file ≡ acpi_files acpi tables
-files_are acpi tables empty rsdp file xsdt place empty_is put file_is =
-    let its_rsdp : rsdp ≡ (acpi_files acpi tables).rsdp =
+pub files_are : (acpi : Acpi) (begin : BlobState) (tables : List Table) (empty rsdp file : BlobState) (xsdt : ℕ)
+    → xsdt ≡ xsdt_place begin tables → empty ≡ whole [] → IsRsdpPut empty rsdp (padded 6 acpi.oem_id) xsdt
+    → file ≡ (acpi_files acpi begin tables).tables → image_with rsdp file ≡ acpi_files acpi begin tables
+files_are acpi begin tables empty rsdp file xsdt place empty_is put file_is =
+    let its_rsdp : rsdp ≡ (acpi_files acpi begin tables).rsdp =
     put.appended.file_is ∙ ap (λ b. with_rsdp b (padded 6 acpi.oem_id) xsdt) empty_is ∙ ap (with_rsdp (whole []) (padded 6 acpi.oem_id)) place in
-    ap (λ b. image_with b file) its_rsdp ∙ ap (image_with (acpi_files acpi tables).rsdp) file_is
+    ap (λ b. image_with b file) its_rsdp ∙ ap (image_with (acpi_files acpi begin tables).rsdp) file_is
 
 -- the first tables have no more bytes than all
 pub most_bytes-take : (tables : List Table) (k : ℕ) → most_bytes (take k tables) ≤ most_bytes tables
@@ -165,18 +180,18 @@ most_bytes-take (table ∷ tables) zero = omega arith
 most_bytes-take (table ∷ tables) (suc k) = let rest = most_bytes-take tables k in omega arith
 
 -- the same of the answer of the call that appends it
-pub xsdt_appended : (r : Result ℕ OutOfMemory) (tables : List Table) (places seen : List ℕ) (old new : BlobState) (head : Head) → seen ≡ places
-    → AreAppended tables places old → OnOk r (length new.bytes ≡ next_place 16 old + (36 + 8 * length seen)) → OnOk r (IsXsdtPut old new head seen)
-    → OnOk r (IsTablesFile head tables new)
-xsdt_appended (Err fault) tables places seen old new head same before size_is put = tt
-xsdt_appended (Ok place) tables places seen old new head same before size_is put =
-    tables_named tables seen old new head (subst (λ those. AreAppended tables those old) (sym same) before) size_is put
+pub xsdt_appended : (r : Result ℕ OutOfMemory) (begin : BlobState) (tables : List Table) (places seen : List ℕ) (old new : BlobState) (head : Head)
+    → seen ≡ places → AreAppended begin tables places old → OnOk r (length new.bytes ≡ next_place 16 old + (36 + 8 * length seen))
+    → OnOk r (IsXsdtPut old new head seen) → OnOk r (IsTablesFile begin head tables new)
+xsdt_appended (Err fault) begin tables places seen old new head same before size_is put = tt
+xsdt_appended (Ok place) begin tables places seen old new head same before size_is put =
+    tables_named begin tables seen old new head (subst (λ those. AreAppended begin tables those old) (sym same) before) size_is put
 
 -- one more of a list of tables was appended
-pub next_appended : (tables : List Table) (k : ℕ) (other : Table) (places after : List ℕ) (old new : BlobState) (place : ℕ) → k < length tables
-    → AreAppended (take k tables) places old → after ≡ places ++ place ∷ [] → place ≡ next_place 16 old
-    → IsTablePut old new (get_or tables k other) → AreAppended (take (k + 1) tables) after new
-next_appended tables k other places after old new place within before after_is place_is put =
-    subst (λ some. AreAppended some after new) (sym (take_more tables k other within))
-    (subst (λ those. AreAppended (take k tables ++ get_or tables k other ∷ []) those new) (sym after_is)
-    (one_more_appended (take k tables) places old new (get_or tables k other) place before place_is put))
+pub next_appended : (begin : BlobState) (tables : List Table) (k : ℕ) (other : Table) (places after : List ℕ) (old new : BlobState) (place : ℕ)
+    → k < length tables → AreAppended begin (take k tables) places old → after ≡ places ++ place ∷ [] → place ≡ next_place 16 old
+    → IsTablePut old new (get_or tables k other) → AreAppended begin (take (k + 1) tables) after new
+next_appended begin tables k other places after old new place within before after_is place_is put =
+    subst (λ some. AreAppended begin some after new) (sym (take_more tables k other within))
+    (subst (λ those. AreAppended begin (take k tables ++ get_or tables k other ∷ []) those new) (sym after_is)
+    (one_more_appended begin (take k tables) places old new (get_or tables k other) place before place_is put))

@@ -9,16 +9,18 @@ use Rattle.machine_desc.specs.declared.machine.Acpi.{Acpi}
 use Rattle.machine_desc.specs.Rules.{IsAccepted}
 use Rattle.acpi_model.specs.Header.{head_of, padded}
 use Rattle.acpi_model.specs.Rsdp.{rsdp_rows, HasRsdp}
-use Rattle.acpi_model.specs.Acpi.{ShowsAcpi, linked_table, tables_of, acpi_of}
+use Rattle.acpi_model.specs.Acpi.{ShowsAcpi, linked_table, tables_of, targets_of, acpi_of}
 use Rattle.acpi_model.proofs.AcceptedAcpi.{accepted_fits}
 use Rattle.acpi_model.proofs.Headers.{length-padded}
 use Rattle.acpi_model.proofs.OneAcpi.{walked}
 use Rattle.acpi_model.proofs.SameTold.{gathered-linked}
 use Rattle.acpi_model.proofs.MachineTables.{machine_distinct}
+use Rattle.acpi_model.proofs.MachineTargets.{machine_leads}
 use Rattle.acpi_model.specs.Kinds.{tables_name}
 use Rattle.acpi_append.specs.Tables.{table_pointer}
-use Rattle.vm_image.specs.Image.{acpi_files, acpi_part, rsdp_name, xsdt_place}
+use Rattle.vm_image.specs.Image.{acpi_files, acpi_part, tables_begin, rsdp_name, xsdt_place}
 use Rattle.vm_image.specs.AcpiHeld.{HoldsTables, AreAcpiKnown}
+use Rattle.vm_image.proofs.Begin.{facs_stands}
 use Rattle.vm_image.proofs.RsdpShown.{rsdp_shown}
 use Rattle.vm_image.proofs.Standing.{Stands}
 use Rattle.vm_image.proofs.Marks.{IsClearFile}
@@ -33,11 +35,11 @@ module _ (m : Memory) (place_of : List ℕ → ℕ) (high : 0x4000000 ≤ m.top)
   acpi_clear_of_anchors machine (Some acpi) limit within known stand =
       let tables = stand.0 in
       let rsdp = stand.1.0 in
-      let held : LayoutHeld (seen m) place_of (place_of rsdp_name) (rsdp_rows (padded 6 acpi.oem_id) (table_pointer (xsdt_place (tables_of machine acpi)))) =
+      let held : LayoutHeld (seen m) place_of (place_of rsdp_name) (rsdp_rows (padded 6 acpi.oem_id) (table_pointer (xsdt_place (tables_begin machine) (tables_of machine acpi)))) =
       known.rsdp_held (seen m) (place_of rsdp_name) place_of rsdp.held in
-      let clear = rsdp_clear m place_of limit (place_of rsdp_name) (padded 6 acpi.oem_id) (xsdt_place (tables_of machine acpi))
+      let clear = rsdp_clear m place_of limit (place_of rsdp_name) (padded 6 acpi.oem_id) (xsdt_place (tables_begin machine) (tables_of machine acpi))
       (omega (arith, rsdp.aligned.1)) held in (
-        clear_behind m (anchor_mark limit) (place_of tables_name) (length (acpi_files acpi (tables_of machine acpi)).tables.bytes)
+        clear_behind m (anchor_mark limit) (place_of tables_name) (length (acpi_files acpi (tables_begin machine) (tables_of machine acpi)).tables.bytes)
             (omega (arith, tables.aligned.1)) (omega (arith, tables.from)),
         (record { aligned = clear.aligned; none = λ address from below. clear.none address from (omega (arith, known.rsdp_size)) }, tt),
       )
@@ -57,19 +59,19 @@ module _ (m : Memory) (place_of : List ℕ → ℕ) (high : 0x4000000 ≤ m.top)
       let size = known.rsdp_size in
       let rsdp_within = rsdp.within in
       let tables_from = tables.from in
-      let held : HoldsTables (seen m) place_of (xsdt_place (tables_of machine acpi) + place_of tables_name) (head_of acpi 1) (tables_of machine acpi) =
+      let held : HoldsTables (seen m) place_of (xsdt_place (tables_begin machine) (tables_of machine acpi) + place_of tables_name) (head_of acpi 1) (tables_of machine acpi) =
       known.tables_file.held (seen m) (place_of tables_name) place_of tables.held refl (omega arith) in
       record {
         rsdp = place_of rsdp_name;
-        xsdt = xsdt_place (tables_of machine acpi) + place_of tables_name;
-        valid = rsdp_shown (seen m) place_of (place_of rsdp_name) (padded 6 acpi.oem_id) (xsdt_place (tables_of machine acpi))
+        xsdt = xsdt_place (tables_begin machine) (tables_of machine acpi) + place_of tables_name;
+        valid = rsdp_shown (seen m) place_of (place_of rsdp_name) (padded 6 acpi.oem_id) (xsdt_place (tables_begin machine) (tables_of machine acpi))
             (length-padded 6 acpi.oem_id fits.oem_id) (omega (arith, known.tables_file.behind, known.tables_blob.short))
             (omega (arith, rsdp.from)) (omega (arith, rsdp.aligned.1)) (omega arith) (known.rsdp_held (seen m) (place_of rsdp_name) place_of rsdp.held);
         least = no_rsdp (place_of rsdp_name) (omega arith) (
-          clear_behind m (rsdp_mark (place_of rsdp_name)) (place_of tables_name) (length (acpi_files acpi (tables_of machine acpi)).tables.bytes)
+          clear_behind m (rsdp_mark (place_of rsdp_name)) (place_of tables_name) (length (acpi_files acpi (tables_begin machine) (tables_of machine acpi)).tables.bytes)
               (omega (arith, tables.aligned.1)) (omega arith),
           (
-            clear_behind m (rsdp_mark (place_of rsdp_name)) (place_of rsdp_name) (length (acpi_files acpi (tables_of machine acpi)).rsdp.bytes)
+            clear_behind m (rsdp_mark (place_of rsdp_name)) (place_of rsdp_name) (length (acpi_files acpi (tables_begin machine) (tables_of machine acpi)).rsdp.bytes)
                 (omega (arith, rsdp.aligned.1)) (omega arith),
             tt,
           ),
@@ -79,5 +81,8 @@ module _ (m : Memory) (place_of : List ℕ → ℕ) (high : 0x4000000 ≤ m.top)
         tables = map (linked_table place_of) (tables_of machine acpi);
         named = walked (seen m) held.addresses (map (linked_table place_of) (tables_of machine acpi)) held.stand;
         distinct = machine_distinct place_of machine acpi;
-        told = sym (gathered-linked place_of (padded 6 acpi.oem_id) (head_of acpi 1) (tables_of machine acpi) []);
+        targets = targets_of machine;
+        lead = machine_leads (seen m) place_of machine acpi (omega arith)
+            (facs_stands machine (seen m) place_of (acpi_files acpi (tables_begin machine) (tables_of machine acpi)).tables known.tables_file.grown tables.held);
+        told = sym (gathered-linked place_of (padded 6 acpi.oem_id) (head_of acpi 1) (tables_of machine acpi) (targets_of machine) []);
       }

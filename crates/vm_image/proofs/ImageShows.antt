@@ -54,6 +54,7 @@ image_shows m accepted read known places placed memory lawful_places linked top 
           (λ limit within clear other below has. none (rsdp_mark limit) (λ same. absurd (omega (arith, same))) within clear
           (smbios_clear_of_rsdps memory (place_in placed) high (structures_file m) limit (omega arith) within smbios_stand) other has.2.from
           (rsdp_marked memory limit other below has));
+      generation = refl;
     }
 
 -- so does one that agrees with it on the files: what is seen of a memory has nothing of its fill byte

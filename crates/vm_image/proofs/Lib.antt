@@ -3,6 +3,10 @@ pub mod StructuresSize
 pub mod Whole
 pub mod Grown
 pub mod AcpiFiles
+pub mod Targets
+pub mod Begin
+pub mod FacsPlace
+pub mod Few
 pub mod Anchor
 pub mod AnchorShown
 pub mod RsdpShown
@@ -16,7 +20,6 @@ pub mod DistinctNames
 pub mod SmbiosStands
 pub mod AcpiStands
 pub mod ImageShows
-pub mod Targets
 pub mod Linkable
 pub mod Small
 pub mod FilesFit

@@ -11,7 +11,7 @@ use Rattle.acpi_model.specs.Acpi.{tables_of}
 use Rattle.blob_holes.specs.declared.hole.PointerHole.{PointerHole}
 use Rattle.image_files.specs.Files.{ImageFile}
 use Rattle.image_files.specs.Linkable.{IsPlacedName, IsLinkableFile, LeadsAmong, AreLinkable}
-use Rattle.vm_image.specs.Image.{acpi_files, acpi_placed, acpi_part, smbios_placed, structures_file, image_files}
+use Rattle.vm_image.specs.Image.{acpi_files, acpi_placed, acpi_part, tables_begin, smbios_placed, structures_file, image_files}
 use Rattle.vm_image.specs.AcpiHeld.{AreAcpiKnown}
 use Rattle.vm_image.proofs.StructuresSize.{structures_size}
 use Rattle.vm_image.proofs.Whole.{whole_kept, whole_linkable}
@@ -19,6 +19,7 @@ use Rattle.vm_image.proofs.Anchor.{anchor_kept, anchor_linkable}
 use Rattle.vm_image.proofs.DistinctNames.{image_distinct}
 use Rattle.acpi_model.proofs.MachineTables.{machine_writable}
 use Rattle.vm_image.proofs.Targets.{HoleLeads, tables_lead, rsdp_leads}
+use Rattle.vm_image.proofs.Begin.{may_begin}
 
 -- 64 is a power of two
 sixty_four : is_power_of_two 64 ≡ true
@@ -75,19 +76,19 @@ acpi_each m (Some acpi) known = (
 smbios_lead : (structures : List ℕ) → AllByRecursion (LeadsAmong (smbios_placed structures)) (smbios_placed structures)
 smbios_lead structures = (tt, ((inl (refl, refl), tt), tt))
 
--- each of the files of ACPI tables leads to that of the tables
-acpi_lead : (m : Machine) (maker : Option Acpi) → AllByRecursion (LeadsAmong (acpi_part m maker)) (acpi_part m maker)
-acpi_lead m None = tt
-acpi_lead m (Some acpi) = (
-  each_weaker HoleLeads (λ (hole : PointerHole). IsPlacedName (acpi_placed (acpi_files acpi (tables_of m acpi))) hole.target)
-      (λ hole leads. inl (sym leads, refl)) (acpi_files acpi (tables_of m acpi)).tables.pointers
-      (tables_lead acpi (tables_of m acpi) (machine_writable m acpi)),
-  (
-    each_weaker HoleLeads (λ (hole : PointerHole). IsPlacedName (acpi_placed (acpi_files acpi (tables_of m acpi))) hole.target)
-        (λ hole leads. inl (sym leads, refl)) (acpi_files acpi (tables_of m acpi)).rsdp.pointers (rsdp_leads acpi (tables_of m acpi)),
-    tt,
-  ),
-)
+-- each of the files of an accepted machine's ACPI tables leads to that of the tables
+acpi_lead : (m : Machine) (maker : Option Acpi) → IsAccepted m → AllByRecursion (LeadsAmong (acpi_part m maker)) (acpi_part m maker)
+acpi_lead m None accepted = tt
+acpi_lead m (Some acpi) accepted =
+    let files = acpi_files acpi (tables_begin m) (tables_of m acpi) in
+    let Leads = λ (hole : PointerHole). IsPlacedName (acpi_placed files) hole.target in (
+      each_weaker HoleLeads Leads (λ hole leads. inl (sym leads, refl)) files.tables.pointers
+          (tables_lead acpi (tables_begin m) (tables_of m acpi) (may_begin m).leads (machine_writable m acpi accepted)),
+      (
+        each_weaker HoleLeads Leads (λ hole leads. inl (sym leads, refl)) files.rsdp.pointers (rsdp_leads acpi (tables_begin m) (tables_of m acpi)),
+        tt,
+      ),
+    )
 
 -- the files of an accepted machine can be placed and linked
 pub image_linkable : (m : Machine) → IsAccepted m → AreAcpiKnown m m.acpi → AreLinkable (image_files m)
@@ -97,5 +98,5 @@ image_linkable m accepted known =
       distinct = image_distinct m;
       each = each_append IsLinkableFile (acpi_part m m.acpi) (smbios_placed (structures_file m)) (acpi_each m m.acpi known)
           (smbios_each (structures_file m) size.0 (omega (arith, size.1)));
-      leads = lead_append (acpi_part m m.acpi) (smbios_placed (structures_file m)) (acpi_lead m m.acpi) (smbios_lead (structures_file m));
+      leads = lead_append (acpi_part m m.acpi) (smbios_placed (structures_file m)) (acpi_lead m m.acpi accepted) (smbios_lead (structures_file m));
     }

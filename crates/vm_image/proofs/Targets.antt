@@ -44,17 +44,18 @@ file_leads file (table ∷ tables) writable lead =
     (each_append HoleLeads file.pointers (pointer_holes (length (aligned 16 file).bytes) (rows_of table)) lead
     (holes_lead (length (aligned 16 file).bytes) (rows_of table) (table_leads table writable.0)))
 
--- each pointer of the tables' file leads to it
-pub tables_lead : (maker : Acpi) (tables : List Table) → AllByRecursion IsWritable tables → AllByRecursion HoleLeads (acpi_files maker tables).tables.pointers
-tables_lead maker tables writable =
-    each_append HoleLeads (with_tables (whole []) tables).pointers
-    (pointer_holes (length (aligned 16 (with_tables (whole []) tables)).bytes) (xsdt_rows (head_of maker 1) (map table_pointer (places_in (whole []) tables))))
-    (file_leads (whole []) tables writable tt)
-    (holes_lead (length (aligned 16 (with_tables (whole []) tables)).bytes) (xsdt_rows (head_of maker 1) (map table_pointer (places_in (whole []) tables)))
-    (xsdt_leads (head_of maker 1) (places_in (whole []) tables)))
+-- each pointer of the tables' file leads to it, where each of what it begins with does
+pub tables_lead : (maker : Acpi) (begin : BlobState) (tables : List Table) → AllByRecursion HoleLeads begin.pointers → AllByRecursion IsWritable tables
+    → AllByRecursion HoleLeads (acpi_files maker begin tables).tables.pointers
+tables_lead maker begin tables lead writable =
+    each_append HoleLeads (with_tables begin tables).pointers
+    (pointer_holes (length (aligned 16 (with_tables begin tables)).bytes) (xsdt_rows (head_of maker 1) (map table_pointer (places_in begin tables))))
+    (file_leads begin tables writable lead)
+    (holes_lead (length (aligned 16 (with_tables begin tables)).bytes) (xsdt_rows (head_of maker 1) (map table_pointer (places_in begin tables)))
+    (xsdt_leads (head_of maker 1) (places_in begin tables)))
 
 -- so does each of the RSDP's
-pub rsdp_leads : (maker : Acpi) (tables : List Table) → AllByRecursion HoleLeads (acpi_files maker tables).rsdp.pointers
-rsdp_leads maker tables =
-    holes_lead (length (aligned 16 (whole [])).bytes) (rsdp_rows (padded 6 maker.oem_id) (table_pointer (xsdt_place tables)))
-    (rows_lead (padded 6 maker.oem_id) (xsdt_place tables))
+pub rsdp_leads : (maker : Acpi) (begin : BlobState) (tables : List Table) → AllByRecursion HoleLeads (acpi_files maker begin tables).rsdp.pointers
+rsdp_leads maker begin tables =
+    holes_lead (length (aligned 16 (whole [])).bytes) (rsdp_rows (padded 6 maker.oem_id) (table_pointer (xsdt_place begin tables)))
+    (rows_lead (padded 6 maker.oem_id) (xsdt_place begin tables))

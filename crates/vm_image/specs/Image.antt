@@ -4,9 +4,12 @@ use Rattle.loader_script.specs.declared.entry.Entry.{Entry}
 use Rattle.cfg_directory.specs.declared.item.Item.{Item}
 use Rattle.machine_desc.specs.declared.machine.Machine.{Machine}
 use Rattle.machine_desc.specs.declared.machine.Acpi.{Acpi}
+use Rattle.machine_desc.specs.declared.acpi_parts.Power.{Power}
 use Rattle.blob_holes.specs.Blob.{BlobState, next_place}
 use Rattle.blob_holes.specs.Rows.{with_rows}
 use Rattle.acpi_model.specs.Kinds.{tables_name as acpi_tables_name}
+use Rattle.acpi_records.specs.Facs.{initial_facs}
+use Rattle.acpi_append.specs.FacsPut.{with_facs}
 use Rattle.acpi_append.specs.Tables.{with_table, with_xsdt, with_rsdp}
 use Rattle.smbios_build.specs.Spelling.{structures_bytes}
 use Rattle.acpi_model.specs.declared.acpi.Table.{Table}
@@ -49,16 +52,24 @@ abbrev pub places_in : BlobState → List Table → List ℕ
 places_in file [] = []
 places_in file (table ∷ tables) = next_place 16 file ∷ places_in (with_table file table) tables
 
--- where the XSDT stands behind the tables that it names
-abbrev pub xsdt_place : List Table → ℕ
-xsdt_place tables = next_place 16 (with_tables (whole []) tables)
+-- where the XSDT stands behind the tables that it names, and behind what the file begins with
+abbrev pub xsdt_place : BlobState → List Table → ℕ
+xsdt_place begin tables = next_place 16 (with_tables begin tables)
 
--- the files of a maker's ACPI tables
-abbrev pub acpi_files : Acpi → List Table → AcpiImage
-acpi_files acpi tables = record {
-  rsdp = with_rsdp (whole []) (padded 6 acpi.oem_id) (xsdt_place tables);
-  tables = with_xsdt (with_tables (whole []) tables) (head_of acpi 1) (places_in (whole []) tables);
+-- the files of a maker's ACPI tables, where that of the tables begins with what no XSDT names
+abbrev pub acpi_files : Acpi → BlobState → List Table → AcpiImage
+acpi_files acpi begin tables = record {
+  rsdp = with_rsdp (whole []) (padded 6 acpi.oem_id) (xsdt_place begin tables);
+  tables = with_xsdt (with_tables begin tables) (head_of acpi 1) (places_in begin tables);
 }
+
+-- What a machine's file of tables begins with, in front of those that its XSDT names: with the FACS, where it has power management.
+abbrev pub begin_of : Option Power → BlobState
+begin_of None = whole []
+begin_of (Some power) = with_facs (whole []) initial_facs
+
+abbrev pub tables_begin : Machine → BlobState
+tables_begin m = begin_of m.power
 
 -- The tables of each kind go to high memory, and what leads to them to the F segment, where a guest looks for it (ACPI 6.5, 5.2.5.1;
 -- DSP0134, 5.2.2).
@@ -68,7 +79,7 @@ acpi_placed files = placed_file acpi_tables_name files.tables High 64 ∷ placed
 -- the files of a machine's ACPI tables, where it has some
 abbrev pub acpi_part : Machine → Option Acpi → List ImageFile
 acpi_part m None = []
-acpi_part m (Some acpi) = acpi_placed (acpi_files acpi (tables_of m acpi))
+acpi_part m (Some acpi) = acpi_placed (acpi_files acpi (tables_begin m) (tables_of m acpi))
 
 -- the file of a machine's structures
 abbrev pub structures_file : Machine → List ℕ

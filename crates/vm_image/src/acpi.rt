@@ -1,19 +1,19 @@
 //! The files of a machine's ACPI tables.
 
-ghost use Rattle.std.specs.Prelude.{◌≡◌, [], ◌++◌, IfOk, OnOk};
+ghost use Rattle.std.specs.Prelude.{◌≡◌, ◌++◌, IfOk, OnOk};
 ghost use Rattle.std.specs.List.{AllByRecursion};
 ghost use Rattle.machine_desc.specs.Rules.{IsAccepted};
 ghost use Rattle.acpi_model.specs.Header.{FitsHead, head_of};
 ghost use Rattle.acpi_model.specs.Acpi.{IsWritable, tables_of};
 ghost use Rattle.acpi_append.specs.Tables.{with_xsdt};
-ghost use Rattle.image_files.specs.Files.{whole};
-ghost use Rattle.vm_image.specs.Image.{acpi_part, acpi_placed, acpi_files, with_tables, places_in, xsdt_place};
+ghost use Rattle.blob_holes.specs.Grown.{IsLinkable};
+ghost use Rattle.vm_image.specs.Image.{acpi_part, acpi_placed, acpi_files, tables_begin, with_tables, places_in, xsdt_place};
 ghost use Rattle.vm_image.specs.AcpiHeld.{AreAcpiKnown, IsAcpiImage, IsTablesFile, AreAppended, AreFew};
 
 use crate::names::{acpi_tables_name, rsdp_name};
 use crate::placed::placed_file;
-use acpi_append::{put_rsdp, put_table, put_xsdt};
-use acpi_model::{Head, Table, head_of, tables_of};
+use acpi_append::{put_facs, put_rsdp, put_table, put_xsdt};
+use acpi_model::{Head, Table, head_of, initial_facs, tables_of};
 use blob_holes::{Blob, Parts};
 use image_files::ImageFile;
 use machine_desc::{Acpi, Machine};
@@ -53,7 +53,8 @@ pub(crate) fn push_acpi(
     match &machine.acpi {
         Some(acpi) => {
             let tables = tables_of(alloc, machine, acpi)?;
-            push_placed(files, files_of(alloc, acpi, tables.as_slice())?)
+            let begin = begin_tables(alloc, machine)?;
+            push_placed(files, files_of(alloc, begin, acpi, tables.as_slice())?)
         }
         None => Ok(()),
     }
@@ -70,16 +71,33 @@ fn push_placed(files: &mut Vec<ImageFile>, acpi: AcpiFiles) -> Result<(), OutOfM
     Ok(())
 }
 
-// The files of `tables`, made by the maker `acpi`.
-fn files_of(alloc: Global, acpi: &Acpi, tables: &[Table]) -> Result<AcpiFiles, OutOfMemory>
+// What the file of the tables of `machine` begins with, in front of those that its XSDT names.
+fn begin_tables(alloc: Global, machine: &Machine) -> Result<Blob, OutOfMemory>
+    ensures { IfOk result (λ file. file ≡ tables_begin machine.now) }
+{
+    let mut file = Blob::new(alloc);
+    if machine.power.is_some() {
+        put_facs(&mut file, &initial_facs())?;
+    }
+    Ok(file)
+}
+
+// The files of `tables`, made by the maker `acpi`: that of the tables begins with `begin`, which can be linked.
+fn files_of(
+    alloc: Global,
+    begin: Blob,
+    acpi: &Acpi,
+    tables: &[Table],
+) -> Result<AcpiFiles, OutOfMemory>
     requires fits { FitsHead acpi.now }
+    requires linkable { IsLinkable begin }
     requires writable { AllByRecursion IsWritable tables.now }
-    requires few { AreFew tables.now }
-    ensures files { IfOk result (λ files. files ≡ acpi_files acpi.now tables.now) }
-    ensures held { OnOk result (IsAcpiImage acpi.now tables.now (acpi_files acpi.now tables.now)) }
+    requires few { AreFew begin tables.now }
+    ensures files { IfOk result (λ files. files ≡ acpi_files acpi.now begin tables.now) }
+    ensures held { OnOk result (IsAcpiImage acpi.now begin tables.now (acpi_files acpi.now begin tables.now)) }
 {
     let head = head_of(acpi, 1);
-    let mut file = Blob::new(alloc);
+    let mut file = begin;
     let xsdt = append_tables(alloc, &mut file, &head, tables)?;
     let mut rsdp = Blob::new(alloc);
     put_rsdp(&mut rsdp, &head.oem_id, xsdt)?;
@@ -89,30 +107,30 @@ fn files_of(alloc: Global, acpi: &Acpi, tables: &[Table]) -> Result<AcpiFiles, O
     })
 }
 
-// Appends `tables` to an empty file, and the XSDT that names them, and gives the place of the XSDT.
+// Appends `tables` to a file that can be linked, and the XSDT that names them, and gives the place of the XSDT.
 fn append_tables(
     alloc: Global,
     file: &mut Blob,
     head: &Head,
     tables: &[Table],
 ) -> Result<u32, OutOfMemory>
-    requires empty { file.old ≡ whole [] }
+    requires linkable { IsLinkable file.old }
     requires writable { AllByRecursion IsWritable tables.now }
-    requires few { AreFew tables.now }
-    ensures place { IfOk result (λ place. place ≡ xsdt_place tables.now) }
-    ensures file { OnOk result (file.new ≡ with_xsdt (with_tables (whole []) tables.now) head.now (places_in (whole []) tables.now)) }
-    ensures held { OnOk result (IsTablesFile head.now tables.now file.new) }
+    requires few { AreFew file.old tables.now }
+    ensures place { IfOk result (λ place. place ≡ xsdt_place file.old tables.now) }
+    ensures file { OnOk result (file.new ≡ with_xsdt (with_tables file.old tables.now) head.now (places_in file.old tables.now)) }
+    ensures held { OnOk result (IsTablesFile file.old head.now tables.now file.new) }
 {
     let places = append_each(alloc, file, tables)?;
     put_xsdt(file, head, places.as_slice())
 }
 
-// Appends `tables` to an empty file, and gives their places.
+// Appends `tables` to a file that can be linked, and gives their places.
 fn append_each(alloc: Global, file: &mut Blob, tables: &[Table]) -> Result<List<u32>, OutOfMemory>
-    requires empty { file.old ≡ whole [] }
+    requires linkable { IsLinkable file.old }
     requires writable { AllByRecursion IsWritable tables.now }
-    requires few { AreFew tables.now }
-    ensures { IfOk result (λ places. AreAppended tables.now places file.new) }
+    requires few { AreFew file.old tables.now }
+    ensures { IfOk result (λ places. AreAppended file.old tables.now places file.new) }
 {
     let mut places = List::new(alloc);
     for table in tables {

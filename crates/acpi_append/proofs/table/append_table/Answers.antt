@@ -1,42 +1,64 @@
-use Rattle.std.proofs.Common.{◌≡◌, ◌+◌, ◌++◌, ◌∙◌, ap, arith, subst, sym}
+use Rattle.std.proofs.Common.{◌≡◌, ℕ, ◌+◌, List, [], ◌∷◌, ◌++◌, length, drop, ◌∙◌, ap, arith, refl, subst, sym, append_assoc}
 use Rattle.std.proofs.lemmas.Result.{on_ok_weaker}
 use Rattle.std.specs.List.{AllByRecursion}
 use Rattle.vt_bytes.proofs.Each.{each_append}
+use Rattle.vt_layout.specs.declared.row.Row.{Row}
 use Rattle.vt_layout.specs.Rows.{size, IsRow}
 use Rattle.vt_layout.proofs.Sizes.{size-append}
+use Rattle.blob_holes.specs.Rows.{IsUnsummed, AreRows}
+use Rattle.blob_holes.specs.Plain.{bytes_row}
 use Rattle.acpi_model.specs.Header.{framed}
-use Rattle.acpi_append.specs.Tables.{AreRowsPut}
-use Rattle.acpi_append.proofs.Tables.{sixteen, framed_are, framed_by_sets, framed_fit}
+use Rattle.acpi_append.specs.Tables.{AreRowsPutWith}
+use Rattle.acpi_append.proofs.Tables.{sixteen, framed_begin, framed_by_sets, framed_fit}
 use Rattle.acpi_append.proofs.table.append_table.Goals as goal
 
 pub append_layout-requires-clause-power : goal.append_layout-requires-clause-power
 append_layout-requires-clause-power c = sixteen
 
+-- the length and the checksum are over the rows and the bytes
+total_is : (rows more behind : List Row) (plain : List ℕ) (n m : ℕ) → n ≡ size rows → m ≡ size more → rows ≡ behind
+    → n + m + length plain ≡ size behind + size more + length plain
+total_is rows more behind plain n m rows_size more_size are = omega (arith, rows_size, more_size, ap size are)
+
 -- the rows with the header's
-framed_rows : (c : goal.After-rows-2) → c.rows-2.result.now ≡ framed c.args.signature.now (size c.args.rows.now.rows + size c.args.more.now) c.args.rows.now.rows
+framed_rows : (c : goal.After-rows-2)
+    → c.rows-2.result.now ≡ framed c.args.signature.now (size c.args.rows.now.rows + size c.args.more.now + length c.args.plain.now) c.args.rows.now.rows
 framed_rows c =
-    let total : c.size_of.result + c.size_of-2.result ≡ size c.args.rows.now.rows + size c.args.more.now =
-    omega (arith, c.size_of.ensures, c.size_of-2.ensures, ap size c.rows.ensures.rows) in
+    let total = total_is c.rows.result.now c.args.more.now c.args.rows.now.rows c.args.plain.now c.size_of.result c.size_of-2.result c.size_of.ensures
+    c.size_of-2.ensures c.rows.ensures.rows in
     c.rows-2.ensures.rows ∙ framed_by_sets c.args.rows.now c.set.new.self c.set-2.new.self c.set-3.new.self c.args.signature.now _ _ _ _ c.set.ensures
     c.set-2.ensures c.set-3.ensures c.of.ensures (c.from.ensures ∙ total) total
 
 pub append_layout-requires-clause-rows : goal.append_layout-requires-clause-rows
 append_layout-requires-clause-rows c =
-    framed_fit c.args.signature.now c.args.rows.now.rows c.args.more.now c.rows-2.result.now c.requires.header (framed_rows c)
-    (subst (AllByRecursion IsRow) (sym c.rows-2.ensures.rows) c.rows-2.ensures.fit) c.requires.more
-    c.requires.no_sum
+    let rows = c.args.rows.now.rows in
+    let more = c.args.more.now in
+    let these = c.rows-2.result.now in
+    let last = bytes_row c.args.plain.now ∷ [] in
+    subst AreRows (sym (append_assoc these more last))
+    (framed_fit c.args.signature.now rows (more ++ last) these _ c.requires.header (omega (arith, size-append more last)) (framed_rows c)
+    (subst (AllByRecursion IsRow) (sym c.rows-2.ensures.rows) c.rows-2.ensures.fit) (each_append IsRow more last c.requires.more (refl, tt))
+    (subst (AllByRecursion IsUnsummed) (append_assoc (drop 9 rows) more last)
+    (each_append IsUnsummed (drop 9 rows ++ more) last c.requires.no_sum (tt, tt))))
 
 pub append_layout-requires-clause-short : goal.append_layout-requires-clause-short
 append_layout-requires-clause-short c =
-    let whole = ap (λ rows. size (rows ++ c.args.more.now)) (framed_rows c) ∙ ap size (framed_are c.args.signature.now c.args.rows.now.rows c.args.more.now c.requires.header) in
-    omega (arith, whole, c.requires.few, c.requires.short, ap size c.requires.header.are, size-append c.requires.header.behind c.args.more.now)
+    let more = c.args.more.now in
+    let whole = ap (λ rows. size (rows ++ more)) (framed_rows c) ∙ ap size (framed_begin c.args.signature.now c.args.rows.now.rows more _ c.requires.header) in
+    omega (arith, whole, c.requires.few, c.requires.short, ap size c.requires.header.are, size-append c.requires.header.behind more)
 
 pub returns-clause-put : goal.returns-clause-put
 returns-clause-put c =
+    let more = c.args.more.now in
+    let these = c.rows-2.result.now in
+    let total = total_is c.rows.result.now more c.args.rows.now.rows c.args.plain.now c.size_of.result c.size_of-2.result c.size_of.ensures
+    c.size_of-2.ensures c.rows.ensures.rows in
+    let are = c.rows-2.ensures.rows ∙ framed_by_sets c.args.rows.now c.set.new.self c.set-2.new.self c.set-3.new.self c.args.signature.now _ _ _ _
+    c.set.ensures c.set-2.ensures c.set-3.ensures c.of.ensures (c.from.ensures ∙ total) total in
     on_ok_weaker c.append_layout.result (λ appended.
-    subst (λ rows. AreRowsPut c.args.blob.now c.append_layout.new.blob (rows ++ c.args.more.now)) (framed_rows c.before)
-    (record {
-      fit = each_append IsRow c.rows-2.result.now c.args.more.now (subst (AllByRecursion IsRow) (sym c.rows-2.ensures.rows) c.rows-2.ensures.fit)
-          c.requires.more;
-      appended = appended;
+    subst (λ rows. AreRowsPutWith c.args.blob.now c.append_layout.new.blob (rows ++ more) c.args.plain.now) are (λ entries spells.
+    record {
+      fit = each_append IsRow (these ++ more) entries
+          (each_append IsRow these more (subst (AllByRecursion IsRow) (sym c.rows-2.ensures.rows) c.rows-2.ensures.fit) c.requires.more) spells.fit;
+      appended = appended entries spells;
     })) c.append_layout.ensures.appended

@@ -1,11 +1,12 @@
 use Rattle.std.proofs.Common.{subst}
 use Rattle.std.proofs.lemmas.Result.{on_ok_weaker}
-use Rattle.acpi_model.specs.Hpet.{hpet_of}
+use Rattle.acpi_records.specs.Hpet.{hpet_of}
 use Rattle.acpi_model.specs.declared.acpi.Table.TheVariants.{Hpet}
-use Rattle.acpi_model.proofs.AcceptedAcpi.{accepted_fits, has_acpi, not_none}
+use Rattle.machine_desc.proofs.Accepted.{hpet_needs_acpi}
+use Rattle.acpi_model.proofs.AcceptedAcpi.{accepted_fits, not_none}
 use Rattle.acpi_model.proofs.MachineTables.{hpet_writable}
 use Rattle.acpi_append.specs.Tables.{IsTablePut}
-use Rattle.acpi_fixed.proofs.OfParts.{of_parts}
+use Rattle.acpi_append.proofs.OfParts.{of_parts}
 use Rattle.acpi_fixed.proofs.hpet.append_hpet.Goals as goal
 use Rattle.acpi_fixed.proofs.hpet.append_hpet.Goals.{in_default-via-in-Some+in_default, in_default-via-in_default}
 
@@ -28,5 +29,5 @@ unreachable-requires c =
     let machine = c.args.machine.now in
     elim c.in_default.branch [
       | in_default-via-in-Some+in_default w ↦ not_none machine.hpet w.in_default.is-1 c.requires.wanted
-      | in_default-via-in_default w ↦ not_none machine.acpi w.in_default.is-0 (has_acpi machine c.requires.accepted c.requires.wanted)
+      | in_default-via-in_default w ↦ not_none machine.acpi w.in_default.is-0 (hpet_needs_acpi machine c.requires.accepted c.requires.wanted)
     ]

@@ -3,7 +3,7 @@ use Rattle.std.proofs.lemmas.Result.{on_ok_weaker}
 use Rattle.acpi_model.specs.Header.{padded}
 use Rattle.acpi_model.proofs.AcceptedAcpi.{accepted_fits}
 use Rattle.acpi_append.specs.Tables.{IsRsdpPut}
-use Rattle.acpi_fixed.proofs.OfParts.{of_part}
+use Rattle.acpi_append.proofs.OfParts.{of_part}
 use Rattle.acpi_fixed.proofs.rsdp.append_rsdp.Goals as goal
 
 pub head_of-requires : goal.head_of-requires

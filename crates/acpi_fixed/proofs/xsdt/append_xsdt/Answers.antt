@@ -3,7 +3,7 @@ use Rattle.std.proofs.lemmas.Result.{on_ok_weaker}
 use Rattle.acpi_model.specs.Header.{head_of}
 use Rattle.acpi_model.proofs.AcceptedAcpi.{accepted_fits}
 use Rattle.acpi_append.specs.Tables.{IsXsdtPut}
-use Rattle.acpi_fixed.proofs.OfParts.{of_part}
+use Rattle.acpi_append.proofs.OfParts.{of_part}
 use Rattle.acpi_fixed.proofs.xsdt.append_xsdt.Goals as goal
 
 pub head_of-requires : goal.head_of-requires

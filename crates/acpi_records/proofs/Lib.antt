@@ -1,0 +1,4 @@
+pub mod FacsStands
+pub mod EntryLists
+pub mod EachMadtEntry
+pub mod EachSratEntry
