@@ -1,5 +1,5 @@
 -- Files with tables at their ends, by the definitions alone: they are as the calls that append say.
-use Rattle.std.proofs.Common.{◌≡◌, ℕ, ◌+◌, ◌^◌, ◌<◌, List, length, map, arith}
+use Rattle.std.proofs.Common.{◌≡◌, ℕ, ◌+◌, ◌^◌, ◌<◌, ◌≤◌, List, length, map, arith}
 use Rattle.std.specs.List.{AllByRecursion}
 use Rattle.vt_bytes.proofs.Each.{each_append, each_map}
 use Rattle.vt_layout.specs.declared.row.Row.{Row}
@@ -11,7 +11,7 @@ use Rattle.acpi_records.specs.declared.facs.Facs.{Facs}
 use Rattle.acpi_records.specs.Facs.{facs_rows}
 use Rattle.acpi_model.specs.declared.acpi.Table.{Table}
 use Rattle.acpi_model.specs.Header.{header_rows, table_rows, IsFittingHead}
-use Rattle.acpi_model.specs.Xsdt.{xsdt_rows}
+use Rattle.acpi_model.specs.Xsdt.{most_entries, xsdt_rows}
 use Rattle.acpi_model.specs.Rsdp.{rsdp_rows}
 use Rattle.acpi_model.specs.Acpi.{layout_of, signature_of, rows_of, IsWritable, CanBePut}
 use Rattle.acpi_model.proofs.Headers.{header_fits}
@@ -48,12 +48,12 @@ module _ (file : BlobState) (blob : IsBlob file) where
       table_put file (with_table file table) table writable (record { fit = are.each; appended = layout_appended 16 file (rows_of table) blob are short })
 
   -- an XSDT
-  pub xsdt_appended : (h : Head) (tables : List ℕ) → AreRows (xsdt_rows h (map table_pointer tables))
+  pub xsdt_appended : (h : Head) (tables : List ℕ) → length tables ≤ most_entries → AreRows (xsdt_rows h (map table_pointer tables))
       → next_place 16 file + size (xsdt_rows h (map table_pointer tables)) < 2 ^ 32 → IsXsdtPut file (with_xsdt file h tables) h tables
-  xsdt_appended h tables are short =
+  xsdt_appended h tables few are short =
       put_where_held file (with_xsdt file h tables) (xsdt_rows h (map table_pointer tables)) _
       (layout_appended 16 file (xsdt_rows h (map table_pointer tables)) blob are short)
-      (λ view at place_of held. held_xsdt view place_of at h tables_name tables are.each held)
+      (λ view at place_of held. held_xsdt view place_of at h tables_name tables few are.each held)
 
   -- an RSDP
   pub rsdp_appended : (oem_id : List ℕ) (xsdt : ℕ) → AreRows (rsdp_rows oem_id (table_pointer xsdt))

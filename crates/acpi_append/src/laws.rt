@@ -1,11 +1,11 @@
 //! Laws over the definitions. Each is the contract of a function that does nothing.
 
-ghost use Rattle.std.specs.Prelude.{ℕ, ◌+◌, ◌<◌, ◌^◌, List, map};
+ghost use Rattle.std.specs.Prelude.{ℕ, ◌+◌, ◌<◌, ◌≤◌, ◌^◌, List, length, map};
 ghost use Rattle.std.specs.List.{AllByRecursion};
 ghost use Rattle.vt_layout.specs.Rows.{size};
 ghost use Rattle.acpi_records.specs.declared.header.Head.{Head};
 ghost use Rattle.acpi_model.specs.declared.acpi.Table.{Table};
-ghost use Rattle.acpi_model.specs.Xsdt.{xsdt_rows};
+ghost use Rattle.acpi_model.specs.Xsdt.{most_entries, xsdt_rows};
 ghost use Rattle.acpi_model.specs.Rsdp.{rsdp_rows};
 ghost use Rattle.acpi_model.specs.Acpi.{IsWritable, rows_of};
 ghost use Rattle.blob_holes.specs.Blob.{BlobState, IsBlob, next_place};
@@ -19,7 +19,8 @@ ghost use Rattle.acpi_append.specs.Tables.{Leads, table_pointer, with_table, wit
 pub fn tables_at_its_end_are_put()
     ensures table { (file : BlobState) → IsBlob file → (table : Table) → IsWritable table → AreRows (rows_of table)
         → next_place 16 file + size (rows_of table) < 2 ^ 32 → IsTablePut file (with_table file table) table }
-    ensures xsdt { (file : BlobState) → IsBlob file → (head : Head) (tables : List ℕ) → AreRows (xsdt_rows head (map table_pointer tables))
+    ensures xsdt { (file : BlobState) → IsBlob file → (head : Head) (tables : List ℕ) → length tables ≤ most_entries
+        → AreRows (xsdt_rows head (map table_pointer tables))
         → next_place 16 file + size (xsdt_rows head (map table_pointer tables)) < 2 ^ 32
         → IsXsdtPut file (with_xsdt file head tables) head tables }
     ensures rsdp { (file : BlobState) → IsBlob file → (oem_id : List ℕ) (xsdt : ℕ) → AreRows (rsdp_rows oem_id (table_pointer xsdt))

@@ -1,4 +1,5 @@
 ghost use Rattle.std.specs.Prelude.{◌≡◌, ◌+◌, ◌*◌, ◌<◌, ◌≤◌, ◌^◌, length, map, IfOk, OnOk};
+ghost use Rattle.acpi_model.specs.Xsdt.{most_entries};
 ghost use Rattle.blob_holes.specs.Blob.{next_place};
 ghost use Rattle.acpi_append.specs.Tables.{IsXsdtPut, table_pointer};
 
@@ -14,7 +15,7 @@ use vt_outside::{List, OutOfMemory};
 /// `OutOfMemory` when memory runs out; what `blob` then holds is unspecified.
 pub fn put_xsdt(blob: &mut Blob, head: &Head, tables: &[u32]) -> Result<u32, OutOfMemory>
     requires short { length blob.old.bytes < 2 ^ 31 }
-    requires few { length tables.now ≤ 256 }
+    requires few { length tables.now ≤ most_entries }
 
     // Where the XSDT is in the file, and how many bytes the file then has.
     ensures place { IfOk result (λ place. place ≡ next_place 16 blob.old) }

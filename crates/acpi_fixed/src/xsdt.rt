@@ -1,6 +1,7 @@
 ghost use Rattle.std.specs.Prelude.{◌≡◌, ◌+◌, ◌*◌, ◌<◌, ◌≤◌, ◌^◌, length, IfOk, OnOk, IsSome, IsSomeAnd};
 ghost use Rattle.machine_desc.specs.Rules.{IsAccepted};
 ghost use Rattle.acpi_model.specs.Header.{head_of};
+ghost use Rattle.acpi_model.specs.Xsdt.{most_entries};
 ghost use Rattle.blob_holes.specs.Blob.{next_place};
 ghost use Rattle.acpi_append.specs.Tables.{IsXsdtPut};
 
@@ -17,7 +18,7 @@ pub fn append_xsdt(blob: &mut Blob, machine: &Machine, tables: &[u32]) -> Result
     requires accepted { IsAccepted machine.now }
     requires wanted { IsSome machine.now.acpi }
     requires short { length blob.old.bytes < 2 ^ 31 }
-    requires few { length tables.now ≤ 256 }
+    requires few { length tables.now ≤ most_entries }
 
     // Where the XSDT is in the file, and how many bytes the file then has.
     ensures place { IfOk result (λ place. place ≡ next_place 16 blob.old) }

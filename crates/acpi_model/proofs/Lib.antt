@@ -31,3 +31,6 @@ pub mod MachineTargets
 pub mod OneTarget
 pub mod Maker
 pub mod SameAcpi
+pub mod FirstOfKind
+pub mod DistinctInTurn
+pub mod FoundInTurn

@@ -3,12 +3,14 @@ use Rattle.std.proofs.Common.{◌≡◌, ℕ, List, [], ◌∷◌, inl, inr, ref
 use Rattle.vt_bytes.specs.View.{View}
 use Rattle.vt_bytes.proofs.AtMostOne.{IsOne, one_least}
 use Rattle.acpi_records.specs.declared.header.Head.{Head}
+use Rattle.acpi_model.specs.declared.acpi.AcpiTables.{AcpiTables}
 use Rattle.acpi_model.specs.declared.acpi.OtherTable.{OtherTable}
 use Rattle.acpi_model.specs.declared.acpi.Table.{Table}
+use Rattle.acpi_model.specs.declared.acpi.FadtTargets.{FadtTargets}
 use Rattle.acpi_model.specs.Found.{LeadTo}
-use Rattle.acpi_model.specs.Acpi.{IsAt, IsOther, Walks, AreAt, first_links, gathered, ShowsAcpi}
+use Rattle.acpi_model.specs.Acpi.{IsAt, IsOther, Walks, AreAt, first_links, gathered, AreFound, AreTold, LeadsToAcpi, ShowsAcpi}
 use Rattle.acpi_model.specs.Xsdt.{IsXsdt}
-use Rattle.acpi_model.specs.Rsdp.{IsRsdp, HasRsdp}
+use Rattle.acpi_model.specs.Rsdp.{HasRsdp}
 use Rattle.acpi_model.proofs.OneTable.{one_table}
 use Rattle.acpi_model.proofs.OneLayout.{one_at}
 use Rattle.acpi_model.proofs.Xsdt.{one_xsdt}
@@ -33,11 +35,11 @@ not_both view address t u is also =
     cc (signatures, is.known, also.unknown)
 
 -- what two walks find
-record AreSame (tables more : List Table) (others rest : List OtherTable) : Type 0 where
-  known : tables ≡ more
-  unknown : others ≡ rest
+pub record AreSame (tables more : List Table) (others rest : List OtherTable) : Type 0 where
+  pub known : tables ≡ more
+  pub unknown : others ≡ rest
 
-one_walk : (view : View) (addresses : List ℕ) (tables more : List Table) (others rest : List OtherTable)
+pub one_walk : (view : View) (addresses : List ℕ) (tables more : List Table) (others rest : List OtherTable)
     → Walks view addresses tables others → Walks view addresses more rest → AreSame tables more others rest
 one_walk view [] tables more others rest is also = record { known = is.0 ∙ sym also.0; unknown = is.1 ∙ sym also.1 }
 one_walk view (address ∷ addresses) tables more others rest (inl (t, ts, at, are, walks)) (inl (u, us, here, also_are, walked)) =
@@ -66,23 +68,45 @@ walked view [] (table ∷ tables) stand = absurd stand
 walked view (address ∷ addresses) [] stand = absurd stand
 walked view (address ∷ addresses) (table ∷ tables) stand = inl (table, tables, stand.0, refl, walked view addresses tables stand.1)
 
-pub one_acpi : (view : View) → IsOne (ShowsAcpi view)
-one_acpi view s t is also =
-    let place : is.rsdp ≡ also.rsdp =
-    one_least (HasRsdp view) is.rsdp also.rsdp (s.oem_id, is.xsdt, is.valid) (t.oem_id, also.xsdt, also.valid) is.least also.least in
-    let root =
-    one_rsdp view also.rsdp s.oem_id t.oem_id is.xsdt also.xsdt (subst (λ a. IsRsdp view a s.oem_id is.xsdt) place is.valid) also.valid in
+-- what is found at addresses
+pub record AreFoundSame (tables more : List Table) (targets goals : FadtTargets) (others rest : List OtherTable) : Type 0 where
+  pub known : tables ≡ more
+  pub leads : targets ≡ goals
+  pub unknown : others ≡ rest
+
+pub one_found_all : (view : View) (addresses : List ℕ) (tables more : List Table) (targets goals : FadtTargets) (others rest : List OtherTable)
+    → AreFound view addresses tables targets others → AreFound view addresses more goals rest → AreFoundSame tables more targets goals others rest
+one_found_all view addresses tables more targets goals others rest is also =
+    let same = one_walk view addresses tables more others rest is.named also.named in
+    record {
+      known = same.known;
+      leads = one_target view (first_links more) targets goals (subst (λ those. LeadTo view (first_links those) targets) same.known is.lead) also.lead;
+      unknown = same.unknown;
+    }
+
+-- the tables at addresses tell one thing, with one maker's id and one header of the XSDT
+pub one_told : (view : View) (addresses : List ℕ) (s t : AcpiTables) → s.oem_id ≡ t.oem_id → s.xsdt ≡ t.xsdt → AreTold view addresses s
+    → AreTold view addresses t → s ≡ t
+one_told view addresses s t ids headers is also =
+    let same = one_found_all view addresses is.tables also.tables is.targets also.targets s.others t.others is.found also.found in
+    is.told ∙ ap (λ id. gathered id s.xsdt is.tables is.targets s.others) ids
+    ∙ ap (λ (h : Head). gathered t.oem_id h is.tables is.targets s.others) headers
+    ∙ ap (λ tables. gathered t.oem_id t.xsdt tables is.targets s.others) same.known
+    ∙ ap (λ targets. gathered t.oem_id t.xsdt also.tables targets s.others) same.leads
+    ∙ ap (gathered t.oem_id t.xsdt also.tables also.targets) same.unknown ∙ sym also.told
+
+-- an RSDP leads to one set of tables
+pub one_led : (view : View) (rsdp : ℕ) → IsOne (LeadsToAcpi view rsdp)
+one_led view rsdp s t is also =
+    let root = one_rsdp view rsdp s.oem_id t.oem_id is.xsdt also.xsdt is.valid also.valid in
     let listed =
     one_xsdt view also.xsdt s.xsdt t.xsdt is.addresses also.addresses (subst (λ a. IsXsdt view a s.xsdt is.addresses) root.1 is.listed)
     also.listed in
-    let same =
-    one_walk view also.addresses is.tables also.tables s.others t.others
-    (subst (λ addresses. Walks view addresses is.tables s.others) listed.1 is.named) also.named in
-    let targets =
-    one_target view (first_links also.tables) is.targets also.targets (subst (λ tables. LeadTo view (first_links tables) is.targets) same.known is.lead)
-    also.lead in
-    is.told ∙ ap (λ id. gathered id s.xsdt is.tables is.targets s.others) root.0
-    ∙ ap (λ (h : Head). gathered t.oem_id h is.tables is.targets s.others) listed.0
-    ∙ ap (λ tables. gathered t.oem_id t.xsdt tables is.targets s.others) same.known
-    ∙ ap (λ targets. gathered t.oem_id t.xsdt also.tables targets s.others) targets
-    ∙ ap (gathered t.oem_id t.xsdt also.tables also.targets) same.unknown ∙ sym also.told
+    one_told view also.addresses s t root.0 listed.0 (subst (λ addresses. AreTold view addresses s) listed.1 is.tables) also.tables
+
+pub one_acpi : (view : View) → IsOne (ShowsAcpi view)
+one_acpi view s t is also =
+    let place : is.rsdp ≡ also.rsdp =
+    one_least (HasRsdp view) is.rsdp also.rsdp (s.oem_id, is.leads.xsdt, is.leads.valid) (t.oem_id, also.leads.xsdt, also.leads.valid) is.least
+    also.least in
+    one_led view also.rsdp s t (subst (λ a. LeadsToAcpi view a s) place is.leads) also.leads

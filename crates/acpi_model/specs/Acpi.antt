@@ -1,5 +1,6 @@
 -- The ACPI tables that a view shows, from its RSDP on (ACPI 6.5, chapter 5), and those of a machine.
-use Rattle.std.specs.Prelude.{◌≡◌, ℕ, ◌+◌, ◌<◌, ◌⊎◌, List, [], ◌∷◌, Option, Some, None, option_map, option_and_then, option_to_list}
+use Rattle.std.specs.Prelude.{◌≡◌, ℕ, ◌+◌, ◌<◌, ◌⊎◌, Bool, true, not, List, [], ◌∷◌, ◌++◌}
+use Rattle.std.specs.Prelude.{Option, Some, None, is_some, option_map, option_and_then, option_to_list}
 use Rattle.std.specs.List.{find, flat_map, AllByRecursion}
 use Rattle.std.specs.Option.{option_map_or}
 use Rattle.std.specs.Str.{bytes_eq}
@@ -139,21 +140,63 @@ gathered oem_id xsdt tables targets others = record {
   others = others;
 }
 
--- The view shows the tables: the least valid RSDP has the maker's id and leads to the XSDT, its entries name the tables, no two of
--- which are of one kind, and what they tell is gathered of them.
-pub record ShowsAcpi (view : View) (t : AcpiTables) : Type 0 where
-  pub rsdp : ℕ
+-- Tables stand at addresses, one after the other: those of known kinds, no two of which are of one kind, what the FADT among them leads
+-- to, and the others.
+pub record AreFound (view : View) (addresses : List ℕ) (tables : List Table) (targets : FadtTargets) (others : List OtherTable) : Type 0 where
+  pub named : Walks view addresses tables others
+  pub distinct : AreDistinct tables
+  pub lead : LeadTo view (first_links tables) targets
+
+-- The tables at addresses tell these: what they tell is gathered of them.
+pub record AreTold (view : View) (addresses : List ℕ) (t : AcpiTables) : Type 0 where
+  pub tables : List Table
+  pub targets : FadtTargets
+  pub found : AreFound view addresses tables targets t.others
+  pub told : t ≡ gathered t.oem_id t.xsdt tables targets t.others
+
+-- The RSDP at an address has the maker's id and leads to the XSDT, whose entries name the tables.
+pub record LeadsToAcpi (view : View) (rsdp : ℕ) (t : AcpiTables) : Type 0 where
   pub xsdt : ℕ
   pub valid : IsRsdp view rsdp t.oem_id xsdt
-  pub least : (other : ℕ) → other < rsdp → HasRsdp view other → ⊥
   pub addresses : List ℕ
   pub listed : IsXsdt view xsdt t.xsdt addresses
-  pub tables : List Table
-  pub named : Walks view addresses tables t.others
-  pub distinct : AreDistinct tables
-  pub targets : FadtTargets
-  pub lead : LeadTo view (first_links tables) targets
-  pub told : t ≡ gathered t.oem_id t.xsdt tables targets t.others
+  pub tables : AreTold view addresses t
+
+-- The view shows the tables: the least valid RSDP leads to them.
+pub record ShowsAcpi (view : View) (t : AcpiTables) : Type 0 where
+  pub rsdp : ℕ
+  pub least : (other : ℕ) → other < rsdp → HasRsdp view other → ⊥
+  pub leads : LeadsToAcpi view rsdp t
+
+-- what nothing leads to
+abbrev pub no_targets : FadtTargets
+no_targets = record { facs = None; dsdt = None }
+
+-- the test that a table with a signature is the first, behind others
+abbrev pub is_first : List ℕ → List Table → Bool
+is_first signature before = not (is_some (first_with signature before))
+
+-- what a table of a known kind leads to by its pointers, and nothing where it has none
+abbrev pub TableLeadsTo : View → Table → FadtTargets → Type 0
+TableLeadsTo view t targets = LeadTo view (links_of t) targets
+
+-- The table at an address is found behind others: it is of a known kind and the first of it, with what it leads to; or it is another.
+abbrev pub IsFoundBehind : View → ℕ → List Table → Type 0
+IsFoundBehind view address before =
+    ((t : Table) × (targets : FadtTargets) × IsAt view address t × (is_first (signature_of t) before ≡ true) × TableLeadsTo view t targets)
+    ⊎ ((t : OtherTable) × IsOther view address t)
+
+-- a table of a known kind, with what it leads to, added to what was gathered before
+abbrev pub with_table : Table → FadtTargets → AcpiTables → AcpiTables
+with_table (Fadt t links) targets all = record all { fadt = Some t; facs = targets.facs; dsdt = targets.dsdt }
+with_table (Madt t) targets all = record all { madt = Some t }
+with_table (Srat t) targets all = record all { srat = Some t }
+with_table (Slit t) targets all = record all { slit = Some t }
+with_table (Hpet t) targets all = record all { hpet = Some t }
+
+-- and another table
+abbrev pub with_other : OtherTable → AcpiTables → AcpiTables
+with_other t all = record all { others = all.others ++ t ∷ [] }
 
 -- Where the FACS of a machine stands in the file of the tables: before all others. The file is placed at a multiple of 64, as the FACS
 -- has to be (ACPI 6.5, 5.2.10).

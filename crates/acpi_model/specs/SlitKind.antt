@@ -1,6 +1,6 @@
 -- The SLIT (ACPI 6.5, 5.2.17), whose count says how many bytes its distances have, as a kind of table.
-use Rattle.std.specs.Prelude.{ℕ, ◌+◌, ◌*◌, List, [], ◌∷◌, ◌++◌, Option, Some, None, option_and_then, nat_le, ◌&&◌, if◌then◌else◌, codes}
-use Rattle.vt_bytes.specs.View.{number_in}
+use Rattle.std.specs.Prelude.{ℕ, ◌+◌, ◌*◌, List, [], ◌∷◌, ◌++◌, Option, Some, None, unwrap_or, nat_le, ◌&&◌, if◌then◌else◌, codes}
+use Rattle.vt_bytes.specs.View.{View, number_in}
 use Rattle.vt_layout.specs.declared.row.Row.{Row}
 use Rattle.vt_layout.specs.declared.row.Row.TheVariants.{Bytes}
 use Rattle.vt_layout.specs.Rows.{shape, text}
@@ -23,10 +23,14 @@ counted_shape total count =
     if nat_le count most_nodes && nat_le (44 + count * count) total
     then Some (shape (body_rows (slit_front_fields (slit_front_made []))) ++ Bytes (count * count) [] ∷ []) else None
 
+-- the count of a table at an address, behind its header, or 0 where it isn't there
+abbrev pub count_at : View → ℕ → ℕ
+count_at view address = unwrap_or (number_in view (address + 36) 8) 0
+
 abbrev pub slit_kind : Kind
 slit_kind = record {
   signature = codes "SLIT";
-  shape = λ view address total. option_and_then (counted_shape total) (number_in view (address + 36) 8);
+  shape = λ view address total. counted_shape total (count_at view address);
   types = None;
   table = λ head body entries. SlitVariant (slit_of (slit_front_made (values_of (header_rows (codes "SLIT") 0 head ++ body) [])) (text 1 body));
 }

@@ -1,6 +1,6 @@
 //! Laws over the definitions, each the contract of a function that does nothing.
 
-ghost use Rattle.std.specs.Prelude.{◌≡◌, ℕ, ◌+◌, ◌<◌, ◌≤◌, List, [], ◌∷◌, ◌++◌, length, map, true, Some, IsSome, IfSome};
+ghost use Rattle.std.specs.Prelude.{◌≡◌, ℕ, ◌+◌, ◌<◌, ◌≤◌, List, [], ◌∷◌, ◌++◌, length, map, true, not, codes, Some, is_some, IsSome, IfSome};
 ghost use Rattle.std.specs.List.{AllByRecursion};
 ghost use Rattle.vt_bytes.specs.View.{View};
 ghost use Rattle.vt_layout.specs.declared.row.Row.TheVariants.{Pointer};
@@ -13,10 +13,14 @@ ghost use Rattle.machine_desc.specs.declared.acpi_parts.Apic.{Apic};
 ghost use Rattle.machine_desc.specs.Rules.{is_padded_text, apic_id, IsAccepted};
 ghost use Rattle.machine_desc.specs.Fields.{HasFittingFields};
 ghost use Rattle.acpi_records.specs.declared.header.Head.{Head};
+ghost use Rattle.acpi_model.specs.declared.acpi.AcpiTables.{AcpiTables};
+ghost use Rattle.acpi_model.specs.declared.acpi.FadtTargets.{FadtTargets};
+ghost use Rattle.acpi_model.specs.declared.acpi.OtherTable.{OtherTable};
 ghost use Rattle.acpi_model.specs.declared.acpi.Table.{Table};
 ghost use Rattle.acpi_records.specs.Header.{head_of, padded, FitsHead};
 ghost use Rattle.acpi_model.specs.Maker.{acpi_in};
-ghost use Rattle.acpi_model.specs.Acpi.{IsAt, IsWritable, CanBePut, rows_of, linked_table, signature_of, Walks, AreAt, AreDistinct, bytes_behind, first_with, first_links, gathered, facs_place, tables_of, targets_of, acpi_of};
+ghost use Rattle.acpi_model.specs.Acpi.{IsAt, IsOther, IsWritable, CanBePut, rows_of, linked_table, signature_of, Walks, AreAt, AreDistinct, bytes_behind, first_with, first_links, gathered, facs_place, tables_of, targets_of, acpi_of};
+ghost use Rattle.acpi_model.specs.Acpi.{no_targets, AreFound, AreTold, is_first, TableLeadsTo, IsFoundBehind, with_table, with_other};
 ghost use Rattle.acpi_model.specs.Kinds.{tables_name};
 ghost use Rattle.acpi_records.specs.Facs.{IsFacs};
 ghost use Rattle.acpi_model.specs.Found.{LeadTo};
@@ -26,7 +30,7 @@ ghost use Rattle.acpi_model.specs.MachineMadt.{cpu_entries, nmi_entry, madt_of_m
 ghost use Rattle.acpi_model.specs.WorkedMadt.{worked_cpus, worked_cpus_bytes, worked_nmis, worked_nmis_bytes};
 ghost use Rattle.acpi_model.specs.MachineSrat.{srat_of_machine, cpu_nodes, range_nodes};
 ghost use Rattle.acpi_model.specs.MachineSlit.{slit_of_machine, numa_in};
-ghost use Rattle.acpi_model.specs.Xsdt.{IsXsdt, xsdt_rows, given};
+ghost use Rattle.acpi_model.specs.Xsdt.{IsXsdt, most_entries, xsdt_rows, given};
 
 /// States that at most one table of a known kind stands at an address.
 pub fn one_table_stands_at_an_address()
@@ -36,6 +40,43 @@ pub fn one_table_stands_at_an_address()
 /// States that, where each table stands at its address, a walk over the addresses finds the tables.
 pub fn tables_at_their_addresses_are_walked()
     ensures { (view : View) (addresses : List ℕ) (tables : List Table) → AreAt view addresses tables → Walks view addresses tables [] }
+{}
+
+/// States that at no addresses nothing is found, whatever the RSDP's id and the header of the XSDT are.
+pub fn nothing_is_found_at_no_addresses()
+    ensures { (view : View) (oem_id : List ℕ) (head : Head) → AreTold view [] (gathered oem_id head [] no_targets []) }
+{}
+
+/// States that a table at one address more is added to what is told of those before: one of a known kind, where it is the first of its kind
+/// and with what its pointers lead to, and another. It is found last.
+pub fn found_tables_grow()
+    ensures table { (view : View) (before : List ℕ) (all : AcpiTables) (is : AreTold view before all) (address : ℕ) (t : Table) (targets : FadtTargets)
+        → IsAt view address t → is_first (signature_of t) is.tables ≡ true → TableLeadsTo view t targets
+        → (told : AreTold view (before ++ address ∷ []) (with_table t targets all)) × (told.tables ≡ is.tables ++ t ∷ []) }
+    ensures other { (view : View) (before : List ℕ) (all : AcpiTables) (is : AreTold view before all) (address : ℕ) (t : OtherTable)
+        → IsOther view address t
+        → (told : AreTold view (before ++ address ∷ []) (with_other t all)) × (told.tables ≡ is.tables) }
+{}
+
+/// States that, where tables are found at addresses, some are found at the first of these, and behind them the table at the next one.
+pub fn tables_are_found_in_turn()
+    ensures { (view : View) (before : List ℕ) (address : ℕ) (after : List ℕ) (tables : List Table) (targets : FadtTargets) (others : List OtherTable)
+        → AreFound view (before ++ address ∷ after) tables targets others
+        → (t : List Table) × (g : FadtTargets) × (o : List OtherTable) × AreFound view before t g o × IsFoundBehind view address t }
+{}
+
+/// States that a table would be the first of its kind behind others exactly where none of the kind is told of them.
+pub fn known_table_is_told_apart()
+    ensures fadt { (view : View) (before : List ℕ) (all : AcpiTables) (is : AreTold view before all)
+        → is_first (codes "FACP") is.tables ≡ not (is_some all.fadt) }
+    ensures madt { (view : View) (before : List ℕ) (all : AcpiTables) (is : AreTold view before all)
+        → is_first (codes "APIC") is.tables ≡ not (is_some all.madt) }
+    ensures srat { (view : View) (before : List ℕ) (all : AcpiTables) (is : AreTold view before all)
+        → is_first (codes "SRAT") is.tables ≡ not (is_some all.srat) }
+    ensures slit { (view : View) (before : List ℕ) (all : AcpiTables) (is : AreTold view before all)
+        → is_first (codes "SLIT") is.tables ≡ not (is_some all.slit) }
+    ensures hpet { (view : View) (before : List ℕ) (all : AcpiTables) (is : AreTold view before all)
+        → is_first (codes "HPET") is.tables ≡ not (is_some all.hpet) }
 {}
 
 /// States that a table of a list, no two of which have one signature, is found in it by its signature.
@@ -80,10 +121,10 @@ pub fn held_table_is_there()
 {}
 
 /// States that an XSDT that a view holds as it was written stands there, with the addresses of the tables at these offsets in a
-/// file.
+/// file, where they are no more than an XSDT has entries.
 pub fn held_xsdt_is_there()
     ensures { (view : View) (place_of : List ℕ → ℕ) (address : ℕ) (head : Head) (name offsets : List ℕ)
-        → AllByRecursion IsRow (xsdt_rows head (map (Pointer 8 name) offsets))
+        → length offsets ≤ most_entries → AllByRecursion IsRow (xsdt_rows head (map (Pointer 8 name) offsets))
         → LayoutHeld view place_of address (xsdt_rows head (map (Pointer 8 name) offsets))
         → IsXsdt view address head (given (map (λ offset. offset + place_of name) offsets)) }
 {}

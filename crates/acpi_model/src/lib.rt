@@ -2,9 +2,10 @@
 //!
 //! The definitions say which tables a view shows (ACPI 6.5, 5.2; IA-PC HPET 1.0a, 3.2.4). The contract is that the tables of a machine,
 //! and what they tell, are those of the definitions. The laws are that at most one table stands at an address, that a table and an XSDT
-//! which a view holds as they were written stand there, that the tables that a machine's XSDT names can be put into a file, are walked,
-//! lead to the machine's FACS and tell what the machine's do, and that a machine's parts are got back from its tables. A kind of tables is
-//! its signature with the shape of its rows and the types of its entries. The records are those of `acpi_records`, which are passed on.
+//! which a view holds as they were written stand there, that tables at addresses are found one after the other, that the tables that a
+//! machine's XSDT names can be put into a file, are walked, lead to the machine's FACS and tell what the machine's do, and that a machine's
+//! parts are got back from its tables. A kind of tables is its signature with the shape of its rows and the types of its entries. The
+//! records are those of `acpi_records`, which are passed on.
 #![tactic(auto)]
 
 mod acpi;

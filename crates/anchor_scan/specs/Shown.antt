@@ -1,6 +1,7 @@
--- What a memory shows from its anchors, or the first fault (DMTF DSP0134, version 3.0.0, 5.2.2).
+-- What a memory shows from its anchors, or the first fault (DMTF DSP0134, version 3.0.0, 5.2.2; ACPI 6.5, 5.2.5).
 use Rattle.std.specs.Prelude.{◌≡◌, ℕ, ◌<◌, ◌⊎◌, List, Option, Result, Err}
 use Rattle.vt_bytes.specs.View.{View}
+use Rattle.acpi_model.specs.Rsdp.{HasRsdp}
 use Rattle.smbios_model.specs.declared.anchor.Anchor.{Anchor}
 use Rattle.smbios_model.specs.declared.smbios.SmbiosTable.{SmbiosTable}
 use Rattle.smbios_model.specs.Anchor.{IsAnchor, HasAnchor, IsRange}
@@ -8,13 +9,21 @@ use Rattle.smbios_decode.specs.declared.fault.SmbiosFault.{SmbiosFault}
 use Rattle.smbios_decode.specs.declared.fault.SmbiosFault.TheVariants.{OutOfMemory}
 use Rattle.smbios_decode.specs.Faults.{IsRefused}
 
+-- the least address where something stands
+abbrev pub IsLeast : (ℕ → Type 0) → ℕ → Type 0
+IsLeast Stands address = Stands address × ((other : ℕ) → other < address → Stands other → ⊥)
+
 -- no valid anchor stands anywhere
 abbrev pub HasNoAnchor : View → Type 0
 HasNoAnchor view = (address : ℕ) → HasAnchor view address → ⊥
 
 -- the least address of a valid anchor
 abbrev pub IsFirstAnchor : View → ℕ → Type 0
-IsFirstAnchor view address = HasAnchor view address × ((other : ℕ) → other < address → HasAnchor view other → ⊥)
+IsFirstAnchor view = IsLeast (HasAnchor view)
+
+-- no valid RSDP stands anywhere
+abbrev pub HasNoRsdp : View → Type 0
+HasNoRsdp view = (address : ℕ) → HasRsdp view address → ⊥
 
 -- The least valid anchor leads to bytes that aren't structures, with this first fault.
 pub record RefusesSmbios (view : View) (fault : SmbiosFault) : Type 0 where

@@ -1,19 +1,14 @@
-ghost use Rattle.std.specs.Prelude.{◌≡◌, ◌%◌, ◌<◌, ◌≤◌, ◌↔◌, None, IsTrue, IfSome};
+ghost use Rattle.std.specs.Prelude.{◌≡◌, ◌%◌, ◌<◌, ◌≤◌, ◌↔◌, None, refl, IsTrue, IfSome};
+ghost use Rattle.std.proofs.Common.{arith};
 ghost use Rattle.vt_bytes.specs.Memory.{IsRamRange, seen};
 ghost use Rattle.smbios_model.specs.Anchor.{HasAnchor};
 ghost use Rattle.anchor_scan.specs.Shown.{HasNoAnchor, IsFirstAnchor};
 ghost use Rattle.anchor_scan.specs.Found.{HasMark, HasNumbers};
 
+use crate::least::{ANCHORS_END, AnchorKind, least_anchor};
 use guest_memory::GuestMemory;
 use smbios_model::{Anchor, anchor_of, anchor_rows};
 use vt_layout::{Row, read_u8, read_u32, read_u64};
-
-// Where anchors may stand: on a multiple of 16 from 0xF0000 on, up to the end of the first MiB (DSP0134 5.2.2).
-const ANCHORS_START: u64 = 0xF_0000;
-
-const ANCHORS_END: u64 = 0x10_0000;
-
-const ANCHOR_STEP: u64 = 16;
 
 // The mark of an anchor, with which it begins: the standard's anchor string.
 const MARK: &[u8] = b"_SM3_";
@@ -41,32 +36,38 @@ pub fn find_smbios(memory: &GuestMemory) -> Option<u64>
     ensures some { IfSome result (IsFirstAnchor (seen memory.now)) }
     ensures none { result ≡ None ↔ HasNoAnchor (seen memory.now) }
 {
-    let mut address = ANCHORS_START;
-    while address < ANCHORS_END {
-        if is_anchor(memory, address) {
-            return Some(address);
-        }
-        address += ANCHOR_STEP;
-    }
-    None
+    least_anchor::<SmbiosAnchor>(memory)
 }
 
-// Whether a valid anchor stands at an address where one may stand.
-fn is_anchor(memory: &GuestMemory, address: u64) -> bool
-    requires from { 0xF0000 ≤ address }
-    requires aligned { address % 16 ≡ 0 }
-    requires below { address < 0x100000 }
-    ensures { IsTrue result ↔ HasAnchor (seen memory.now) address }
-{
-    let room = ANCHORS_END - address;
-    if room < ANCHOR_SIZE || !has_mark(memory, address) {
-        return false;
+// The kind of anchor that leads to SMBIOS structures.
+struct SmbiosAnchor;
+
+impl AnchorKind for SmbiosAnchor {
+    const START: u64 = 0xF_0000;
+
+    ghost START = { 0xF0000 };
+
+    ghost Stands = { HasAnchor };
+
+    fn stands(memory: &GuestMemory, address: u64) -> bool {
+        let room = ANCHORS_END - address;
+        if room < ANCHOR_SIZE || !has_mark(memory, address) {
+            return false;
+        }
+        let length = u64::from(read_anchor(memory, address).anchor.length);
+        if length < ANCHOR_SIZE || room < length {
+            return false;
+        }
+        memory.sum_range(address, length as u32) == 0
     }
-    let length = u64::from(read_anchor(memory, address).anchor.length);
-    if length < ANCHOR_SIZE || room < length {
-        return false;
-    }
-    memory.sum_range(address, length as u32) == 0
+
+    ghost starts = { refl };
+
+    ghost places = { λ view address has. record {
+      from = has.2.from;
+      aligned = has.2.aligned;
+      below = Prim.omega (arith, has.2.long_enough, has.2.within);
+    } };
 }
 
 // Whether the mark of an anchor stands at an address.

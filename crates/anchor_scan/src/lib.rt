@@ -1,12 +1,23 @@
-//! What a guest's memory shows from its anchors (DSP0134, version 3.0.0, 5.2.2 and 6.1).
+//! What a guest's memory shows from its anchors: the anchor of SMBIOS structures (DSP0134, version 3.0.0, 5.2.2 and 6.1), and the RSDP,
+//! that of ACPI tables (ACPI 6.5, 5.2.5).
 //!
-//! The contract is that the least valid SMBIOS anchor is found exactly, and that the structures that it leads to are read exactly
-//! where the memory shows them, and else their first fault.
+//! An anchor stands on a multiple of 16 below 1 MiB. The contract is that the least valid one of each kind is found exactly, and that
+//! the structures that the SMBIOS anchor leads to are read exactly where the memory shows them, and else their first fault.
 #![tactic(auto)]
 
+mod acpi;
 mod anchor;
+mod fault;
+mod inventory;
+mod least;
 mod range;
-mod scan;
+mod rsdp;
+mod smbios;
+mod view;
 
 pub use anchor::find_smbios;
-pub use scan::scan_smbios;
+pub use fault::ScanFault;
+pub use inventory::scan;
+pub use rsdp::find_rsdp;
+pub use smbios::scan_smbios;
+pub use view::Seen;

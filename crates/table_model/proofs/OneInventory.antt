@@ -25,7 +25,7 @@ one_inventory top view a b is also =
     (λ t shows none. none shows.address (shows.anchor, shows.structures, shows.valid)) a.smbios b.smbios is.smbios also.smbios in
     let acpi =
     one_or_none ((address : ℕ) → HasRsdp view address → ⊥) (ShowsAcpi view) (one_acpi view)
-    (λ t shows none. none shows.rsdp (t.oem_id, shows.xsdt, shows.valid)) a.acpi b.acpi is.acpi also.acpi in
+    (λ t shows none. none shows.rsdp (t.oem_id, shows.leads.xsdt, shows.leads.valid)) a.acpi b.acpi is.acpi also.acpi in
     ap (λ n. inventory_from n a.smbios a.acpi a.generation) (is.its_top ∙ sym also.its_top)
     ∙ ap (λ o. inventory_from b.top o a.acpi a.generation) smbios ∙ ap (λ o. inventory_from b.top b.smbios o a.generation) acpi
     ∙ ap (inventory_from b.top b.smbios b.acpi) (is.generation ∙ sym also.generation)

@@ -20,6 +20,10 @@ entries_bytes = 0 ∷ 8 ∷ 1 ∷ 2 ∷ 1 ∷ 0 ∷ 0 ∷ 0 ∷ 0 ∷ 9 ∷ 2 �
 abbrev pub entries : List Entry
 entries = Known 0 (local_apic 1 2 1) ∷ Known 0 (local_apic 2 3 0) ∷ Other 0x7F 3 ∷ []
 
+-- a processor whose entry is one byte shorter than its rows
+abbrev pub short_entry : List ℕ
+short_entry = 0 ∷ 7 ∷ 1 ∷ 2 ∷ 1 ∷ 0 ∷ 0 ∷ 0 ∷ []
+
 -- A number of two bytes, one of four that only begins within the three bytes of the layout, and two bytes past them.
 abbrev pub short_bytes : List ℕ
 short_bytes = 0x34 ∷ 0x12 ∷ 0x78 ∷ 0x56 ∷ 0x34 ∷ 0x12 ∷ 0x41 ∷ 0x42 ∷ []

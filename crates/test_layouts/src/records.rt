@@ -6,8 +6,8 @@ use std::alloc::Global;
 use std::process::Abort;
 use std::test::Fail;
 use vt_layout::{
-    RecordFault, RecordReader, RecordSize, Row, RowList, put_rows, read, record_laws,
-    record_size_of, rows_of,
+    RecordFault, RecordReader, RecordSize, Row, RowList, put_rows, read, read_bytes, read_plain,
+    record_laws, record_size_of, rows_of,
 };
 use vt_outside::{Bytes, List, OutOfMemory, Text};
 
@@ -141,6 +141,21 @@ fn list_of_rows(rt: HostRuntime) -> Result<(), Fail> {
     are_bytes(&rt, rt.alloc(), &rows, b"\x02\x01\0")
 }
 
+// A record without texts is read of bytes that go on behind it, and the bytes of its last row alone.
+#[test]
+fn record_without_texts(rt: HostRuntime) -> Result<(), Fail> {
+    let bytes = b"\x05\x77\x06\x01\0\0\x99";
+    let extent: Extent = read_plain(rt.alloc(), bytes)?;
+    let wanted = Extent {
+        unit: 5,
+        volume: 0x106,
+    };
+    is(&rt, &extent, &wanted);
+    let last = read_bytes(bytes, &[Row::Reserved(2), Row::Number(4, 0)], 1);
+    is(&rt, &last, &b"\x06\x01\0\0".as_slice());
+    Ok(())
+}
+
 // What a record doesn't keep is put in the place of one of its rows.
 #[test]
 fn row_in_place_of_another(rt: HostRuntime) -> Result<(), Fail> {
@@ -157,7 +172,7 @@ fn are_bytes(rt: &impl Abort, alloc: Global, rows: &RowList, wanted: &[u8]) -> R
     Ok(())
 }
 
-// The laws of a record hold of this one.
+// The laws of a record hold of this one, and that of a record without texts of its part.
 #[test]
 fn laws_of_a_record(rt: HostRuntime) {
     let _rt = rt;
@@ -166,6 +181,7 @@ fn laws_of_a_record(rt: HostRuntime) {
     record_laws::one_record_stands_at_a_place::<Parcel>();
     record_laws::written_record_stands::<Parcel>();
     record_laws::written_record_is_read::<Parcel>();
+    record_laws::record_without_texts_is_of_its_rows::<Extent>();
 }
 
 fn two_strings(alloc: Global) -> Result<List<Text>, OutOfMemory> {

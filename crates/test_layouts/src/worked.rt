@@ -1,10 +1,11 @@
 //! What readers take from bytes that were made by hand.
 
-ghost use Rattle.std.specs.Prelude.{[], ◌∷◌};
+ghost use Rattle.std.specs.Prelude.{[], ◌∷◌, take};
 ghost use Rattle.vt_layout.specs.View.{view_of};
 ghost use Rattle.vt_layout.specs.Entries.{EntriesShown};
+ghost use Rattle.vt_layout.specs.BadEntries.{FirstBad};
 ghost use Rattle.vt_layout.specs.Filled.{Filled, blank};
-ghost use Rattle.test_layouts.specs.Worked.{types, entries, entries_bytes, short_bytes, short_rows};
+ghost use Rattle.test_layouts.specs.Worked.{types, entries, entries_bytes, short_entry, short_bytes, short_rows};
 
 use std::test::Fail;
 
@@ -12,6 +13,7 @@ use std::test::Fail;
 fn worked_rows(rt: HostRuntime) -> Result<(), Fail> {
     let _rt = rt;
     worked_entries();
+    worked_bad_entries();
     worked_short_rows();
     Ok(())
 }
@@ -19,6 +21,14 @@ fn worked_rows(rt: HostRuntime) -> Result<(), Fail> {
 // Bytes past an entry's rows are ignored, and an entry of another type is its type and its length.
 fn worked_entries()
     ensures { EntriesShown types (view_of entries_bytes) 0 0 20 entries }
+{}
+
+// The third entry has three bytes, which may be more than are left, and one byte is no type and length. An entry of a processor has at
+// least eight bytes.
+fn worked_bad_entries()
+    ensures runs_past { FirstBad types (view_of entries_bytes) 0 0 19 (take 2 entries) 17 }
+    ensures one_byte { FirstBad types (view_of entries_bytes) 0 0 18 (take 2 entries) 17 }
+    ensures too_short { FirstBad types (view_of short_entry) 0 0 8 [] 0 }
 {}
 
 // Rows that don't end within the layout are filled with zeros; in a layout of all 8 bytes they are what stands there.

@@ -128,6 +128,29 @@ fn copy_and_cut_bytes(rt: &impl Abort, bytes: &mut Bytes) -> Result<(), OutOfMem
     Ok(())
 }
 
+#[test]
+fn lists_with_room(rt: HostRuntime) -> Result<(), Fail> {
+    let list = list_with_room(rt.alloc())?;
+    are_items(&rt, list.as_slice(), &[7, 8]);
+    drop(list);
+    let bytes = bytes_with_room(rt.alloc())?;
+    are_items(&rt, bytes.as_slice(), b"vm");
+    drop(bytes);
+    Ok(())
+}
+
+fn list_with_room(alloc: Global) -> Result<List<u32>, OutOfMemory> {
+    let mut list = List::with_room(alloc, 2)?;
+    list.extend(&[7, 8])?;
+    Ok(list)
+}
+
+fn bytes_with_room(alloc: Global) -> Result<Bytes, OutOfMemory> {
+    let mut bytes = Bytes::with_room(alloc, 2)?;
+    bytes.extend(b"vm")?;
+    Ok(bytes)
+}
+
 fn is_item<T: Debug + PartialEq>(rt: &impl Abort, is: &T, wanted: &T) {
     assert_eq!(rt; *is, *wanted);
 }

@@ -13,7 +13,7 @@ use Rattle.machine_desc.specs.Fields.{HasFittingFields}
 use Rattle.acpi_records.specs.declared.header.Head.{Head}
 use Rattle.acpi_model.specs.declared.acpi.Table.{Table}
 use Rattle.acpi_model.specs.Header.{FitsHead, head_of, padded}
-use Rattle.acpi_model.specs.Xsdt.{xsdt_rows}
+use Rattle.acpi_model.specs.Xsdt.{most_entries, xsdt_rows}
 use Rattle.acpi_model.specs.Rsdp.{rsdp_rows}
 use Rattle.acpi_model.specs.Acpi.{rows_of, CanBePut, tables_of}
 use Rattle.acpi_model.proofs.Headers.{length-padded, head_fits}
@@ -27,9 +27,9 @@ use Rattle.acpi_append.specs.Tables.{table_pointer, with_table, with_xsdt, with_
 use Rattle.acpi_append.proofs.FileTables.{table_fits, put_fits, table_appended, xsdt_appended, rsdp_appended, pointers_unsummed}
 use Rattle.image_files.specs.Files.{whole}
 use Rattle.vm_image.specs.Image.{with_tables, xsdt_place, acpi_files, tables_begin}
-use Rattle.vm_image.specs.AcpiHeld.{most_bytes, tables_limit, AreAppended, IsTablesFile, IsAcpiImage, AreAcpiKnown}
+use Rattle.vm_image.specs.AcpiHeld.{most_bytes, tables_limit, AreFew, AreAppended, IsTablesFile, IsAcpiImage, AreAcpiKnown}
 use Rattle.vm_image.proofs.Whole.{whole_kept}
-use Rattle.vm_image.proofs.AcpiFiles.{most_bytes-more, map_more, none_appended, one_more_appended, tables_named, image_known, files_are}
+use Rattle.vm_image.proofs.AcpiFiles.{length-places, most_bytes-more, map_more, none_appended, one_more_appended, tables_named, image_known, files_are}
 use Rattle.vm_image.proofs.Begin.{MayBegin, may_begin}
 use Rattle.vm_image.proofs.Few.{tables_few}
 use Rattle.vm_image.proofs.RsdpShown.{rsdp_fits}
@@ -82,8 +82,9 @@ none_put begin may = record { appended = none_appended begin may.linkable; blob 
 
 -- all is known of the files of tables that can be put there
 known_image : (acpi : Acpi) (begin : BlobState) (tables : List Table) → FitsHead acpi → MayBegin begin → AllByRecursion CanBePut tables
-    → length begin.bytes + most_bytes tables ≤ tables_limit → IsAcpiImage acpi begin tables (acpi_files acpi begin tables)
-known_image acpi begin tables fits may can few =
+    → AreFew begin tables → IsAcpiImage acpi begin tables (acpi_files acpi begin tables)
+known_image acpi begin tables fits may can are_few =
+    let few = are_few.bytes in
     let all = all_put begin [] tables [] begin (none_put begin may) can few in
     let places : List ℕ = all.0 in
     let file : BlobState = all.1 in
@@ -96,7 +97,9 @@ known_image acpi begin tables fits may can few =
     let are : AreRows rows = table_fits (codes "XSDT") head (map table_pointer places) refl (omega (arith, sizes, appended.few, few))
     (head_fits acpi 1 fits (omega arith)) put.pointers (pointers_unsummed places) in
     let short : next_place 16 file + size rows < 2 ^ 32 = omega (arith, sizes, near, appended.few, few) in
-    let xsdt = xsdt_appended file put.blob head places are short in
+    let number : length places ≤ most_entries =
+    omega (arith, ap length appended.places_are, length-places begin tables, are_few.number) in
+    let xsdt = xsdt_appended file put.blob head places number are short in
     let last : BlobState = with_xsdt file head places in
     let tables_file : IsTablesFile begin head tables last =
     tables_named begin tables places file last head appended (omega (arith, xsdt.appended.size_is, sizes)) xsdt in
@@ -122,4 +125,4 @@ pub acpi_known : (m : Machine) (maker : Option Acpi) → IsAccepted m → HasFit
 acpi_known m None accepted fit is = tt
 acpi_known m (Some acpi) accepted fit is =
     let fits : FitsHead acpi = accepted_fits m acpi accepted is in
-    known_image acpi (tables_begin m) (tables_of m acpi) fits (may_begin m) (machine_can m acpi fits fit accepted) (tables_few m acpi accepted).bytes
+    known_image acpi (tables_begin m) (tables_of m acpi) fits (may_begin m) (machine_can m acpi fits fit accepted) (tables_few m acpi accepted)

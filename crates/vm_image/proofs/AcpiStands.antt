@@ -59,14 +59,11 @@ module _ (m : Memory) (place_of : List ℕ → ℕ) (high : 0x4000000 ≤ m.top)
       let size = known.rsdp_size in
       let rsdp_within = rsdp.within in
       let tables_from = tables.from in
+      let file = (acpi_files acpi (tables_begin machine) (tables_of machine acpi)).tables in
       let held : HoldsTables (seen m) place_of (xsdt_place (tables_begin machine) (tables_of machine acpi) + place_of tables_name) (head_of acpi 1) (tables_of machine acpi) =
       known.tables_file.held (seen m) (place_of tables_name) place_of tables.held refl (omega arith) in
       record {
         rsdp = place_of rsdp_name;
-        xsdt = xsdt_place (tables_begin machine) (tables_of machine acpi) + place_of tables_name;
-        valid = rsdp_shown (seen m) place_of (place_of rsdp_name) (padded 6 acpi.oem_id) (xsdt_place (tables_begin machine) (tables_of machine acpi))
-            (length-padded 6 acpi.oem_id fits.oem_id) (omega (arith, known.tables_file.behind, known.tables_blob.short))
-            (omega (arith, rsdp.from)) (omega (arith, rsdp.aligned.1)) (omega arith) (known.rsdp_held (seen m) (place_of rsdp_name) place_of rsdp.held);
         least = no_rsdp (place_of rsdp_name) (omega arith) (
           clear_behind m (rsdp_mark (place_of rsdp_name)) (place_of tables_name) (length (acpi_files acpi (tables_begin machine) (tables_of machine acpi)).tables.bytes)
               (omega (arith, tables.aligned.1)) (omega arith),
@@ -76,13 +73,23 @@ module _ (m : Memory) (place_of : List ℕ → ℕ) (high : 0x4000000 ≤ m.top)
             tt,
           ),
         );
-        addresses = held.addresses;
-        listed = held.listed;
-        tables = map (linked_table place_of) (tables_of machine acpi);
-        named = walked (seen m) held.addresses (map (linked_table place_of) (tables_of machine acpi)) held.stand;
-        distinct = machine_distinct place_of machine acpi;
-        targets = targets_of machine;
-        lead = machine_leads (seen m) place_of machine acpi (omega arith)
-            (facs_stands machine (seen m) place_of (acpi_files acpi (tables_begin machine) (tables_of machine acpi)).tables known.tables_file.grown tables.held);
-        told = sym (gathered-linked place_of (padded 6 acpi.oem_id) (head_of acpi 1) (tables_of machine acpi) (targets_of machine) []);
+        leads = record {
+          xsdt = xsdt_place (tables_begin machine) (tables_of machine acpi) + place_of tables_name;
+          valid = rsdp_shown (seen m) place_of (place_of rsdp_name) (padded 6 acpi.oem_id) (xsdt_place (tables_begin machine) (tables_of machine acpi))
+              (length-padded 6 acpi.oem_id fits.oem_id) (omega (arith, known.tables_file.behind, known.tables_blob.short))
+              (omega (arith, rsdp.from)) (omega (arith, rsdp.aligned.1)) (omega arith) (known.rsdp_held (seen m) (place_of rsdp_name) place_of rsdp.held);
+          addresses = held.addresses;
+          listed = held.listed;
+          tables = record {
+            tables = map (linked_table place_of) (tables_of machine acpi);
+            targets = targets_of machine;
+            found = record {
+              named = walked (seen m) held.addresses (map (linked_table place_of) (tables_of machine acpi)) held.stand;
+              distinct = machine_distinct place_of machine acpi;
+              lead = machine_leads (seen m) place_of machine acpi (omega arith)
+                  (facs_stands machine (seen m) place_of file known.tables_file.grown tables.held);
+            };
+            told = sym (gathered-linked place_of (padded 6 acpi.oem_id) (head_of acpi 1) (tables_of machine acpi) (targets_of machine) []);
+          };
+        };
       }

@@ -6,6 +6,7 @@ use Rattle.machine_desc.specs.declared.machine.Acpi.{Acpi}
 use Rattle.machine_desc.specs.Rules.{IsAccepted}
 use Rattle.acpi_model.specs.declared.acpi.Table.{Table}
 use Rattle.acpi_model.specs.Kinds.{rows_behind}
+use Rattle.acpi_model.specs.Xsdt.{most_entries}
 use Rattle.acpi_model.specs.Acpi.{layout_of, rows_of, bytes_behind, parts_of, tables_of}
 use Rattle.acpi_model.proofs.Parts.{length-present}
 use Rattle.blob_holes.specs.Blob.{BlobState}
@@ -22,7 +23,7 @@ most_by_sizes (table ∷ tables) =
     omega (arith, first, most_by_sizes tables)
 
 -- so tables are few that have few bytes behind their headers
-pub few_by_sizes : (begin : BlobState) (tables : List Table) → length tables ≤ 256
+pub few_by_sizes : (begin : BlobState) (tables : List Table) → length tables ≤ most_entries
     → length begin.bytes + length tables * 60 + bytes_behind tables ≤ tables_limit → AreFew begin tables
 few_by_sizes begin tables number bytes = record { number = number; bytes = omega (arith, bytes, most_by_sizes tables) }
 

@@ -8,7 +8,7 @@ use Rattle.machine_desc.specs.declared.machine.Acpi.{Acpi}
 use Rattle.acpi_records.specs.declared.header.Head.{Head}
 use Rattle.acpi_model.specs.declared.acpi.Table.{Table}
 use Rattle.acpi_model.specs.Header.{padded, head_of}
-use Rattle.acpi_model.specs.Xsdt.{IsXsdt}
+use Rattle.acpi_model.specs.Xsdt.{IsXsdt, most_entries}
 use Rattle.acpi_model.specs.Rsdp.{rsdp_rows}
 use Rattle.acpi_model.specs.Acpi.{rows_of, linked_table, AreAt, tables_of}
 use Rattle.blob_holes.specs.Blob.{BlobState, IsBlob}
@@ -29,7 +29,7 @@ tables_limit = 0x70000
 
 -- so few tables that one XSDT names them, and that there is room for them behind what their file begins with
 pub record AreFew (begin : BlobState) (tables : List Table) : Type 0 where
-  pub number : length tables ≤ 256
+  pub number : length tables ≤ most_entries
   pub bytes : length begin.bytes + most_bytes tables ≤ tables_limit
 
 -- Tables were appended to a file: it has only grown, can be linked, has few more bytes, and wherever it stands filled each table

@@ -13,7 +13,7 @@ use Rattle.vt_layout.proofs.Shows.{size-linked, shown_rows, held_front, held_bac
 use Rattle.vt_layout.proofs.Same.{same_rows}
 
 -- an entry has at least two bytes
-at_least_2 : (types : Types) (length : ℕ) (entry : Entry) → IsOfType types entry → HasLength length entry → 2 ≤ length
+pub at_least_2 : (types : Types) (length : ℕ) (entry : Entry) → IsOfType types entry → HasLength length entry → 2 ≤ length
 at_least_2 types length (Known kind rows) typed long = omega arith
 at_least_2 types length (Other kind total) typed long = omega (arith, typed.1, long)
 
@@ -63,11 +63,11 @@ shown_entries types view place_of start address (entry ∷ entries) are typed he
     )
 
 -- two entries at one address have one length, and are the same
-record SameEntry (m n : ℕ) (a b : Entry) : Type 0 where
-  lengths : m ≡ n
-  entries : a ≡ b
+pub record SameEntry (m n : ℕ) (a b : Entry) : Type 0 where
+  pub lengths : m ≡ n
+  pub entries : a ≡ b
 
-same_entry : (types : Types) (view : View) (start address m n : ℕ) (a b : Entry) → IsEntry types view start address m a
+pub same_entry : (types : Types) (view : View) (start address m n : ℕ) (a b : Entry) → IsEntry types view start address m a
     → IsEntry types view start address n b → SameEntry m n a b
 same_entry types view start address m n (Known kind rows) (Known other others) is also =
     let kinds : kind ≡ other = cc (is.shown.0, also.shown.0) in

@@ -42,7 +42,7 @@ some_mapped f None value is = absurd (cc)
 some_mapped f (Some x) value is = (x, refl, cc)
 
 -- each row is shown at its place
-shown_at : (view : View) (start address : ℕ) (rows : List Row) (k : ℕ) → k < length rows → Shown view start address rows
+pub shown_at : (view : View) (start address : ℕ) (rows : List Row) (k : ℕ) → k < length rows → Shown view start address rows
     → RowShown view start (address + place_of_row k rows) (row_at k rows)
 shown_at view start address [] k within shown = absurd (omega arith)
 shown_at view start address (row ∷ rows) zero within shown =

@@ -4,8 +4,10 @@ pub mod Shows
 pub mod Spelled
 pub mod NumberRows
 pub mod InBytes
+pub mod InView
 pub mod AsRows
 pub mod Entries
+pub mod BadEntries
 pub mod Filled
 pub mod NumberedRows
 pub mod NamedTexts

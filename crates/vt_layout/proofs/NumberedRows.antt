@@ -15,6 +15,12 @@ string_numbers-numbered [] (StringNumber m ∷ rows) long = absurd (omega arith)
 string_numbers-numbered (n ∷ numbers) (StringNumber m ∷ rows) long = ap (λ all. n ∷ all) (string_numbers-numbered numbers rows (omega arith))
 string_numbers-numbered numbers (row ∷ rows) long = string_numbers-numbered numbers rows long
 
+-- no numbers change nothing
+pub numbered-none : (rows : List Row) → numbered [] rows ≡ rows
+numbered-none [] = refl
+numbered-none (StringNumber m ∷ rows) = ap (λ more. StringNumber m ∷ more) (numbered-none rows)
+numbered-none (row ∷ rows) = ap (λ more. row ∷ more) (numbered-none rows)
+
 -- they don't change the shape of the rows
 pub shape-numbered : (numbers : List ℕ) (rows : List Row) → shape (numbered numbers rows) ≡ shape rows
 shape-numbered numbers [] = refl

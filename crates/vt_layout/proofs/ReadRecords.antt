@@ -1,6 +1,8 @@
 -- What is read of bytes is what stands at their front, and what stands there is read.
 use Rattle.std.proofs.Common.{◌≡◌, ℕ, ◌≤◌, ◌<◌, Bool, true, false, cond, List, [], ◌∷◌, length, take, drop, Option, Some, None, Result, Ok, Err, nat_lt}
 use Rattle.std.proofs.Common.{refl, ap, sym, subst, ◌∙◌, arith}
+use Rattle.std.specs.List.{list_all}
+use Rattle.std.proofs.lemmas.Bool.{and_parts}
 use Rattle.std.proofs.lemmas.Bool.Decides.{nat_tests}
 use Rattle.vt_bytes.specs.Numbers.{le, be}
 use Rattle.vt_bytes.specs.View.{View, view_of}
@@ -11,14 +13,16 @@ use Rattle.vt_layout.specs.declared.value.Value.TheVariants as values
 use Rattle.vt_layout.specs.declared.record_reader.RecordFault.{RecordFault}
 use Rattle.vt_layout.specs.declared.record_reader.RecordFault.TheVariants.{TooShort}
 use Rattle.vt_layout.specs.Rows.{width_of, size, string_numbers}
-use Rattle.vt_layout.specs.Strings.{string_of, AreNamed}
+use Rattle.vt_layout.specs.Strings.{string_of, AreNamed, numbers_from}
+use Rattle.vt_layout.specs.Numbered.{numbered}
 use Rattle.vt_layout.specs.Reading.{row_in, rows_in}
 use Rattle.vt_layout.specs.Values.{value_of, values_of}
-use Rattle.vt_layout.specs.Fields.{Field}
-use Rattle.vt_layout.specs.Records.{are_readable, kinds_of, IsLaid, text_said, value_said, joined, values_said, made_of, record_in}
+use Rattle.vt_layout.specs.Fields.{Field, Plain, Text, field_rows, field_texts}
+use Rattle.vt_layout.specs.Records.{is_readable, are_readable, kinds_of, IsLaid, text_said, value_said, joined, values_said, made_of, record_in}
 use Rattle.vt_layout.proofs.AsRows.{bytes_shown, bytes_shaped}
 use Rattle.vt_layout.proofs.Same.{same_rows}
-use Rattle.vt_layout.proofs.ReadableFields.{kinds_readable}
+use Rattle.vt_layout.proofs.NumberedRows.{numbered-none}
+use Rattle.vt_layout.proofs.ReadableFields.{all_readable, kinds_readable}
 
 -- a value in front of others, all of which are there
 record IsJoined (one : Result Value RecordFault) (more : Result (List Value) RecordFault) (all : List Value) : Type 0 where
@@ -145,6 +149,55 @@ standing_read fields made area strings t readable within is =
     let named = subst (λ (these : List Row). AreNamed strings (string_numbers these) is.texts) rows is.named in
     let says = is.says ∙ ap (λ (these : List Row). made (values_of these is.texts)) rows in
     whole_area fields made area strings within ∙ ap (made_of made) (named_read strings kinds area is.texts named) ∙ ap Ok (sym says)
+
+-- fields without texts have no number of a string in their rows
+no_number : (row : Row) (bytes : List ℕ) (rows : List Row) → is_readable (Plain row) ≡ true
+    → string_numbers (row_in row bytes ∷ rows) ≡ string_numbers rows
+no_number (StringNumber number) bytes rows is = absurd (cc is)
+no_number row bytes rows is = refl
+
+no_numbers : (fields : List Field) (bytes : List ℕ) → list_all is_readable fields ≡ true → field_texts fields ≡ []
+    → string_numbers (rows_in (field_rows fields) bytes) ≡ []
+no_numbers [] bytes are none = refl
+no_numbers (Text text ∷ fields) bytes are none = absurd (cc none)
+no_numbers (Plain row ∷ fields) bytes are none =
+    let parts = and_parts (is_readable (Plain row)) (list_all is_readable fields) are in
+    let left = drop (width_of row) bytes in
+    no_number row (take (width_of row) bytes) (rows_in (field_rows fields) left) parts.0 ∙ no_numbers fields left parts.1 none
+
+no_texts : (strings : List (List ℕ)) (texts : List (List ℕ)) → AreNamed strings [] texts → texts ≡ []
+no_texts strings [] named = refl
+no_texts strings (text ∷ texts) named = absurd named
+
+-- so what is read is made of the values of these rows alone
+pub read_without_texts : {T : Type 0} (fields : T → List Field) (made : List Value → T) (area : List ℕ) (strings : List (List ℕ)) (t : T)
+    → are_readable (fields (made [])) ≡ true → field_texts (fields (made [])) ≡ [] → record_in fields made area strings ≡ Ok t
+    → t ≡ made (values_of (rows_in (field_rows (fields (made []))) area) [])
+read_without_texts fields made area strings t readable none is =
+    let own : List Field = fields (made []) in
+    let kinds = kinds_of fields made in
+    let parts = parts_made made (nat_lt (length area) (size kinds)) (values_said kinds area strings) t is in
+    let read = rows_read strings kinds area parts.all parts.said_is in
+    let plain : kinds ≡ field_rows own = ap (λ texts. numbered (numbers_from 1 texts) (field_rows own)) none ∙ numbered-none (field_rows own) in
+    let numbers : string_numbers (rows_in kinds area) ≡ [] =
+    ap (λ (rows : List Row). string_numbers (rows_in rows area)) plain ∙ no_numbers own area (all_readable own readable) none in
+    let texts : read.texts ≡ [] = no_texts strings read.texts (subst (λ these. AreNamed strings these read.texts) numbers read.named) in
+    parts.says ∙ ap made read.says ∙ ap (λ these. made (values_of (rows_in kinds area) these)) texts
+    ∙ ap (λ (rows : List Row). made (values_of (rows_in rows area) [])) plain
+
+-- and a record without texts is always read
+pub plain_read : {T : Type 0} (fields : T → List Field) (made : List Value → T) (area : List ℕ) (strings : List (List ℕ))
+    → are_readable (fields (made [])) ≡ true → field_texts (fields (made [])) ≡ [] → size (field_rows (fields (made []))) ≤ length area
+    → record_in fields made area strings ≡ Ok (made (values_of (rows_in (field_rows (fields (made []))) area) []))
+plain_read fields made area strings readable none within =
+    let own : List Field = fields (made []) in
+    let kinds = kinds_of fields made in
+    let plain : kinds ≡ field_rows own = ap (λ texts. numbered (numbers_from 1 texts) (field_rows own)) none ∙ numbered-none (field_rows own) in
+    let numbers : string_numbers (rows_in kinds area) ≡ [] =
+    ap (λ (rows : List Row). string_numbers (rows_in rows area)) plain ∙ no_numbers own area (all_readable own readable) none in
+    let named : AreNamed strings (string_numbers (rows_in kinds area)) [] = subst (λ these. AreNamed strings these []) (sym numbers) tt in
+    whole_area fields made area strings (subst (λ (rows : List Row). size rows ≤ length area) (sym plain) within)
+    ∙ ap (made_of made) (named_read strings kinds area [] named) ∙ ap (λ (rows : List Row). Ok (made (values_of (rows_in rows area) []))) plain
 
 -- numbers name one list of texts
 same_named : (strings : List (List ℕ)) (numbers : List ℕ) (texts others : List (List ℕ)) → AreNamed strings numbers texts

@@ -1,6 +1,7 @@
 pub mod Rows
 pub mod Shown
 pub mod Entries
+pub mod BadEntries
 pub mod Filled
 pub mod Reading
 pub mod PointerSize

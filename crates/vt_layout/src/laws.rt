@@ -1,11 +1,11 @@
 //! Laws over all layouts, each the contract of a function that does nothing.
 
-ghost use Rattle.std.specs.Prelude.{◌≡◌, ◌≤◌, ◌+◌, ◌↔◌, ℕ, List, Ok, length};
+ghost use Rattle.std.specs.Prelude.{◌≡◌, ◌≤◌, ◌+◌, ◌↔◌, ℕ, List, Some, Ok, length};
 ghost use Rattle.std.specs.List.{AllByRecursion};
 ghost use Rattle.vt_layout.specs.declared.row.Row.{Row};
 ghost use Rattle.vt_layout.specs.Rows.{IsRow, IsPlain, size, shape, linked, spelled, number, text};
 ghost use Rattle.vt_layout.specs.Reading.{row_at, read_number, read_name, IsNumber, IsNamed, IsReadable, rows_in};
-ghost use Rattle.vt_bytes.specs.View.{View, view_of};
+ghost use Rattle.vt_bytes.specs.View.{View, bytes_in, view_of};
 ghost use Rattle.vt_layout.specs.Shown.{Shown, LayoutShown, Held};
 ghost use Rattle.vt_layout.specs.Entries.{Entry, Types, entries_rows, linked_entries, IsOfType, EntriesShown};
 ghost use Rattle.vt_layout.specs.Filled.{Filled};
@@ -40,6 +40,13 @@ pub fn bytes_are_shown_as_rows()
     ensures shown { (kinds : List Row) (bytes : List ℕ) → AllByRecursion IsReadable kinds → size kinds ≤ length bytes
         → LayoutShown (view_of bytes) 0 (rows_in kinds bytes) }
     ensures shaped { (kinds : List Row) (bytes : List ℕ) → shape (rows_in kinds bytes) ≡ shape kinds }
+{}
+
+/// States that bytes that a view shows are shown there as rows of a shape, where any bytes can be such rows and there are enough of
+/// them.
+pub fn bytes_of_a_view_are_rows()
+    ensures { (view : View) (start address count : ℕ) (kinds : List Row) (bytes : List ℕ) → AllByRecursion IsReadable kinds
+        → size kinds ≤ count → bytes_in view address count ≡ Some bytes → Shown view start address (rows_in kinds bytes) }
 {}
 
 /// States that entries that a view holds as they were written are shown there, each pointer with its target's place added. They

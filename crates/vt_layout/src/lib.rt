@@ -11,6 +11,7 @@
 #![tactic(auto)]
 
 mod entry;
+pub mod entry_laws;
 mod laid;
 pub mod laws;
 mod named;
@@ -29,8 +30,8 @@ mod writing;
 pub use entry::entry_head;
 pub use laid::{Laid, record_size_of, rows_of};
 pub use pointer_size::is_pointer_size;
-pub use reading::{blank_name, read_name, read_u8, read_u16, read_u32, read_u64};
-pub use record_reader::{RecordFault, RecordReader, read};
+pub use reading::{blank_name, read_bytes, read_name, read_u8, read_u16, read_u32, read_u64};
+pub use record_reader::{RecordFault, RecordReader, read, read_plain};
 pub use record_size::RecordSize;
 pub use row::{Row, size_of};
 pub use row_list::RowList;

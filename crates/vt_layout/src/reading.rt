@@ -58,7 +58,7 @@ pub fn read_name(bytes: &[u8], rows: &[Row], index: usize) -> Result<Name, NameF
     requires within { Reach bytes.now rows.now }
     ensures { result ≡ read_name index rows.now bytes.now }
 {
-    Name::read(field(bytes, rows, index).as_array().unwrap())
+    Name::read(read_bytes(bytes, rows, index).as_array().unwrap())
 }
 
 /// Returns the name "-", for rows that say only where to read, and whose values aren't used.
@@ -76,11 +76,11 @@ fn number(bytes: &[u8], rows: &[Row], index: usize) -> u64
     ensures number { result ≡ read_number index rows.now bytes.now }
     ensures fits { result < 256 ^ width_of (row_at index rows.now) }
 {
-    number_at(&rows[index], field(bytes, rows, index))
+    number_at(&rows[index], read_bytes(bytes, rows, index))
 }
 
-// The bytes at the row with this index.
-fn field<'a>(bytes: &'a [u8], rows: &[Row], index: usize) -> &'a [u8]
+/// Reads the bytes at the row `rows[index]`, of which there must be one. `bytes` and `rows` are as for [`read_u8`].
+pub fn read_bytes<'a>(bytes: &'a [u8], rows: &[Row], index: usize) -> &'a [u8]
     requires row { index < length rows.now }
     requires within { Reach bytes.now rows.now }
     ensures bytes { result.now ≡ bytes_at_row index rows.now bytes.now }

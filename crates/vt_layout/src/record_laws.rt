@@ -1,6 +1,6 @@
 //! Laws over all records, each the contract of a function that does nothing.
 
-ghost use Rattle.std.specs.Prelude.{◌≡◌, ◌<◌, ◌≤◌, ◌↔◌, ◌++◌, ℕ, List, Ok, Err, length};
+ghost use Rattle.std.specs.Prelude.{◌≡◌, ◌<◌, ◌≤◌, ◌↔◌, ◌++◌, ℕ, List, [], Ok, Err, length};
 ghost use Rattle.std.specs.List.{AllByRecursion};
 ghost use Rattle.vt_bytes.specs.View.{View, view_of};
 ghost use Rattle.vt_layout.specs.declared.record_reader.RecordFault.TheVariants.{TooShort, NoSuchString};
@@ -8,7 +8,8 @@ ghost use Rattle.vt_layout.specs.Rows.{IsRow, size, string_numbers};
 ghost use Rattle.vt_layout.specs.Shown.{Held};
 ghost use Rattle.vt_layout.specs.Strings.{IsFirstMissing};
 ghost use Rattle.vt_layout.specs.Reading.{rows_in};
-ghost use Rattle.vt_layout.specs.Fields.{numbered_rows, field_bytes, field_strings};
+ghost use Rattle.vt_layout.specs.Values.{values_of};
+ghost use Rattle.vt_layout.specs.Fields.{field_rows, field_texts, numbered_rows, field_bytes, field_strings};
 ghost use Rattle.vt_layout.specs.Records.{IsLaid, kinds_of, record_in};
 
 use crate::laid::Laid;
@@ -20,6 +21,13 @@ pub fn record_is_read_where_it_stands<T: Laid>()
         → IsLaid T.fields T.made (view_of area) 0 0 strings t }
     ensures read { (area : List ℕ) (strings : List (List ℕ)) (t : T) → size (kinds_of T.fields T.made) ≤ length area
         → IsLaid T.fields T.made (view_of area) 0 0 strings t → record_in T.fields T.made area strings ≡ Ok t }
+{}
+
+/// States that a record without texts that is read of bytes is made of the values of the rows that the bytes are.
+pub fn record_without_texts_is_of_its_rows<T: Laid>()
+    ensures { (area : List ℕ) (strings : List (List ℕ)) (t : T) → field_texts (T.fields (T.made [])) ≡ []
+        → record_in T.fields T.made area strings ≡ Ok t
+        → t ≡ T.made (values_of (rows_in (field_rows (T.fields (T.made []))) area) []) }
 {}
 
 /// States when each fault of reading comes: where bytes end before the record's rows, and else where a row has a number that is no

@@ -1,6 +1,9 @@
 ghost use Rattle.std.specs.Prelude.{◌≡◌, ◌≤◌, ◌⊎◌, [], length, Ok, Err, IfOk, IfErr, OnOk};
 ghost use Rattle.vt_layout.specs.declared.record_reader.RecordFault.TheVariants.{OutOfMemory as NoMemory};
 ghost use Rattle.vt_layout.specs.Rows.{size};
+ghost use Rattle.vt_layout.specs.Reading.{rows_in};
+ghost use Rattle.vt_layout.specs.Values.{values_of};
+ghost use Rattle.vt_layout.specs.Fields.{field_rows, field_texts};
 ghost use Rattle.vt_layout.specs.Records.{values_said, record_in};
 
 use crate::laid::{Laid, rows_of};
@@ -90,6 +93,22 @@ impl<T: Laid> RecordReader<T> {
         )?;
         Ok(T::take(&mut self.values))
     }
+
+    /// Reads the record that stands at the front of `area`, as [`RecordReader::read`] does, where no record of its type has texts and
+    /// `area` reaches to the end of its rows. Returns `OutOfMemory` when memory runs out. The reader can be used again after it.
+    pub fn read_plain(&mut self, area: &[u8]) -> Result<T, OutOfMemory>
+        requires textless { field_texts (T.fields (T.made [])) ≡ [] }
+        requires whole { size (field_rows (T.fields (T.made []))) ≤ length area.now }
+        ensures { IfOk result (λ t. t ≡ T.made (values_of (rows_in (field_rows (T.fields (T.made []))) area.now) [])) }
+    {
+        match self.read(area, &[]) {
+            Ok(record) => Ok(record),
+            Err(RecordFault::OutOfMemory) => Err(OutOfMemory),
+            // All the rows are there, and none names a string.
+            Err(RecordFault::TooShort) => unreachable!(),
+            Err(RecordFault::NoSuchString(_)) => unreachable!(),
+        }
+    }
 }
 
 /// Reads the one record that stands at the front of `area`, as [`RecordReader::read`] does, in memory from `alloc`. Use that to read
@@ -100,6 +119,17 @@ pub fn read<T: Laid>(alloc: Global, area: &[u8], strings: &[Text]) -> Result<T, 
 {
     let mut reader = RecordReader::new(alloc)?;
     reader.read(area, strings)
+}
+
+/// Reads the one record that stands at the front of `area`, as [`RecordReader::read_plain`] does, in memory from `alloc`. Use that to read
+/// many.
+pub fn read_plain<T: Laid>(alloc: Global, area: &[u8]) -> Result<T, OutOfMemory>
+    requires textless { field_texts (T.fields (T.made [])) ≡ [] }
+    requires whole { size (field_rows (T.fields (T.made []))) ≤ length area.now }
+    ensures { IfOk result (λ t. t ≡ T.made (values_of (rows_in (field_rows (T.fields (T.made []))) area.now) [])) }
+{
+    let mut reader = RecordReader::new(alloc)?;
+    reader.read_plain(area)
 }
 
 // Reads the values of rows, to the end of which the area reaches, into a list that has none.

@@ -29,6 +29,16 @@ impl Bytes {
         }
     }
 
+    /// Makes an empty list of bytes, and takes memory for `count` bytes from `alloc` at once: so many are added without taking more.
+    /// On `OutOfMemory` no list is made.
+    pub fn with_room(alloc: Global, count: usize) -> Result<Bytes, OutOfMemory>
+        ensures { IfOk result (λ bytes. bytes ≡ []) }
+    {
+        Ok(Bytes {
+            bytes: List::with_room(alloc, count)?,
+        })
+    }
+
     /// Adds `byte` at the end. On `OutOfMemory` nothing is added, and the bytes are what they were.
     pub fn push(&mut self, byte: u8) -> Result<(), OutOfMemory>
         ensures ok { OnOk result (self.new ≡ self.old ++ byte ∷ []) }

@@ -30,6 +30,16 @@ impl<T: Drop> List<T> {
         }
     }
 
+    /// Makes an empty list, and takes memory for `count` items from `alloc` at once: so many are added without taking more. On
+    /// `OutOfMemory` no list is made.
+    pub fn with_room(alloc: Global, count: usize) -> Result<List<T>, OutOfMemory>
+        ensures { IfOk result (λ list. list ≡ []) }
+    {
+        Ok(List {
+            items: Vec::with_capacity(alloc, count)?,
+        })
+    }
+
     /// Adds `item` at the end. On `OutOfMemory` it isn't added, and the list is what it was.
     pub fn push(&mut self, item: T) -> Result<(), OutOfMemory>
         ensures ok { OnOk result (self.new ≡ self.old ++ item ∷ []) }

@@ -45,4 +45,5 @@ returns-clause-put c =
     on_ok_weaker c.append_table.result (λ put.
     let those = subst (AreRowsPut c.args.blob.now c.append_table.new.blob) rows_are (put [] no_rows) in
     put_where_held c.args.blob.now c.append_table.new.blob (xsdt_rows c.args.head.now (map table_pointer c.args.tables.now)) _ those.appended
-    (λ view at place_of held. held_xsdt view place_of at c.args.head.now tables_name c.args.tables.now those.fit held)) c.append_table.ensures.put
+    (λ view at place_of held. held_xsdt view place_of at c.args.head.now tables_name c.args.tables.now c.requires.few those.fit held))
+    c.append_table.ensures.put

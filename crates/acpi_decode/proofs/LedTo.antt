@@ -1,0 +1,69 @@
+-- What pointers lead to passes its tests, and where it passes them, it is there.
+use Rattle.std.proofs.Common.{◌≡◌, ℕ, ◌==◌, true, false, cond, List, [], Option, Some, None, inl, inr, ap, sym, subst, ◌∙◌}
+use Rattle.std.proofs.lemmas.Bool.{cases_Bool, eq-eqb, eqb-true, false≢true}
+use Rattle.vt_bytes.specs.View.{View}
+use Rattle.acpi_records.specs.Facs.{IsFacs}
+use Rattle.acpi_model.specs.declared.link.FadtLinks.{FadtLinks}
+use Rattle.acpi_model.specs.declared.acpi.FadtTargets.{FadtTargets}
+use Rattle.acpi_model.specs.declared.dsdt.Dsdt.TheVariants.{Foreign}
+use Rattle.acpi_model.specs.Links.{IsFound}
+use Rattle.acpi_model.specs.Found.{IsDsdt, LeadTo, facs_address, dsdt_address}
+use Rattle.acpi_decode.specs.Seen.{bytes_from, total_at}
+use Rattle.acpi_decode.specs.Tests.{Test, Pass}
+use Rattle.acpi_decode.specs.TableTests.{facs_tests, dsdt_tests}
+use Rattle.acpi_decode.specs.KindTests.{tests_at, target_tests}
+use Rattle.acpi_decode.specs.Read.{head_in, facs_in}
+use Rattle.acpi_decode.proofs.Facses.{facs_stands, facs_passes}
+use Rattle.acpi_decode.proofs.Dsdts.{dsdt_stands, dsdt_passes}
+use Rattle.acpi_decode.proofs.Firsts.{pass_both, pass_front, pass_back}
+
+-- an address of 0 leads nowhere
+found_nowhere : {T : Type 0} (Stands : ℕ → T → Type 0) (address : ℕ) → (address == 0) ≡ true → IsFound Stands address None
+found_nowhere Stands address is = eqb-true address 0 is
+
+-- any other to what stands there
+found_there : {T : Type 0} (Stands : ℕ → T → Type 0) (address : ℕ) (what : T) → (address == 0) ≡ false → Stands address what
+    → IsFound Stands address (Some what)
+found_there Stands address what is stands = (λ none. false≢true (sym is ∙ eq-eqb address 0 none), stands)
+
+-- the tests that are due there
+tests_due : (tests : ℕ → List Test) (address : ℕ) → (address == 0) ≡ false → tests_at tests address ≡ tests address
+tests_due tests address is = ap (λ none. cond none [] (tests address)) is
+
+none_due : (tests : ℕ → List Test) (address : ℕ) → (address == 0) ≡ true → tests_at tests address ≡ []
+none_due tests address is = ap (λ none. cond none [] (tests address)) is
+
+-- where tests pass exactly where something stands, so it is with what an address leads to
+passing_found : {T : Type 0} (Stands : ℕ → T → Type 0) (tests : ℕ → List Test) (made : ℕ → T)
+    → ((address : ℕ) → Pass (tests address) → Stands address (made address))
+    → (address : ℕ) → Pass (tests_at tests address) → (found : Option T) × IsFound Stands address found
+passing_found Stands tests made stands address pass =
+    elim (cases_Bool (address == 0)) [
+      | inl none ↦ (None, found_nowhere Stands address none)
+      | inr some ↦ (Some (made address), found_there Stands address (made address) some (stands address (subst Pass (tests_due tests address some) pass)))
+    ]
+
+found_passing : {T : Type 0} (Stands : ℕ → T → Type 0) (tests : ℕ → List Test) → ((address : ℕ) (what : T) → Stands address what → Pass (tests address))
+    → (address : ℕ) (found : Option T) → IsFound Stands address found → Pass (tests_at tests address)
+found_passing Stands tests passes address None is = subst Pass (sym (none_due tests address (eq-eqb address 0 is))) tt
+found_passing Stands tests passes address (Some what) is =
+    elim (cases_Bool (address == 0)) [
+      | inl none ↦ absurd (is.0 (eqb-true address 0 none))
+      | inr some ↦ subst Pass (sym (tests_due tests address some)) (passes address what is.1)
+    ]
+
+pub targets_pass : (view : View) (links : FadtLinks) (targets : FadtTargets) → LeadTo view (Some links) targets → Pass (target_tests view links)
+targets_pass view links targets is =
+    pass_both (tests_at (facs_tests view) (facs_address links)) (tests_at (dsdt_tests view) (dsdt_address links))
+    (found_passing (IsFacs view) (facs_tests view) (facs_passes view) (facs_address links) targets.facs is.0)
+    (found_passing (IsDsdt view) (dsdt_tests view) (dsdt_passes view) (dsdt_address links) targets.dsdt is.1)
+
+pub targets_found : (view : View) (links : FadtLinks) → Pass (target_tests view links) → (targets : FadtTargets) × LeadTo view (Some links) targets
+targets_found view links pass =
+    let facs = passing_found (IsFacs view) (facs_tests view)
+    (λ address. facs_in (bytes_from view address 64)) (facs_stands view) (facs_address links)
+    (pass_front (tests_at (facs_tests view) (facs_address links)) (tests_at (dsdt_tests view) (dsdt_address links)) pass) in
+    let dsdt = passing_found (IsDsdt view) (dsdt_tests view)
+    (λ address. Foreign (head_in (bytes_from view address 36)) (total_at view address)) (dsdt_stands view) (dsdt_address links)
+    (pass_back (tests_at (facs_tests view) (facs_address links)) (tests_at (dsdt_tests view) (dsdt_address links)) pass) in
+    (record { facs = facs.0; dsdt = dsdt.0 }, (facs.1, dsdt.1))

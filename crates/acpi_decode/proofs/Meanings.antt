@@ -1,0 +1,221 @@
+-- A memory is read in one way: its tables are shown, or there is one first fault.
+use Rattle.std.proofs.Common.{◌≡◌, ℕ, ◌⊎◌, inl, inr, ⊎_elim, List, [], ◌∷◌, ◌++◌}
+use Rattle.std.proofs.Common.{Result, Ok, Err, IfOk, IfErr, None, refl, ap, sym, subst, ◌∙◌, append_assoc, append-nil}
+use Rattle.vt_bytes.specs.View.{View}
+use Rattle.vt_bytes.proofs.AtMostOne.{IsOne}
+use Rattle.acpi_records.specs.declared.header.Head.{Head}
+use Rattle.acpi_model.specs.declared.acpi.AcpiTables.{AcpiTables}
+use Rattle.acpi_model.specs.declared.acpi.FadtTargets.{FadtTargets}
+use Rattle.acpi_model.specs.declared.acpi.OtherTable.{OtherTable}
+use Rattle.acpi_model.specs.declared.acpi.Table.{Table}
+use Rattle.acpi_model.specs.Rsdp.{IsRsdp, HasRsdp}
+use Rattle.acpi_model.specs.Xsdt.{IsXsdt}
+use Rattle.acpi_model.specs.Acpi.{gathered, no_targets, AreFound, AreTold, LeadsToAcpi, IsFoundBehind, with_table, with_other}
+use Rattle.acpi_model.proofs.OneAcpi.{one_found_all, one_led}
+use Rattle.acpi_model.proofs.OneRsdp.{one_rsdp}
+use Rattle.acpi_model.proofs.Xsdt.{one_xsdt}
+use Rattle.acpi_model.proofs.FoundInTurn.{nothing_found, table_grows, other_grows, found_in_turn}
+use Rattle.acpi_decode.specs.declared.fault.AcpiFault.{AcpiFault}
+use Rattle.acpi_decode.specs.declared.fault.AcpiFault.TheVariants.{OutOfMemory}
+use Rattle.acpi_decode.specs.declared.walked.Walked.{Walked}
+use Rattle.acpi_decode.specs.Seen.{bytes_from}
+use Rattle.acpi_decode.specs.Tests.{FirstFails}
+use Rattle.acpi_decode.specs.TableTests.{xsdt_tests}
+use Rattle.acpi_decode.specs.Faults.{IsFault, IsTableFault, First, IsWalked, Means, OrNoMemory}
+use Rattle.acpi_decode.specs.Read.{head_in, named_at}
+use Rattle.acpi_decode.proofs.Kept.{IsKept, kept_with}
+use Rattle.acpi_decode.proofs.Firsts.{one_first, first_behind, behind_first, first_own, passes_or_fails}
+use Rattle.acpi_decode.proofs.TableFaults.{one_fault, never_found_at_fault, found_or_at_fault}
+use Rattle.acpi_decode.proofs.Xsdts.{xsdt_stands, xsdt_passes}
+
+-- A list that is parted at an item, twice: at the same one, or one front goes on behind the item of the other.
+abbrev Agree : List ℕ → ℕ → List ℕ → ℕ → Type 0
+Agree xs x zs z =
+    ((xs ≡ zs) × (x ≡ z)) ⊎ (((mid : List ℕ) × (zs ≡ xs ++ x ∷ mid)) ⊎ ((mid : List ℕ) × (xs ≡ zs ++ z ∷ mid)))
+
+agree_more : (a : ℕ) (xs : List ℕ) (x : ℕ) (zs : List ℕ) (z : ℕ) → Agree xs x zs z → Agree (a ∷ xs) x (a ∷ zs) z
+agree_more a xs x zs z (inl (fronts, items)) = inl (ap (λ more. a ∷ more) fronts, items)
+agree_more a xs x zs z (inr (inl (mid, longer))) = inr (inl (mid, ap (λ more. a ∷ more) longer))
+agree_more a xs x zs z (inr (inr (mid, longer))) = inr (inr (mid, ap (λ more. a ∷ more) longer))
+
+parts_agree : (xs : List ℕ) (x : ℕ) (ys zs : List ℕ) (z : ℕ) (ws : List ℕ) → xs ++ x ∷ ys ≡ zs ++ z ∷ ws → Agree xs x zs z
+parts_agree [] x ys [] z ws same = let items : x ≡ z = cc in inl (refl, items)
+parts_agree [] x ys (b ∷ zs) z ws same = let items : b ≡ x = cc in inr (inl (zs, ap (λ i. i ∷ zs) items))
+parts_agree (a ∷ xs) x ys [] z ws same = let items : a ≡ z = cc in inr (inr (xs, ap (λ i. i ∷ xs) items))
+parts_agree (a ∷ xs) x ys (b ∷ zs) z ws same =
+    let items : a ≡ b = cc in
+    let tails : xs ++ x ∷ ys ≡ zs ++ z ∷ ws = cc in
+    subst (λ i. Agree (a ∷ xs) x (i ∷ zs) z) items (agree_more a xs x zs z (parts_agree xs x ys zs z ws tails))
+
+-- where tables are found at addresses, none of them is at fault
+none_at_fault : (view : View) (all before : List ℕ) (address : ℕ) (after : List ℕ) (tables found : List Table) (targets led : FadtTargets)
+    (others rest : List OtherTable) (fault : AcpiFault) → all ≡ before ++ address ∷ after → AreFound view all found led rest
+    → AreFound view before tables targets others → IsFault view address tables fault → ⊥
+none_at_fault view all before address after tables found targets led others rest fault parts are there is =
+    let turn = found_in_turn view before address after found led rest (subst (λ those. AreFound view those found led rest) parts are) in
+    let same = one_found_all view before turn.0 tables turn.1 targets turn.2 others turn.3 there in
+    never_found_at_fault view address tables fault (subst (IsFoundBehind view address) same.known turn.4) is
+
+-- so an XSDT names one first table at fault, and none where all are found
+named_fault : (view : View) (xsdt : ℕ) (head : Head) (all : List ℕ) (found : List Table) (led : FadtTargets) (rest : List OtherTable)
+    (fault : AcpiFault) → IsXsdt view xsdt head all → AreFound view all found led rest → IsTableFault view xsdt fault → ⊥
+named_fault view xsdt head all found led rest fault listed are is =
+    let same = one_xsdt view xsdt head is.head all (is.before ++ is.address ∷ is.after) listed is.listed in
+    none_at_fault view all is.before is.address is.after is.tables found is.targets led is.others rest fault same.1 are is.found is.is
+
+one_table_fault : (view : View) (xsdt : ℕ) → IsOne (IsTableFault view xsdt)
+one_table_fault view xsdt f g is also =
+    let same = one_xsdt view xsdt is.head also.head (is.before ++ is.address ∷ is.after) (also.before ++ also.address ∷ also.after) is.listed also.listed in
+    ⊎_elim
+    (λ here.
+    let there = subst (λ those. AreFound view those is.tables is.targets is.others) here.0 is.found in
+    let found = one_found_all view also.before is.tables also.tables is.targets also.targets is.others also.others there also.found in
+    one_fault view also.address also.tables f g
+    (subst (λ those. IsFault view also.address those f) found.known (subst (λ a. IsFault view a is.tables f) here.1 is.is)) also.is)
+    (λ apart. ⊎_elim
+    (λ longer. absurd (none_at_fault view also.before is.before is.address longer.0 is.tables also.tables is.targets also.targets is.others also.others f
+    longer.1 also.found is.found is.is))
+    (λ longer. absurd (none_at_fault view is.before also.before also.address longer.0 also.tables is.tables also.targets is.targets also.others is.others g
+    longer.1 is.found also.found also.is)) apart)
+    (parts_agree is.before is.address is.after also.before also.address also.after same.1)
+
+-- tables that are shown have no fault
+none_shown : (view : View) (rsdp : ℕ) (t : AcpiTables) (fault : AcpiFault) → LeadsToAcpi view rsdp t → First view rsdp fault → ⊥
+none_shown view rsdp t fault leads first =
+    let root = one_rsdp view rsdp t.oem_id first.oem_id leads.xsdt first.xsdt leads.valid first.valid in
+    let listed = subst (λ x. IsXsdt view x t.xsdt leads.addresses) root.1 leads.listed in
+    let faulty = first_behind (xsdt_tests view first.xsdt) (IsTableFault view first.xsdt) fault
+    (xsdt_passes view first.xsdt t.xsdt leads.addresses listed) first.is in
+    named_fault view first.xsdt t.xsdt leads.addresses leads.tables.tables leads.tables.targets t.others fault listed leads.tables.found faulty
+
+one_first_fault : (view : View) (rsdp : ℕ) → IsOne (First view rsdp)
+one_first_fault view rsdp f g is also =
+    let root = one_rsdp view rsdp is.oem_id also.oem_id is.xsdt also.xsdt is.valid also.valid in
+    one_first (xsdt_tests view also.xsdt) (IsTableFault view also.xsdt) (one_table_fault view also.xsdt) f g
+    (subst (λ x. FirstFails (xsdt_tests view x) (IsTableFault view x) f) root.1 is.is) also.is
+
+walked_from : AcpiTables → Walked
+walked_from t = record { tables = t; generation = None }
+
+one_walked : (view : View) (rsdp : ℕ) → IsOne (IsWalked view rsdp)
+unfolding walked_from
+one_walked view rsdp a b is also =
+    ap (λ generation. record { tables = a.tables; generation = generation }) is.generation
+    ∙ ap walked_from (one_led view rsdp a.tables b.tables is.leads also.leads)
+    ∙ ap (λ generation. record { tables = b.tables; generation = generation }) (sym also.generation)
+
+pub one_meaning : (view : View) (rsdp : ℕ) → IsOne (Means view rsdp)
+one_meaning view rsdp (Ok s) (Ok t) is also = ap Ok (one_walked view rsdp s t is also)
+one_meaning view rsdp (Ok s) (Err g) is also = absurd (none_shown view rsdp s.tables g is.leads also)
+one_meaning view rsdp (Err f) (Ok t) is also = absurd (none_shown view rsdp t.tables f also.leads is)
+one_meaning view rsdp (Err f) (Err g) is also = ap Err (one_first_fault view rsdp f g is also)
+
+-- what a memory is read as is what it means, unless memory runs out
+pub as_meant : (view : View) (rsdp : ℕ) (result meant : Result Walked AcpiFault) → IfOk result (IsWalked view rsdp)
+    → IfErr result (λ fault. (fault ≡ OutOfMemory) ⊎ First view rsdp fault) → Means view rsdp meant → OrNoMemory result meant
+as_meant view rsdp (Ok t) meant shows refused means = inl (one_meaning view rsdp (Ok t) meant shows means)
+as_meant view rsdp (Err fault) meant shows refused means =
+    ⊎_elim (λ memory. inr (ap Err memory)) (λ is. inl (one_meaning view rsdp (Err fault) meant is means)) refused
+
+-- Tables at the addresses from one on are all found, or one of them is at fault, behind those that were found before.
+record IsStopped (view : View) (all : List ℕ) (fault : AcpiFault) : Type 0 where
+  before : List ℕ
+  address : ℕ
+  after : List ℕ
+  parts : all ≡ before ++ address ∷ after
+  tables : List Table
+  targets : FadtTargets
+  others : List OtherTable
+  found : AreFound view before tables targets others
+  is : IsFault view address tables fault
+
+-- a table that is found is added to what was told
+grown_by : (view : View) (before : List ℕ) (address : ℕ) (t : AcpiTables) (told : AreTold view before t) → IsFoundBehind view address told.tables
+    → (more : AcpiTables) × IsKept t more × AreTold view (before ++ address ∷ []) more
+grown_by view before address t told (inl (known, targets, at, first, lead)) =
+    (with_table known targets t, kept_with known targets t, (table_grows view before t told address known targets at first lead).0)
+grown_by view before address t told (inr (other, is)) =
+    (with_other other t, record { oem_id = refl; xsdt = refl }, (other_grows view before t told address other is).0)
+
+abbrev AllToldOrStopped : View → List ℕ → AcpiTables → Type 0
+AllToldOrStopped view all begun =
+    ((t : AcpiTables) × IsKept begun t × AreTold view all t) ⊎ ((fault : AcpiFault) × IsStopped view all fault)
+
+-- the first of those that are left is found, and so on
+told_or_stopped : (view : View) (begun : AcpiTables) (before rest : List ℕ) (t : AcpiTables) → IsKept begun t → AreTold view before t
+    → AllToldOrStopped view (before ++ rest) begun
+told_or_stopped view begun before [] t kept told = inl (t, kept, subst (λ all. AreTold view all t) (sym (append-nil before)) told)
+told_or_stopped view begun before (address ∷ rest) t kept told =
+    let onward : (before ++ address ∷ []) ++ rest ≡ before ++ address ∷ rest = append_assoc before (address ∷ []) rest in
+    ⊎_elim
+    (λ found.
+    let grown = grown_by view before address t told found in
+    let kept_on : IsKept begun grown.0 = record { oem_id = grown.1.oem_id ∙ kept.oem_id; xsdt = grown.1.xsdt ∙ kept.xsdt } in
+    subst (λ all. AllToldOrStopped view all begun) onward (told_or_stopped view begun (before ++ address ∷ []) rest grown.0 kept_on grown.2))
+    (λ stopped. inr (
+      stopped.0,
+      record {
+        before = before;
+        address = address;
+        after = rest;
+        parts = refl;
+        tables = told.tables;
+        targets = told.targets;
+        others = t.others;
+        found = told.found;
+        is = stopped.1;
+      },
+    )) (found_or_at_fault view address told.tables)
+
+-- a table at fault, or all that an RSDP leads to
+pub shown_or_refused : (view : View) (rsdp : ℕ) → HasRsdp view rsdp
+    → ((walked : Walked) × IsWalked view rsdp walked) ⊎ ((fault : AcpiFault) × First view rsdp fault)
+shown_or_refused view rsdp (oem_id, xsdt, valid) =
+    ⊎_elim
+    (λ pass.
+    let head = head_in (bytes_from view xsdt 36) in
+    let listed = xsdt_stands view xsdt pass in
+    let begun = gathered oem_id head [] no_targets [] in
+    ⊎_elim
+    (λ all. inl (
+      record { tables = all.0; generation = None },
+      record {
+        leads = record {
+          xsdt = xsdt;
+          valid = subst (λ o. IsRsdp view rsdp o xsdt) (sym all.1.oem_id) valid;
+          addresses = named_at view xsdt;
+          listed = subst (λ h. IsXsdt view xsdt h (named_at view xsdt)) (sym all.1.xsdt) listed;
+          tables = all.2;
+        };
+        generation = refl;
+      },
+    ))
+    (λ stopped. inr (
+      stopped.0,
+      record {
+        oem_id = oem_id;
+        xsdt = xsdt;
+        valid = valid;
+        is = behind_first (xsdt_tests view xsdt) (IsTableFault view xsdt) stopped.0 pass (record {
+          head = head;
+          before = stopped.1.before;
+          address = stopped.1.address;
+          after = stopped.1.after;
+          listed = subst (IsXsdt view xsdt head) stopped.1.parts listed;
+          tables = stopped.1.tables;
+          targets = stopped.1.targets;
+          others = stopped.1.others;
+          found = stopped.1.found;
+          is = stopped.1.is;
+        });
+      },
+    )) (told_or_stopped view begun [] (named_at view xsdt) begun (record { oem_id = refl; xsdt = refl }) (nothing_found view oem_id head)))
+    (λ fails. inr (
+      fails.0,
+      record {
+        oem_id = oem_id;
+        xsdt = xsdt;
+        valid = valid;
+        is = first_own (xsdt_tests view xsdt) (IsTableFault view xsdt) fails.0 fails.1;
+      },
+    )) (passes_or_fails (xsdt_tests view xsdt))

@@ -1,0 +1,34 @@
+//! ACPI tables as a guest finds them in its memory, from the RSDP on (ACPI 6.5, 5.2).
+//!
+//! The contract of [`walk`] is that the tables are read exactly where the memory shows them, and that else the first test that fails is
+//! told, with the address of the table or of the entry.
+#![tactic(auto)]
+
+mod block;
+mod dsdt;
+mod due;
+mod entries;
+mod facs;
+mod fadt;
+mod fault;
+mod front;
+mod head;
+mod hpet;
+mod kind;
+pub mod laws;
+mod madt;
+mod number;
+mod root;
+mod slit;
+mod srat;
+mod table;
+mod take;
+mod targets;
+mod view;
+mod walked;
+mod whole;
+mod xsdt;
+
+pub use fault::AcpiFault;
+pub use view::MemView;
+pub use walked::{Walked, walk};

@@ -1,0 +1,118 @@
+ghost use Rattle.std.specs.Prelude.{◌≡◌, ◌⊎◌, true, None, OnOk, IfErr};
+ghost use Rattle.acpi_model.specs.Acpi.{kind_of as kind_for, with_table};
+ghost use Rattle.acpi_decode.specs.declared.fault.AcpiFault.TheVariants.{OutOfMemory as NoMemory};
+ghost use Rattle.acpi_decode.specs.Seen.{is_ram, signature_at, total_at};
+ghost use Rattle.acpi_decode.specs.KnownKinds.{kind_of};
+ghost use Rattle.acpi_decode.specs.Taken.{IsTaken, IsRefused, has_kind};
+
+use crate::fault::AcpiFault;
+use crate::front::{Front, test_header};
+use crate::kind::{KnownKind, known_kind};
+use crate::table::{has_room, read_table};
+use crate::targets::read_targets;
+use crate::view::MemView;
+use crate::whole::test_whole;
+use acpi_model::{AcpiTables, FadtTargets, HEADER_SIZE, OtherTable, Table};
+use std::alloc::Global;
+
+/// Reads the table at `address`, and what it leads to, and adds them to `tables`, which were found before it. The errors are those of
+/// [`walk`](crate::walk); after one, nothing is said of `tables`.
+pub(crate) fn take_table<V: MemView>(
+    alloc: Global,
+    view: &V,
+    address: u64,
+    tables: &mut AcpiTables,
+) -> Result<(), AcpiFault>
+    ensures taken { OnOk result (IsTaken (V.seen view.now) address tables.old tables.new) }
+    ensures fault { IfErr result (λ fault. (fault ≡ NoMemory) ⊎ IsRefused (V.seen view.now) address tables.old fault) }
+{
+    let front = test_header(view, address)?;
+    match known_kind(&front.signature) {
+        Some(kind) => take_known(alloc, view, kind, address, front.length, tables),
+        None => take_other(view, address, front, tables),
+    }
+}
+
+// Adds the table at `address`, whose signature isn't that of a known kind. Its signature and its length are told.
+fn take_other<V: MemView>(
+    view: &V,
+    address: u64,
+    front: Front,
+    tables: &mut AcpiTables,
+) -> Result<(), AcpiFault>
+    requires header { is_ram (V.seen view.now) address 36 ≡ true }
+    requires signed { front.signature ≡ signature_at (V.seen view.now) address }
+    requires told { front.length ≡ total_at (V.seen view.now) address }
+    requires other { kind_for front.signature ≡ None }
+    ensures taken { OnOk result (IsTaken (V.seen view.now) address tables.old tables.new) }
+    ensures fault { IfErr result (λ fault. (fault ≡ NoMemory) ⊎ IsRefused (V.seen view.now) address tables.old fault) }
+{
+    if front.length < HEADER_SIZE {
+        return Err(AcpiFault::BadLength(address));
+    }
+    test_whole(view, address, front.length)?;
+    let signature = front.signature;
+    tables.others.push(OtherTable {
+        signature,
+        length: front.length,
+    })?;
+    Ok(())
+}
+
+// Adds the table at `address`, of the kind `kind`, and what it leads to.
+fn take_known<V: MemView>(
+    alloc: Global,
+    view: &V,
+    kind: KnownKind,
+    address: u64,
+    length: u32,
+    tables: &mut AcpiTables,
+) -> Result<(), AcpiFault>
+    requires header { is_ram (V.seen view.now) address 36 ≡ true }
+    requires signed { (kind_of kind).signature ≡ signature_at (V.seen view.now) address }
+    requires told { length ≡ total_at (V.seen view.now) address }
+    ensures taken { OnOk result (IsTaken (V.seen view.now) address tables.old tables.new) }
+    ensures fault { IfErr result (λ fault. (fault ≡ NoMemory) ⊎ IsRefused (V.seen view.now) address tables.old fault) }
+{
+    if !has_room(view, kind, address, length) {
+        return Err(AcpiFault::BadLength(address));
+    }
+    test_whole(view, address, length)?;
+    if has_kind(tables, kind) {
+        return Err(AcpiFault::TwiceGiven(address));
+    }
+    let table = read_table(alloc, view, kind, address, length)?;
+    let targets = read_targets(alloc, view, &table)?;
+    add_table(tables, table, targets);
+    Ok(())
+}
+
+// Whether a table of the kind `kind` is among `tables`.
+fn has_kind(tables: &AcpiTables, kind: KnownKind) -> bool
+    ensures { result ≡ has_kind kind tables.now }
+{
+    match kind {
+        KnownKind::Fadt => tables.fadt.is_some(),
+        KnownKind::Madt => tables.madt.is_some(),
+        KnownKind::Srat => tables.srat.is_some(),
+        KnownKind::Slit => tables.slit.is_some(),
+        KnownKind::Hpet => tables.hpet.is_some(),
+    }
+}
+
+// Puts a table of a known kind, and what it leads to, in its place among `tables`.
+fn add_table(tables: &mut AcpiTables, table: Table, targets: FadtTargets)
+    ensures { tables.new ≡ with_table table targets tables.old }
+{
+    match table {
+        Table::Fadt(fadt, _) => {
+            tables.fadt = Some(fadt);
+            tables.facs = targets.facs;
+            tables.dsdt = targets.dsdt;
+        }
+        Table::Madt(madt) => tables.madt = Some(madt),
+        Table::Srat(srat) => tables.srat = Some(srat),
+        Table::Slit(slit) => tables.slit = Some(slit),
+        Table::Hpet(hpet) => tables.hpet = Some(hpet),
+    }
+}

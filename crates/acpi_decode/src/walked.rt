@@ -1,0 +1,74 @@
+ghost use Rattle.std.specs.Prelude.{◌≡◌, ◌⊎◌, Ok, Err, IfOk, IfErr};
+ghost use Rattle.acpi_model.specs.Rsdp.{HasRsdp};
+ghost use Rattle.acpi_decode.specs.declared.fault.AcpiFault.{AcpiFault};
+ghost use Rattle.acpi_decode.specs.declared.fault.AcpiFault.TheVariants.{OutOfMemory as NoMemory};
+ghost use Rattle.acpi_decode.specs.declared.walked.Walked.{Walked};
+ghost use Rattle.acpi_decode.specs.Faults.{IsWalked, First, OrNoMemory};
+
+use crate::due::{Due, test_due};
+use crate::fault::AcpiFault;
+use crate::head::read_head;
+use crate::root::read_root;
+use crate::view::MemView;
+use crate::xsdt::take_tables;
+use acpi_model::AcpiTables;
+use std::alloc::Global;
+use vt_outside::List;
+
+/// What is read from an RSDP on.
+#[derive(Debug, Drop)]
+pub struct Walked {
+    /// The tables.
+    pub tables: AcpiTables,
+    /// The id of the machine's generation, which a DSDT leads to. None is read of a DSDT yet.
+    pub generation: Option<[u8; 16]>,
+}
+
+/// Reads the ACPI tables of the memory `view` from the RSDP at `rsdp`, where a valid one must stand (ACPI 6.5, 5.2). The tables take their
+/// memory from `alloc`, and nothing is taken for a table before all of its tests have passed.
+///
+/// The XSDT is read, and then the tables that its entries name, in their order; zero entries are passed over. Of a table the first test
+/// that fails is told, in this order: `OutsideRam` where its header isn't all RAM, `WrongSignature` where the XSDT is due, `BadLength`
+/// where its form can't have as many bytes as it tells, `OutsideRam` where it isn't RAM as a whole, `BadSum`, `TwiceGiven` where it is the
+/// second of its kind, `BadEntry` with the address of its first bad entry. Behind an FADT come the tests of the FACS and then of the DSDT
+/// that it leads to. `OutOfMemory` means that memory ran out.
+pub fn walk<V: MemView>(alloc: Global, view: &V, rsdp: u64) -> Result<Walked, AcpiFault>
+    requires { HasRsdp (V.seen view.now) rsdp }
+    // What is read is shown, and what is shown is read.
+    ensures shown { IfOk result (IsWalked (V.seen view.now) rsdp) }
+    ensures shows { (walked : Walked) → IsWalked (V.seen view.now) rsdp walked → OrNoMemory result (Ok walked) }
+    // A fault is the first, and where there is one it is told.
+    ensures refused { IfErr result (λ fault. (fault ≡ NoMemory) ⊎ First (V.seen view.now) rsdp fault) }
+    ensures refuses { (fault : AcpiFault) → First (V.seen view.now) rsdp fault → OrNoMemory result (Err fault) }
+{
+    walk_from(alloc, view, rsdp)
+}
+
+// Does the same. That there is one reading, and so nothing else is told, isn't said here yet.
+fn walk_from<V: MemView>(alloc: Global, view: &V, rsdp: u64) -> Result<Walked, AcpiFault>
+    requires { HasRsdp (V.seen view.now) rsdp }
+    ensures shown { IfOk result (IsWalked (V.seen view.now) rsdp) }
+    ensures refused { IfErr result (λ fault. (fault ≡ NoMemory) ⊎ First (V.seen view.now) rsdp fault) }
+{
+    let root = read_root(view, rsdp);
+    let length = test_due(view, Due::Xsdt, root.xsdt)?;
+    let head = read_head(alloc, view, root.xsdt)?;
+    let oem_id = root.oem_id;
+    let mut tables = AcpiTables {
+        oem_id,
+        xsdt: head,
+        fadt: None,
+        facs: None,
+        dsdt: None,
+        madt: None,
+        srat: None,
+        slit: None,
+        hpet: None,
+        others: List::new(alloc),
+    };
+    take_tables(alloc, view, root.xsdt, length, &mut tables)?;
+    Ok(Walked {
+        tables,
+        generation: None,
+    })
+}

@@ -1,0 +1,137 @@
+-- A memory is scanned in one way: what it shows of both anchors, or one first fault.
+use Rattle.std.proofs.Common.{◌≡◌, ℕ, ◌⊎◌, inl, inr, ⊎_elim, Option, Some, None, MatchOption, Result, Ok, Err, IfOk, IfErr, IfSome, refl, ap, subst}
+use Rattle.vt_bytes.specs.View.{View}
+use Rattle.vt_bytes.proofs.AtMostOne.{IsOne, one_least}
+use Rattle.acpi_model.specs.declared.acpi.AcpiTables.{AcpiTables}
+use Rattle.acpi_model.specs.Rsdp.{HasRsdp}
+use Rattle.acpi_model.specs.Acpi.{ShowsAcpi, LeadsToAcpi}
+use Rattle.acpi_decode.specs.declared.fault.AcpiFault.{AcpiFault}
+use Rattle.acpi_decode.specs.declared.fault.AcpiFault.TheVariants as acpi
+use Rattle.acpi_decode.specs.declared.walked.Walked.{Walked}
+use Rattle.acpi_decode.specs.Faults.{First}
+use Rattle.acpi_decode.proofs.Meanings.{one_meaning as one_acpi_meaning}
+use Rattle.smbios_model.specs.declared.smbios.SmbiosTable.{SmbiosTable}
+use Rattle.smbios_model.specs.Smbios.{ShowsSmbios}
+use Rattle.smbios_model.proofs.OneSmbios.{Leads}
+use Rattle.smbios_decode.specs.declared.fault.SmbiosFault.{SmbiosFault}
+use Rattle.smbios_decode.specs.declared.fault.SmbiosFault.TheVariants as smbios
+use Rattle.smbios_decode.proofs.OneReading.{one_meaning as one_smbios_meaning}
+use Rattle.table_model.specs.declared.inventory.Inventory.{Inventory}
+use Rattle.table_model.specs.Inventory.{Shows}
+use Rattle.table_model.proofs.OneInventory.{one_inventory}
+use Rattle.anchor_scan.specs.declared.fault.ScanFault.{ScanFault}
+use Rattle.anchor_scan.specs.declared.fault.ScanFault.TheVariants.{Acpi, Smbios, OutOfMemory}
+use Rattle.anchor_scan.specs.Shown.{HasNoAnchor, HasNoRsdp, RefusesSmbios}
+use Rattle.anchor_scan.specs.Scan.{of_acpi, of_smbios, RefusesAcpi, ShowsAcpiPart, Refuses, ScannedAs, OrOutOfMemory}
+use Rattle.anchor_scan.specs.Gathered.{inventory_of}
+use Rattle.anchor_scan.proofs.Scanned.{none_refused, shown_is_read, told_is_refused}
+
+-- a fault is told as it is, unless memory ran out
+pub acpi_told : (view : View) (fault : AcpiFault) → (fault ≡ acpi.OutOfMemory) ⊎ RefusesAcpi view fault
+    → (of_acpi fault ≡ OutOfMemory) ⊎ Refuses view (of_acpi fault)
+acpi_told view acpi.OutOfMemory is = inl refl
+acpi_told view (acpi.OutsideRam a) is = ⊎_elim (λ memory. absurd (cc memory)) (λ refuses. inr ((λ same. absurd (cc same)), refuses)) is
+acpi_told view (acpi.BadSum a) is = ⊎_elim (λ memory. absurd (cc memory)) (λ refuses. inr ((λ same. absurd (cc same)), refuses)) is
+acpi_told view (acpi.BadLength a) is = ⊎_elim (λ memory. absurd (cc memory)) (λ refuses. inr ((λ same. absurd (cc same)), refuses)) is
+acpi_told view (acpi.BadEntry a) is = ⊎_elim (λ memory. absurd (cc memory)) (λ refuses. inr ((λ same. absurd (cc same)), refuses)) is
+acpi_told view (acpi.WrongSignature a) is = ⊎_elim (λ memory. absurd (cc memory)) (λ refuses. inr ((λ same. absurd (cc same)), refuses)) is
+acpi_told view (acpi.TwiceGiven a) is = ⊎_elim (λ memory. absurd (cc memory)) (λ refuses. inr ((λ same. absurd (cc same)), refuses)) is
+
+pub smbios_told : (view : View) (part : Option AcpiTables) (fault : SmbiosFault) → ShowsAcpiPart view part
+    → (fault ≡ smbios.OutOfMemory) ⊎ RefusesSmbios view fault → (of_smbios fault ≡ OutOfMemory) ⊎ Refuses view (of_smbios fault)
+smbios_told view part smbios.OutOfMemory shows is = inl refl
+smbios_told view part (smbios.Truncated a) shows is =
+    ⊎_elim (λ memory. absurd (cc memory)) (λ refuses. inr ((λ same. absurd (cc same)), refuses, (part, shows))) is
+smbios_told view part (smbios.ShortStructure a) shows is =
+    ⊎_elim (λ memory. absurd (cc memory)) (λ refuses. inr ((λ same. absurd (cc same)), refuses, (part, shows))) is
+smbios_told view part smbios.NoEnd shows is =
+    ⊎_elim (λ memory. absurd (cc memory)) (λ refuses. inr ((λ same. absurd (cc same)), refuses, (part, shows))) is
+smbios_told view part (smbios.NoSuchString a n) shows is =
+    ⊎_elim (λ memory. absurd (cc memory)) (λ refuses. inr ((λ same. absurd (cc same)), refuses, (part, shows))) is
+
+-- what is shown of ACPI has no fault, and there is one fault
+has_rsdp : (view : View) (rsdp : ℕ) (fault : AcpiFault) → First view rsdp fault → HasRsdp view rsdp
+has_rsdp view rsdp fault first = (first.oem_id, first.xsdt, first.valid)
+
+shown_or_refused : (view : View) (part : Option AcpiTables) (fault : AcpiFault) → ShowsAcpiPart view part → RefusesAcpi view fault → ⊥
+shown_or_refused view None fault none refuses = none refuses.rsdp (has_rsdp view refuses.rsdp fault refuses.first)
+shown_or_refused view (Some t) fault shows refuses =
+    let leads = shows.leads in
+    let place : shows.rsdp ≡ refuses.rsdp =
+    one_least (HasRsdp view) shows.rsdp refuses.rsdp (t.oem_id, leads.xsdt, leads.valid) (has_rsdp view refuses.rsdp fault refuses.first) shows.least refuses.least in
+    let walked : Walked = record { tables = t; generation = None } in
+    let same = one_acpi_meaning view refuses.rsdp (Ok walked) (Err fault)
+    (record { leads = subst (λ a. LeadsToAcpi view a t) place leads; generation = refl }) refuses.first in
+    absurd (cc same)
+
+one_acpi_fault : (view : View) (f g : AcpiFault) → RefusesAcpi view f → RefusesAcpi view g → f ≡ g
+one_acpi_fault view f g is also =
+    let place : is.rsdp ≡ also.rsdp =
+    one_least (HasRsdp view) is.rsdp also.rsdp (has_rsdp view is.rsdp f is.first) (has_rsdp view also.rsdp g also.first) is.least also.least in
+    let same : Err f ≡ Err g = one_acpi_meaning view also.rsdp (Err f) (Err g) (subst (λ a. First view a f) place is.first) also.first in
+    cc same
+
+-- and of SMBIOS
+leads_refused : (view : View) (fault : SmbiosFault) (is : RefusesSmbios view fault) → Leads view is.address is.anchor is.structures is.bytes
+leads_refused view fault is = record { valid = is.valid; least = is.least; range = is.range }
+
+smbios_never_both : (view : View) (part : Option SmbiosTable) (fault : SmbiosFault) → MatchOption part (HasNoAnchor view) (ShowsSmbios view)
+    → RefusesSmbios view fault → ⊥
+smbios_never_both view None fault none refuses = none_refused view fault none refuses
+smbios_never_both view (Some t) fault shows refuses =
+    let there = shown_is_read view refuses.address refuses.anchor refuses.structures refuses.bytes t (leads_refused view fault refuses) shows in
+    let same = one_smbios_meaning refuses.bytes (Ok t.structures) (Err fault) there.read refuses.refused in
+    absurd (cc same)
+
+one_smbios_fault : (view : View) (f g : SmbiosFault) → RefusesSmbios view f → RefusesSmbios view g → f ≡ g
+one_smbios_fault view f g is also =
+    let told = told_is_refused view is.address is.anchor is.structures is.bytes g (leads_refused view f is) also in
+    let same : Err f ≡ Err g = one_smbios_meaning is.bytes (Err f) (Err g) is.refused told in
+    cc same
+
+-- what is shown of both has no fault
+never_both : (top : ℕ) (view : View) (inventory : Inventory) (fault : ScanFault) → Shows top view inventory → Refuses view fault → ⊥
+never_both top view inventory (Acpi fault) shows refuses = shown_or_refused view inventory.acpi fault shows.acpi refuses.1
+never_both top view inventory (Smbios fault) shows refuses = smbios_never_both view inventory.smbios fault shows.smbios refuses.1
+never_both top view inventory OutOfMemory shows refuses = refuses
+
+one_fault : (view : View) → IsOne (Refuses view)
+one_fault view (Acpi f) (Acpi g) is also = ap Acpi (one_acpi_fault view f g is.1 also.1)
+one_fault view (Acpi f) (Smbios g) is also = absurd (shown_or_refused view also.2.0 f also.2.1 is.1)
+one_fault view (Smbios f) (Acpi g) is also = absurd (shown_or_refused view is.2.0 g is.2.1 also.1)
+one_fault view (Smbios f) (Smbios g) is also = ap Smbios (one_smbios_fault view f g is.1 also.1)
+one_fault view OutOfMemory g is also = absurd is
+one_fault view (Acpi f) OutOfMemory is also = absurd also
+one_fault view (Smbios f) OutOfMemory is also = absurd also
+
+pub one_scan : (top : ℕ) (view : View) → IsOne (ScannedAs top view)
+one_scan top view (Ok s) (Ok t) is also = ap Ok (one_inventory top view s t is also)
+one_scan top view (Ok s) (Err g) is also = absurd (never_both top view s g is also)
+one_scan top view (Err f) (Ok t) is also = absurd (never_both top view t f also is)
+one_scan top view (Err f) (Err g) is also = ap Err (one_fault view f g is also)
+
+-- what a memory is scanned as is what it means, unless memory runs out
+pub as_scanned : (top : ℕ) (view : View) (result meant : Result Inventory ScanFault) → IfOk result (Shows top view)
+    → IfErr result (λ fault. (fault ≡ OutOfMemory) ⊎ Refuses view fault) → ScannedAs top view meant → OrOutOfMemory result meant
+as_scanned top view (Ok t) meant shows refused means = inl (one_scan top view (Ok t) meant shows means)
+as_scanned top view (Err fault) meant shows refused means =
+    ⊎_elim (λ memory. inr (ap Err memory)) (λ is. inl (one_scan top view (Err fault) meant is means)) refused
+
+-- the part of an inventory that is read of the SMBIOS anchor
+pub smbios_part : (view : View) (found : Option SmbiosTable) → IfSome found (ShowsSmbios view) → (found ≡ None → HasNoAnchor view)
+    → MatchOption found (HasNoAnchor view) (ShowsSmbios view)
+smbios_part view None shows none = none refl
+smbios_part view (Some t) shows none = shows
+
+-- and all of it
+pub inventory_shows : (top : ℕ) (view : View) (walked : Option Walked) (found : Option SmbiosTable)
+    → MatchOption walked (HasNoRsdp view) (λ w. ShowsAcpi view w.tables) → MatchOption walked (Unit {0}) (λ w. w.generation ≡ None)
+    → MatchOption found (HasNoAnchor view) (ShowsSmbios view) → Shows top view (inventory_of top walked found)
+inventory_shows top view None found tables generation smbios = record { its_top = refl; smbios = smbios; acpi = tables; generation = refl }
+inventory_shows top view (Some w) found tables generation smbios = record { its_top = refl; smbios = smbios; acpi = tables; generation = generation }
+
+-- what is shown of ACPI by what was walked
+pub acpi_part : (view : View) (walked : Option Walked) → MatchOption walked (HasNoRsdp view) (λ w. ShowsAcpi view w.tables)
+    → (part : Option AcpiTables) × ShowsAcpiPart view part
+acpi_part view None shows = (None, shows)
+acpi_part view (Some w) shows = (Some w.tables, shows)

@@ -1,0 +1,14 @@
+use Rattle.std.proofs.Common.{codes, arith}
+use Rattle.std.proofs.lemmas.Bool.Decides.{Decides-eqb}
+use Rattle.std.proofs.lemmas.Slice.Eq.{slice_eq-Decides}
+use Rattle.anchor_scan.proofs.ReadAndSeen.{low_ram, marked, mark_read}
+use Rattle.anchor_scan.proofs.rsdp.has_signature.Goals as goal
+
+pub returns : goal.returns
+returns c =
+    let ram = low_ram c.args.memory.now.top c.args.address 8 c.requires.from (omega (arith, c.requires.aligned, c.requires.below)) in
+    let tested = slice_eq-Decides Decides-eqb _ _ _ c.eq.ensures in
+    let bytes = c.window.result.now in (
+      λ passes. marked c.args.memory.now c.args.address 8 bytes (codes "RSD PTR ") ram c.window.ensures.value (tested.0 passes),
+      λ has. tested.1 (mark_read c.args.memory.now c.args.address 8 bytes (codes "RSD PTR ") ram c.window.ensures.value has),
+    )
