@@ -1,7 +1,8 @@
 #!/usr/bin/env bash
-# Compares `vmtables boot` and `vmtables build` for each description of examples/ and for a great one, and `vmtables load` for large
-# containers and for one of a machine of QEMU, with other programs, run side by side in one run. It prints ratios, what ours
-# takes over what the other program takes, and for some inputs the peak of memory in MiB. Nothing is proved or judged here.
+# Compares `vmtables boot` and `vmtables build` for each description of examples/ and for a great one, `vmtables load` for large
+# containers and for one of a machine of QEMU, and `vmtables decode --list` for the dumps of descriptions and for a long one, with other
+# programs, run side by side in one run. It prints ratios, what ours takes over what the other program takes, and for some inputs the peak
+# of memory in MiB. Then it prints what `decode --list` takes of dumps that make much work. Nothing is proved or judged here.
 #
 # usage: bench/run.sh [ROUNDS]     each program is run ROUNDS times, 11 if nothing is said; medians are compared
 #
@@ -15,6 +16,10 @@ work=$(mktemp -d)
 trap 'rm -rf "$work"' EXIT
 program=$root/crates/vmtables_cli/out/vmtables_cli
 guest_memory=$((33 << 20)) # bytes
+long_dump=62000000         # bytes of the dump that is compared with
+most_input=$((64 << 20))   # bytes of the longest dumps that make much work, and parts of it
+parts=(1 10 100)
+hostile=(random unbroken rows reverse structures entries tables) # kinds of bench/dumps.py
 
 # against WHAT INPUT WORD..: one more program to compare with, what it reads from standard input, and its words.
 against() {
@@ -47,6 +52,43 @@ add_description() {
     against "build" "$1" "$program" build
     against "the program's --version" /dev/null "$program" --version
     against "cat of as many bytes as the description has" "$1" cat
+}
+
+# make_script FILE LINE: makes a program of a line of shell.
+make_script() {
+    printf '#!/usr/bin/env bash\n%s\n' "$2" >"$1"
+    chmod +x "$1"
+}
+
+# The list of the dump of a description, and what it is compared with.
+add_list() {
+    local name folder tables
+    name="list $(basename "$1" .toml)"
+    folder=$work/$(basename "$1" .toml)
+    against "decode --list" "$folder/dump" "$program" decode --list
+    against "the program's --version" /dev/null "$program" --version
+    against "cat of as many bytes as the dump has" "$folder/dump" cat
+    tables=("$folder"/*.aml)
+    if [ "${#tables[@]}" -gt 0 ] && command -v dmidecode >/dev/null && command -v iasl >/dev/null; then
+        make_script "$folder/readers" "dmidecode --from-dump '$folder/smbios.bin' && iasl -d ${tables[*]}"
+        against "dmidecode and iasl -d on its tables" /dev/null "$folder/readers"
+    fi
+    name="boot|list $(basename "$1" .toml)"
+    make_script "$folder/pipeline" "'$program' boot | '$program' decode --list"
+    make_script "$folder/copied" "'$program' boot | cat"
+    against "boot | decode --list" "$1" "$folder/pipeline"
+    against "boot" "$1" "$program" boot
+    against "boot | cat" "$1" "$folder/copied"
+}
+
+# The list of a long dump, in which each row of RAM is another one.
+add_long_list() {
+    local name="list rows"
+    python3 "$root/bench/dumps.py" rows "$long_dump" "$work/rows.dump" || exit 1
+    against "decode --list" "$work/rows.dump" "$program" decode --list
+    against "cat of as many bytes as the dump has" "$work/rows.dump" cat
+    against "xxd -r -p of as many bytes as the dump has" "$work/rows.dump" xxd -r -p
+    against "cat of as many bytes as guest memory has" "$work/memory" cat
 }
 
 # The program and what it is compared with, for one container.
@@ -101,6 +143,32 @@ compare_all_memory() {
     for input in large many full random; do
         compare_memory "$work/$input.container" load
     done
+    compare_memory "$work/server/dump" decode --list
+    compare_memory "$work/rows.dump" decode --list
+}
+
+# measure_dump KIND BYTES: what the program takes of a dump that makes much work, of so many bytes at the most, and what it says.
+measure_dump() {
+    local status says
+    python3 "$root/bench/dumps.py" "$1" "$2" "$work/hostile.dump" || exit 1
+    /usr/bin/time -q -f '%e %M' -o "$work/peak" "$program" decode --list <"$work/hostile.dump" >"$work/output" 2>"$work/said"
+    status=$?
+    says=$(head -1 "$work/said")
+    awk -v kind="$1" -v given="$(stat -c %s "$work/hostile.dump")" -v held="$guest_memory" -v status="$status" \
+        -v says="${says:-$(wc -l <"$work/output") lines, $(stat -c %s "$work/output") bytes}" \
+        '{ printf "%-11s %10.2f %10.1f %8.2f %10.1f %6d  %s\n", kind, given / 2 ^ 20, held / 2 ^ 20, $1, $2 / 1024, status, says }' "$work/peak"
+    rm -f "$work/hostile.dump" "$work/output"
+}
+
+measure_dumps() {
+    local kind part
+    echo "decode --list of dumps that make much work, run once; sizes in MiB"
+    printf '%-11s %10s %10s %8s %10s %6s  %s\n' dump input "guest RAM" seconds peak status says
+    for kind in "${hostile[@]}"; do
+        for part in "${parts[@]}"; do
+            measure_dump "$kind" $((most_input / part))
+        done
+    done
 }
 
 "$root/vmtables" --version || exit 1 # builds the program where it isn't built, in sight
@@ -108,7 +176,9 @@ head -c "$guest_memory" /dev/zero >"$work/memory"
 python3 "$root/bench/descriptions.py" "$work" || exit 1
 for description in "$root"/examples/*.toml "$work/greatest.toml"; do
     add_description "$description"
+    add_list "$description"
 done
+add_long_list
 python3 "$root/bench/containers.py" "$work" || exit 1
 # random is the last, since add_long_dump goes on with its group
 for container in large many full random; do
@@ -117,4 +187,9 @@ done
 add_long_dump
 add_machine
 python3 "$root/bench/compare.py" "$rounds" "$work/programs" "$work/output"
-! [ -x /usr/bin/time ] || compare_all_memory
+if [ -x /usr/bin/time ]; then
+    compare_all_memory
+    measure_dumps
+else
+    echo "skipped: /usr/bin/time"
+fi

@@ -18,7 +18,6 @@ the first and the last byte of memory.
 Status 0: all of this holds; 1: something doesn't, each with a line; 2: CONTAINER is no container, or DUMP is no dump.
 """
 
-import copy
 import pathlib
 import sys
 
@@ -215,15 +214,6 @@ def flips(image, memory):
     yield from (places[total.file] + total.offset for total in image.sums)
 
 
-def flipped(memory, address):
-    other = copy.copy(memory)
-    row = address // 16 * 16
-    content = bytearray(memory.rows.get(row, memory.fill))
-    content[address - row] ^= 1
-    other.rows = {**memory.rows, row: bytes(content)}
-    return other
-
-
 def head_faults(memory, top_mib, fill):
     if memory.top != top_mib << 20 or memory.fill[0] != fill:
         yield f"the dump is one of top {memory.top:#x} and fill {memory.fill[0]:#04x}"
@@ -232,7 +222,7 @@ def head_faults(memory, top_mib, fill):
 def judge(image, memory):
     """Prints what is wrong, or what is right; returns the status."""
     faults = faults_of(image, memory)
-    missed = [] if faults else [at for at in flips(image, memory) if not faults_of(image, flipped(memory, at))]
+    missed = [] if faults else [at for at in flips(image, memory) if not faults_of(image, memory.flipped(at))]
     for line in [*faults, *(f"no judge: nothing is wrong with a bit flipped at {at:#x}" for at in missed)]:
         print(line)
     if faults or missed:

@@ -5,8 +5,10 @@
 # boots of each policy of places and of some seeds of events too, and the boot of the greatest description, which bench/descriptions.py
 # writes. Then `vmtables load` is given files that QEMU made for machines of its own, and what `vmtables build` makes for each
 # description, and judge_load.py judges the memory that it leaves of them; of a description it must be the memory that `boot` leaves,
-# and of a machine what SeaBIOS leaves in its guest, as judge_guest.py compares them. Last, the commands that README.md shows must
-# print what it says. Nothing is proved here.
+# and of a machine what SeaBIOS leaves in its guest, as judge_guest.py compares them. What `vmtables decode --list` prints of the dumps of
+# the descriptions, of the memory of QEMU's machines, and of tables that others made is judged by what dmidecode and iasl tell of the same
+# bytes (judge_list.py), and what it tells of bad dumps and of memories with a fault by judge_bad_dumps.py. Last, the commands that
+# README.md shows must print what it says. Nothing is proved here.
 #
 # usage: judges/run.sh [PROGRAM]     PROGRAM stands for ./vmtables
 #
@@ -31,6 +33,8 @@ guest_top=2048                                    # the top of memory of those w
 wrong_lines=(2 4)                                 # lines of a dump that a program gets wrong: of the RSDP, and of another file
 policies=(low top scatter)                        # the policies of places, and the seeds of events, with which descriptions boot
 seeds=(1 7 18446744073709551615)
+fills=(00 ff a5) # the fill bytes, and the seeds, with which they boot for a list that is to be the same
+list_seeds=(0 1 2 3 5 7 11 13 4294967296 9223372036854775808 18446744073709551614 18446744073709551615)
 faults=0
 
 has() {
@@ -204,6 +208,42 @@ judge_container() {
     fi
 }
 
+# judge_list KIND [WORD]: has the program list memories of a kind, and judges what it prints by what other programs tell of them.
+judge_list() {
+    local said
+    said=$(python3 "$here/judge_list.py" "$program" "$@" 2>&1)
+    case $? in
+    0) echo "  decode --list: $said" ;;
+    3) echo "  skipped: $said" ;;
+    *) fault judge_list.py "the list, $1" "$said" ;;
+    esac
+}
+
+# Has the program list tables that iasl makes of its own templates.
+judge_templates() {
+    description="iasl's templates"
+    echo "$description"
+    judge_list templates
+}
+
+# Has the program refuse dumps that are none, and memories with a fault.
+judge_bad_dumps() {
+    local said
+    description="bad dumps"
+    folder=$work/bad
+    echo "$description"
+    mkdir "$folder"
+    "$program" boot <examples/minimal.toml >"$folder/minimal" 2>"$folder/said" &&
+        (cat examples/minimal.toml && printf '[acpi]\n[hpet]\n') | "$program" boot >"$folder/hpet" 2>"$folder/said" ||
+        { fault vmtables boot "$(cat "$folder/said")"; return; }
+    said=$(python3 "$here/judge_bad_dumps.py" "$program" "$folder/minimal" "$folder/hpet" 2>&1)
+    case $? in
+    0) echo "  decode --list: $said" ;;
+    3) echo "  skipped: $said" ;;
+    *) fault judge_bad_dumps.py "the lines" "$said" ;;
+    esac
+}
+
 # judge_machine NAME: has the program load the files of a machine of QEMU, with the default words and with others.
 judge_machine() {
     local said
@@ -221,6 +261,8 @@ judge_machine() {
     judge_load 64 00
     judge_load 3072 a5 --fill a5 --top 3072
     judge_guest "$1"
+    judge_list machine "$1"
+    judge_list files "$folder/container"
 }
 
 # make_wrong_program LINE: makes a program that is as ours, but changes the last digit of a line of what it writes.
@@ -286,6 +328,22 @@ judge_events() {
     done
 }
 
+# Boots the description with each policy, fill byte and seed, and has the list of each memory be that of the first one.
+judge_same_list() {
+    local policy fill seed said count=0
+    "$program" decode --list <"$folder/dump" >"$folder/list"
+    for policy in "${policies[@]}"; do
+        for fill in "${fills[@]}"; do
+            for seed in "${list_seeds[@]}"; do
+                said=$("$program" boot --policy "$policy" --fill "$fill" --seed "$seed" <"$description" | "$program" decode --list |
+                    cmp - "$folder/list" 2>&1) || fault cmp "the list with $policy, $fill and $seed" "$said"
+                count=$((count + 1))
+            done
+        done
+    done
+    echo "  decode --list: $count memories are listed as one"
+}
+
 judge_description() {
     description=$1
     folder=$work/$(basename "$1" .toml)
@@ -293,6 +351,8 @@ judge_description() {
     if make_files; then
         judge_tables
         judge_container
+        judge_list dump "$folder/dump"
+        judge_same_list
     fi
     judge_events
 }
@@ -320,6 +380,7 @@ judge_greatest() {
     make_files || return
     judge_tables
     judge_container
+    judge_list dump "$folder/dump"
 }
 
 # Has each command that a document shows print what the document says.
@@ -336,6 +397,8 @@ judge_all() {
     cd "$root" || exit 1
     judge_examples
     judge_greatest
+    judge_templates
+    judge_bad_dumps
     ! has qemu-system-x86_64 || judge_machines
     judge_document README.md
 }

@@ -7,13 +7,13 @@ usage: dump_tables.py DUMP FOLDER
 Writes into FOLDER what the memory holds of these:
 
   smbios.bin      the SMBIOS anchor at 0 and its structures at 0x20, as `dmidecode --dump-bin` writes them
-  RSDP.bin        the root pointer of the ACPI tables, and
+  RSDP.bin        the root pointer of the ACPI tables, and where it has revision 2
   RSDP.asl        its maker and the address that it gives, for iasl to make a root pointer of
-  XSDT.aml        the table that the root pointer names, and a file for each table that it lists, or to which an FADT that it
-                  lists leads, as FACS.aml, named by the signature; a second table of a signature is SIGNATURE-2.aml
+  XSDT.aml        the table that the root pointer names, in revision 0 RSDT.aml, and a file for each table that it lists, or to which an
+                  FADT that it lists leads, as FACS.aml, named by the signature; a second table of a signature is SIGNATURE-2.aml
 
-Status 0: done; 1: there is no SMBIOS anchor, or the anchor or the root pointer leads to no table; 2: the file is no dump. A memory
-without a root pointer has no ACPI tables, which is no fault.
+Status 0: done; 1: the SMBIOS anchor or the root pointer leads to no table; 2: the file is no dump. A memory without an anchor of 24
+bytes has no structures, and one without a root pointer no ACPI tables, which is no fault.
 """
 
 import pathlib
@@ -24,10 +24,12 @@ from memory_dump import NotADump, NotFound, reachable_tables, read_dump, root_po
 
 
 def smbios_files(memory):
-    """The anchor (DSP0134, 5.2.2) with its address changed as dmidecode changes it, so that a wrong checksum stays wrong."""
+    """The anchor (DSP0134, 5.2.2) and its table, where there is one. Its address is changed as dmidecode does, so that a wrong checksum
+    stays wrong.
+    """
     at = memory.find(b"_SM3_", 0xF0000, 0x100000)
     if at is None:
-        raise NotFound("no SMBIOS anchor (_SM3_) in the F segment")
+        return {}
     anchor = bytearray(memory.read(at, 24, "the SMBIOS anchor"))
     size, address = int.from_bytes(anchor[0x0C:0x10], "little"), int.from_bytes(anchor[0x10:0x18], "little")
     table = memory.read(address, size, "the SMBIOS table")
@@ -41,11 +43,10 @@ def acpi_files(memory):
     pointer = root_pointer(memory)
     if pointer is None:
         return {}
-    if len(pointer) < 36:
-        raise NotFound(f"the RSDP is of revision {pointer[15]}, and names no XSDT")
-    root = root_table(memory, pointer)
-    files = {"RSDP.bin": pointer, "RSDP.asl": pointer_source(pointer[9:15], int.from_bytes(pointer[24:32], "little"))}
-    for table in reachable_tables(memory, root):
+    files = {"RSDP.bin": pointer}
+    if pointer[15] >= 2:
+        files["RSDP.asl"] = pointer_source(pointer[9:15], int.from_bytes(pointer[24:32], "little"))
+    for table in reachable_tables(memory, root_table(memory, pointer)):
         files[name_of(table, files)] = table
     return files
 

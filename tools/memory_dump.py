@@ -1,5 +1,6 @@
 """The memory of a guest as a dump spells it, and the ACPI tables in it: what the tools and the judges that read dumps share."""
 
+import copy
 import re
 
 HEADER = re.compile(rb"top ([0-9a-f]{8}) fill ([0-9a-f]{2})")
@@ -7,6 +8,7 @@ ROW = re.compile(rb"([0-9a-f]{8}) ([0-9a-f]{32})")
 
 LOWER_WINDOW = [(0x00000, 0xA0000), (0xE0000, 0x100000)]
 UPPER_WINDOW_SIZE = 32 << 20
+LEAST_TOP_MIB, MOST_TOP_MIB = 64, 3072
 
 
 class NotADump(Exception):
@@ -40,9 +42,29 @@ class Memory:
     def put(self, start, content):
         """Has bytes stand from a multiple of 16 on; they are as many as a multiple of 16."""
         for at in range(0, len(content), 16):
-            row = content[at : at + 16]
-            if row != self.fill:
+            row = bytes(content[at : at + 16])
+            if row == self.fill:
+                self.rows.pop(start + at, None)
+            else:
                 self.rows[start + at] = row
+
+    def write(self, start, content):
+        """Has bytes stand from any address of RAM on."""
+        before = self.read(start // 16 * 16, start % 16, "the row before")
+        end = start + len(content)
+        behind = self.read(end, -end % 16, "the row behind")
+        self.put(start - len(before), before + content + behind)
+
+    def copy(self):
+        other = copy.copy(self)
+        other.rows = dict(self.rows)
+        return other
+
+    def flipped(self, address):
+        """A copy with the lowest bit of the byte at the address flipped."""
+        other = self.copy()
+        other.write(address, bytes([self.read(address, 1, "the byte")[0] ^ 1]))
+        return other
 
     def find(self, anchor, start, end):
         """Returns the least multiple of 16 in the range at which the anchor's letters stand."""
@@ -61,7 +83,10 @@ def read_dump(text):
         raise NotADump("line 1 isn't 'top XXXXXXXX fill XX'")
     if lines[-2] != b"end":
         raise NotADump(f"line {len(lines) - 1}, the last, isn't 'end'")
-    memory = Memory(int(header[1], 16), int(header[2], 16))
+    top = int(header[1], 16)
+    if top % (1 << 20) != 0 or not LEAST_TOP_MIB <= top >> 20 <= MOST_TOP_MIB:
+        raise NotADump(f"line 1: its top isn't {LEAST_TOP_MIB} to {MOST_TOP_MIB} MiB")
+    memory = Memory(top, int(header[2], 16))
     before = -1
     for number, line in enumerate(lines[1:-2], start=2):
         before = read_row(memory, before, number, line)
@@ -81,6 +106,12 @@ def read_row(memory, before, number, line):
         raise NotADump(f"line {number}: its bytes are all the fill byte, so it stands there needlessly")
     memory.rows[address] = content
     return address
+
+
+def dump_text(memory):
+    """The dump of a memory."""
+    rows = "".join(f"{address:08x} {content.hex()}\n" for address, content in sorted(memory.rows.items()))
+    return f"top {memory.top:08x} fill {memory.fill[0]:02x}\n{rows}end\n".encode()
 
 
 def number_at(content, offset, size):

@@ -94,9 +94,9 @@ class Machine:
         status = self.process.wait()
         return f"it takes more than {SECONDS} seconds" if status in (124, 137) else f"it ended with status {status}"
 
-    def command(self, name):
+    def command(self, name, **arguments):
         """Has QEMU carry out a command of QMP. What it says of itself and of events is passed over."""
-        self.send(self.control, json.dumps({"execute": name}) + "\n")
+        self.send(self.control, json.dumps({"execute": name, "arguments": arguments}) + "\n")
         while "return" not in (reply := json.loads(self.receive(self.control))):
             if "error" in reply:
                 raise NoAnswer(f"{name!r} is answered {reply['error']}")
@@ -137,6 +137,10 @@ class Machine:
     def read_memory(self, address, size):
         (answer,) = self.ask(f"read {address:#x} {size:#x}")
         return bytes.fromhex(answer.removeprefix("0x"))
+
+    def save_memory(self, address, size, file):
+        """Has the monitor write bytes of memory into a file, as `pmemsave` does by hand."""
+        self.command("pmemsave", val=address, size=size, filename=str(file))
 
     def write_memory(self, address, content):
         self.ask(f"write {address:#x} {len(content):#x} 0x{content.hex()}")

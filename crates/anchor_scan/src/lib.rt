@@ -9,6 +9,7 @@ mod acpi;
 mod anchor;
 mod fault;
 mod inventory;
+pub mod laws;
 mod least;
 mod range;
 mod rsdp;

@@ -1,6 +1,7 @@
 ghost use Rattle.std.specs.Prelude.{◌≡◌, IfOk};
 ghost use Rattle.machine_desc.specs.Rules.{IsAccepted};
 ghost use Rattle.smbios_model.specs.Smbios.{smbios_of};
+ghost use Rattle.smbios_model.specs.Structures.{number_of};
 
 use crate::bios_information::BiosInfo;
 use crate::boot_information::BootInfo;
@@ -11,6 +12,10 @@ use crate::memory_array::ArrayInfo;
 use crate::memory_device::DeviceInfo;
 use crate::processor_information::ProcessorInfo;
 use crate::slot_information::SlotInfo;
+use crate::structure_types::{
+    ARRAY_TYPE, BIOS_TYPE, BOOT_TYPE, CHASSIS_TYPE, DEVICE_TYPE, END_TYPE, MAPPED_TYPE,
+    OEM_STRINGS_TYPE, PROCESSOR_TYPE, SLOT_TYPE, SYSTEM_TYPE,
+};
 use crate::system_information::SystemInfo;
 use machine_desc::Machine;
 use std::alloc::Global;
@@ -72,6 +77,28 @@ pub enum Body {
         /// Its strings.
         strings: List<Text>,
     },
+}
+
+impl Body {
+    /// Returns the type of a structure that says this (DSP0134, chapter 7).
+    pub fn number(&self) -> u8
+        ensures { result ≡ number_of self.now }
+    {
+        match self {
+            Body::Bios(_) => BIOS_TYPE,
+            Body::System(_) => SYSTEM_TYPE,
+            Body::Chassis(_) => CHASSIS_TYPE,
+            Body::Processor(_) => PROCESSOR_TYPE,
+            Body::Slot(_) => SLOT_TYPE,
+            Body::OemStrings(_) => OEM_STRINGS_TYPE,
+            Body::Array(_) => ARRAY_TYPE,
+            Body::Device(_) => DEVICE_TYPE,
+            Body::Mapped(_) => MAPPED_TYPE,
+            Body::Boot(_) => BOOT_TYPE,
+            Body::End => END_TYPE,
+            Body::Raw { kind, .. } => *kind,
+        }
+    }
 }
 
 /// Returns the SMBIOS table of `machine`, which is accepted: version 3.0 and the machine's structures. Its lists take their memory

@@ -11,6 +11,8 @@ const NUMBERS: &[(Status, u8)] = &[
     (Status::DescriptionRefused, 3),
     (Status::NoRoom, 4),
     (Status::ImageRefused, 5),
+    (Status::DumpRefused, 6),
+    (Status::TablesRefused, 7),
     (Status::WriteFault, 8),
     (Status::OutOfMemory, 9),
     (Status::InputTooLong, 10),

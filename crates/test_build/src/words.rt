@@ -6,10 +6,9 @@ use std::test::Fail;
 use vt_outside::{ListSource, Source};
 
 // A few of each kind; `vt_words` says which words are a command, and has tests of its own.
-static NO_COMMANDS: [&[&str]; 25] = [
+static NO_COMMANDS: [&[&str]; 30] = [
     &[],
     // other commands, now or later
-    &["decode"],
     &["lint"],
     &["gen"],
     &["--help"],
@@ -36,6 +35,13 @@ static NO_COMMANDS: [&[&str]; 25] = [
     &["build", "--policy", "low"],
     &["build", "--seed", "0"],
     &["boot", "--top", "64"],
+    // a list without the word that asks for it, with it twice, and with other words
+    &["decode"],
+    &["decode", "--list", "--list"],
+    &["decode", "x"],
+    &["decode", "--list", "x"],
+    &["decode", "--list", "--fill", "00"],
+    &["boot", "--list"],
 ];
 
 #[test]

@@ -20,6 +20,7 @@ struct Row(&'static str, Command);
 const COMMANDS: &[Row] = &[
     // each command with its defaults
     Row("|build", Command::Build),
+    Row("|decode|--list", Command::Decode),
     Row("|boot", Command::Boot(DEFAULTS)),
     Row(
         "|load",

@@ -1,4 +1,4 @@
-//! Tests of the words of a command line: those that are commands, and those that are none.
+//! Tests of the words of a command line: those that are commands, those that are none, and what a schema says of words.
 #![tactic(auto)]
 
 #[cfg(test)]
@@ -7,3 +7,5 @@ mod commands;
 mod reading;
 #[cfg(test)]
 mod refusals;
+#[cfg(test)]
+mod schemas;

@@ -49,7 +49,12 @@ fn push_around(
     push_words(alloc, line, behind)
 }
 
-fn push_words(alloc: Global, line: &mut Vec<String>, words: &str) -> Result<(), AllocError> {
+/// Adds the words of `words`, each behind a bar.
+pub(crate) fn push_words(
+    alloc: Global,
+    line: &mut Vec<String>,
+    words: &str,
+) -> Result<(), AllocError> {
     for word in words.split('|').skip(1) {
         push_word(alloc, line, word)?;
     }

@@ -1,7 +1,7 @@
 -- Calls with a lawful input of which nothing outside failed: they are done, or memory ran out.
-use Rattle.std.proofs.Common.{◌≡◌, ◌⊎◌, inl, inr, ℕ, ◌<◌, ◌≤◌, List, [], ◌++◌, length, map, Option, Some, None, IfSome, IfOk, Result, Ok, Err, arith, refl, ap, sym, subst, ◌∙◌, append-nil}
+use Rattle.std.proofs.Common.{◌≡◌, ◌⊎◌, inl, inr, ℕ, ◌<◌, ◌≤◌, List, length, map, Some, IfOk, Result, Ok, Err, arith, refl, ap, sym, subst, ◌∙◌}
 use Rattle.vt_outside.specs.Placement.{Range}
-use Rattle.vt_outside.specs.Stream.{SourceSeen, SinkSeen, Rose, in_front}
+use Rattle.vt_outside.specs.Stream.{SourceSeen, SinkSeen, Rose}
 use Rattle.cfg_directory.specs.declared.item.Item.{Item}
 use Rattle.cfg_directory.specs.Container.{read_so}
 use Rattle.cfg_directory.specs.Items.{total_size}
@@ -24,60 +24,32 @@ use Rattle.vt_words.specs.declared.setting.Setting.{Setting}
 use Rattle.vmtables.specs.Boot.{BootMakes, without_image, without_room, without_memory}
 use Rattle.vmtables.specs.Build.{BuildMakes, not_built}
 use Rattle.vmtables.specs.Load.{LoadMakes, mib, not_read, not_loaded}
-use Rattle.vmtables.specs.Calls.{Answering, Input, Unread, Cut, Whole, Made, ReadsAll, Wrote, WasRead, Seen}
+use Rattle.vmtables.specs.Calls.{Answering, Input, Made, ReadsAll, Wrote, WasRead, Seen}
 use Rattle.vmtables.specs.Complete.{Call, IsFed, HasRoom, IsDone, DescribesFew, RunsWhole}
 use Rattle.vmtables.specs.Described.{IsTooLarge}
 use Rattle.vmtables.specs.Loading.{IsImageLoaded, FailsToLoad, ended_early, not_begun}
-use Rattle.vmtables.specs.Outcome.{input_limit, given_count, status_of, status_of_fault}
+use Rattle.vmtables.specs.Outcome.{input_limit, status_of}
+use Rattle.vmtables.proofs.Ends.{ends_as, for_want, with_text, with_fault}
 use Rattle.vmtables.proofs.Refused.{IsUnbuilt, undescribed, too_large, no_memory, why_unbuilt, IsUnread, not_container, no_room, why_unread}
 use Rattle.vmtables.specs.declared.fault.Fault.{Fault}
-use Rattle.vmtables.specs.declared.fault.Fault.TheVariants as fault
-use Rattle.vmtables.specs.declared.input.InputFault.TheVariants as input
 use Rattle.vmtables.specs.declared.status.Status.TheVariants as status
 
 -- the call ended done, or for want of memory
 abbrev Completed : Result (Unit {0}) Fault → Type 0
 Completed ended = (status_of ended ≡ status.Ok) ⊎ (status_of ended ≡ status.OutOfMemory)
 
--- the bytes that were read are those that the source had
-same_bytes : (bytes read : List ℕ) (left left_after : Option (List ℕ)) → left ≡ Some bytes → left ≡ in_front read left_after
-    → IfSome left_after (λ rest. rest ≡ []) → bytes ≡ read
-same_bytes bytes read left None had given none_left = absurd (cc)
-same_bytes bytes read left (Some rest) had given none_left =
-    let whole : bytes ≡ read ++ rest = cc in
-    whole ∙ ap (λ (r : List ℕ). read ++ r) none_left ∙ append-nil read
-
--- no more bytes are given than the source had
-few_given : (bytes : List ℕ) (left left_after : Option (List ℕ)) → left ≡ Some bytes → length bytes ≤ input_limit
-    → IfSome left (λ _. input_limit < given_count left left_after) → ⊥
-few_given bytes None left_after had within long = absurd (cc)
-few_given bytes (Some all) None had within long = absurd (omega arith)
-few_given bytes (Some all) (Some rest) had within long =
-    let same : all ≡ bytes = cc in
-    let size : length all ≡ length bytes = ap length same in
-    absurd (omega arith)
-
--- What is left of the ways in which a call may have ended that reads its whole input, where nothing outside failed: it is done, memory ran out, or
--- it made a fault of the bytes that the source had.
+-- How a call ends that is done, runs out of memory, or makes a fault of the bytes that the source had.
 pub whole_call : (Makes : List ℕ → Seen → Seen → Made → Type 0) (before after : Seen) (bytes : List ℕ) (in_all : Input) (made : Made)
     (ended : Result (Unit {0}) Fault) (source source_after : SourceSeen) (out out_after : SinkSeen)
     → source.left ≡ Some bytes → length bytes ≤ input_limit → (Rose source.faults source_after.faults → ⊥) → (Rose out.faults out_after.faults → ⊥)
     → ReadsAll Makes before after in_all made → WasRead in_all source source_after → Wrote made ended out out_after
     → ((f : Fault) → Makes bytes before after (Err f) → Completed (Err f)) → Completed ended
-whole_call Makes before after bytes in_all made (Ok done) source source_after out out_after had within read written did was wrote own = inl refl
-whole_call Makes before after bytes in_all (Ok text) (Err f) source source_after out out_after had within read written did was wrote own =
-    absurd (written wrote.1.rose)
-whole_call Makes before after bytes (Whole bytes_read) (Err made) (Err f) source source_after out out_after had within read written did was wrote own =
-    let same : bytes ≡ bytes_read = same_bytes bytes bytes_read source.left source_after.left had was.given was.none_left in
-    subst (λ g. Completed (Err g)) (sym wrote.0) (own made (subst (λ b. Makes b before after (Err made)) (sym same) did))
-whole_call Makes before after bytes (Cut input.Failed) (Err made) (Err f) source source_after out out_after had within read written did was wrote own =
-    absurd (read was)
-whole_call Makes before after bytes (Cut input.TooLong) (Err made) (Err f) source source_after out out_after had within read written did was wrote own =
-    absurd (few_given bytes source.left source_after.left had within was)
-whole_call Makes before after bytes (Cut input.OutOfMemory) (Err made) (Err f) source source_after out out_after had within read written did was wrote own =
-    let same : made ≡ fault.OutOfMemory = cc in
-    inr (ap status_of_fault (wrote.0 ∙ same))
-whole_call Makes before after bytes Unread (Err made) (Err f) source source_after out out_after had within read written did was wrote own = absurd did
+whole_call Makes before after bytes in_all made ended source source_after out out_after had within read written did was wrote own =
+    elim (ends_as Makes before after bytes in_all made ended source source_after out out_after had within read written did was wrote) [
+      | for_want is ↦ inr (ap status_of is)
+      | with_text makes is took ↦ inl (ap status_of is)
+      | with_fault {why = why} makes is ↦ subst Completed (sym is) (own why makes)
+    ]
 
 -- the same of a call as the contract of the top call says it
 call_done : (Gives : Answering) (command : CommandOf) (call : Call Gives command) → Completed call.answered.ended → IsDone call

@@ -2,7 +2,10 @@
 use Rattle.std.proofs.Common.{◌≡◌, ◌≢◌, ◌<◌, ◌↔◌, ℕ, List, [], Option, Some, None, Result, Ok, Err, true, IfSome, IsSomeAnd, IfErr, OnOk, OnErr, refl, ap, subst}
 use Rattle.std.specs.Result.{IsErrAnd}
 use Rattle.vt_outside.specs.Stream.{SourceSeen, SinkSeen, Rose, in_front, TookFront}
+use Rattle.vt_bytes.specs.Memory.{IsMemory}
+use Rattle.guest_memory.specs.Bytes.{HoldsBytes}
 use Rattle.memory_dump.specs.Dump.{dump}
+use Rattle.vmtables.specs.Dumped.{IsDumpOf}
 use Rattle.vmtables.specs.Calls.{Answering, Seen, Unread, Whole, Cut, Made, ReadsAll, Ran, Streams, WasEnded, WasCut, TookWhole}
 use Rattle.vmtables.specs.Causes.{input_fault}
 use Rattle.vmtables.specs.Does.{Does}
@@ -97,6 +100,15 @@ wrote Makes (Ok done) bytes text before after source source_after out out_after 
     record { input = Whole bytes; made = Ok text; did = makes; read = read; wrote = took }
 wrote Makes (Err f) bytes text before after source source_after out out_after read makes took failed front =
     record { input = Whole bytes; made = Ok text; did = makes; read = read; wrote = (failed, front) }
+
+-- what is known of the memory of a world that was dumped
+pub world_dumped : (seen : Option LoadState) (world : LoadState) → seen ≡ Some world → IsSomeAnd seen (λ w. IsMemory (memory_of w))
+    → IsSomeAnd seen (λ w. HoldsBytes (memory_of w)) → IsDumpOf (memory_of world) (dump (memory_of world))
+world_dumped seen world is lawful holds = record {
+  lawful = subst (λ those. IsSomeAnd those (λ w. IsMemory (memory_of w))) is lawful;
+  holds = subst (λ those. IsSomeAnd those (λ w. HoldsBytes (memory_of w))) is holds;
+  text_is = refl;
+}
 
 -- A command that loaded files, and wrote the dump of that world or a part of it.
 pub dump_wrote : (Makes : List ℕ → Seen → Seen → Made → Type 0) (r : Result (Unit {0}) Fault) (bytes : List ℕ) (world : LoadState)

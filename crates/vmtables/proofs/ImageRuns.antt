@@ -8,7 +8,7 @@ use Rattle.std.specs.Option.{option_map_or}
 use Rattle.vt_outside.specs.Placement.{Range, IsFree}
 use Rattle.vt_bytes.proofs.Each.{each_append, each_map}
 use Rattle.loader_script.specs.declared.entry.Entry.{Entry}
-use Rattle.loader_script.specs.declared.entry.Entry.TheVariants.{Allocate, AddPointer, AddChecksum}
+use Rattle.loader_script.specs.declared.entry.Entry.TheVariants.{AddPointer, AddChecksum}
 use Rattle.vt_outside.specs.File.{File}
 use Rattle.loader_script.specs.Run.{Placed, Progress, End, Done, Command, NoRoom, bytes_of, cause_of, carried_out}
 use Rattle.loader_script.specs.Left.{range_of}

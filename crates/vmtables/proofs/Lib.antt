@@ -8,4 +8,7 @@ pub mod LeftByOthers
 pub mod Booting
 pub mod QuietFaults
 pub mod BootEnds
+pub mod Given
+pub mod Ends
 pub mod Completed
+pub mod Listed

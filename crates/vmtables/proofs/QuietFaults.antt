@@ -6,13 +6,14 @@ use Rattle.command_acts.specs.declared.fault.LoadFault.TheVariants as load
 use Rattle.vt_words.specs.declared.setting.Setting.{Setting}
 use Rattle.vmtables.specs.Boot.{BootMakes, without_image, without_room, without_memory}
 use Rattle.vmtables.specs.Calls.{Answering, Seen}
+use Rattle.vmtables.specs.Decode.{CannotBeListed}
 use Rattle.vmtables.specs.Load.{LoadMakes, not_read, not_loaded}
 use Rattle.vmtables.specs.Loading.{FailsToLoad, ended_early, not_begun}
 use Rattle.vmtables.specs.Outcome.{status_of_fault, status_of_load}
 use Rattle.vmtables.specs.declared.fault.Fault.{Fault}
 use Rattle.vmtables.specs.declared.status.Status.TheVariants as status
 use Rattle.vmtables.proofs.Endings.{IsQuiet}
-use Rattle.vmtables.proofs.Refused.{IsUnbuilt, undescribed, too_large, no_memory, why_unbuilt, IsUnread, not_container, no_room, why_unread}
+use Rattle.vmtables.proofs.Refused.{IsUnbuilt, undescribed, too_large, no_memory, why_unbuilt, IsUnread, not_container, no_room, why_unread, IsUnlisted, no_dump, tables, memory, why_unlisted}
 
 quiet_description : IsQuiet status.DescriptionRefused
 quiet_description = record { done = λ is. cc; read = λ is. cc; long = λ is. cc; written = λ is. cc }
@@ -29,6 +30,12 @@ quiet_room = record { done = λ is. cc; read = λ is. cc; long = λ is. cc; writ
 quiet_memory : IsQuiet status.OutOfMemory
 quiet_memory = record { done = λ is. cc; read = λ is. cc; long = λ is. cc; written = λ is. cc }
 
+quiet_dump : IsQuiet status.DumpRefused
+quiet_dump = record { done = λ is. cc; read = λ is. cc; long = λ is. cc; written = λ is. cc }
+
+quiet_tables : IsQuiet status.TablesRefused
+quiet_tables = record { done = λ is. cc; read = λ is. cc; long = λ is. cc; written = λ is. cc }
+
 unbuilt_quiet : (bytes : List ℕ) (f : Fault) → IsUnbuilt bytes f → IsQuiet (status_of_fault f)
 unbuilt_quiet bytes f (undescribed read) = quiet_description
 unbuilt_quiet bytes f (too_large large) = quiet_large
@@ -37,6 +44,14 @@ unbuilt_quiet bytes f no_memory = quiet_memory
 unread_quiet : (bytes : List ℕ) (f : Fault) → IsUnread bytes f → IsQuiet (status_of_fault f)
 unread_quiet bytes f (not_container read) = quiet_image
 unread_quiet bytes f no_room = quiet_memory
+
+unlisted_quiet : (bytes : List ℕ) (f : Fault) → IsUnlisted bytes f → IsQuiet (status_of_fault f)
+unlisted_quiet bytes f (no_dump read line) = quiet_dump
+unlisted_quiet bytes f (tables refuses) = quiet_tables
+unlisted_quiet bytes f memory = quiet_memory
+
+pub list_quiet : (bytes : List ℕ) (f : Fault) → CannotBeListed bytes f → IsQuiet (status_of_fault f)
+list_quiet bytes f cannot = unlisted_quiet bytes f (why_unlisted bytes f cannot)
 
 load_quiet : (why : LoadFault) → IsQuiet (status_of_load why)
 load_quiet load.NoScript = quiet_image

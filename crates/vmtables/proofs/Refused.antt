@@ -1,4 +1,4 @@
--- Why no image is made of bytes, and why they aren't read as a container: the faults that these may be.
+-- Why no image is made of bytes, why they aren't read as a container, and why nothing is listed of them: the faults that these may be.
 use Rattle.std.proofs.Common.{◌≡◌, List, ℕ, Result, Ok, Err, IfErr, refl}
 use Rattle.std.specs.Result.{IsErrAnd}
 use Rattle.desc_toml.specs.declared.fault.DescFault.{DescFault}
@@ -6,12 +6,17 @@ use Rattle.machine_desc.specs.declared.machine.Machine.{Machine}
 use Rattle.desc_toml.specs.Reading.{Reads, read_of}
 use Rattle.cfg_directory.specs.declared.container.ImageFault.{ImageFault}
 use Rattle.cfg_directory.specs.Container.{read_so}
+use Rattle.memory_dump.specs.declared.fault.DumpFault.{DumpFault}
+use Rattle.memory_dump.specs.Reading.{read_so as read_dump_so}
+use Rattle.anchor_scan.specs.declared.fault.ScanFault.{ScanFault}
 use Rattle.vt_words.specs.declared.setting.Setting.{Setting}
 use Rattle.vmtables.specs.Boot.{BootMakes, without_image}
 use Rattle.vmtables.specs.Build.{CannotBeBuilt}
 use Rattle.vmtables.specs.Calls.{Answering, Seen}
+use Rattle.vmtables.specs.Decode.{CannotBeListed, DumpRefuses}
 use Rattle.vmtables.specs.Described.{IsTooLarge}
 use Rattle.vmtables.specs.Load.{CannotBeRead, LoadMakes, not_read}
+use Rattle.vmtables.specs.Outcome.{faulty_line}
 use Rattle.vmtables.specs.declared.fault.Fault.{Fault}
 use Rattle.vmtables.specs.declared.fault.Fault.TheVariants as fault
 
@@ -29,6 +34,8 @@ why_unbuilt bytes fault.ReadFault is = absurd is
 why_unbuilt bytes fault.Usage is = absurd is
 why_unbuilt bytes (fault.Container why) is = absurd is
 why_unbuilt bytes (fault.Load why) is = absurd is
+why_unbuilt bytes (fault.Dump why line) is = absurd is
+why_unbuilt bytes (fault.Tables why) is = absurd is
 why_unbuilt bytes fault.WriteFault is = absurd is
 why_unbuilt bytes fault.InputTooLong is = absurd is
 
@@ -45,8 +52,29 @@ why_unread bytes fault.ImageTooLarge is = absurd is
 why_unread bytes fault.ReadFault is = absurd is
 why_unread bytes fault.Usage is = absurd is
 why_unread bytes (fault.Load why) is = absurd is
+why_unread bytes (fault.Dump why line) is = absurd is
+why_unread bytes (fault.Tables why) is = absurd is
 why_unread bytes fault.WriteFault is = absurd is
 why_unread bytes fault.InputTooLong is = absurd is
+
+-- a fault for which nothing is listed
+pub data IsUnlisted (bytes : List ℕ) : Fault → Type 0 where
+  no_dump : {why : DumpFault} {line : ℕ} → read_dump_so bytes ≡ Err why → line ≡ faulty_line bytes why → IsUnlisted bytes (fault.Dump why line)
+  tables : {why : ScanFault} → DumpRefuses bytes why → IsUnlisted bytes (fault.Tables why)
+  memory : IsUnlisted bytes fault.OutOfMemory
+
+pub why_unlisted : (bytes : List ℕ) (f : Fault) → CannotBeListed bytes f → IsUnlisted bytes f
+why_unlisted bytes (fault.Dump why line) is = no_dump is.0 is.1
+why_unlisted bytes (fault.Tables why) is = tables is
+why_unlisted bytes fault.OutOfMemory is = memory
+why_unlisted bytes (fault.Container why) is = absurd is
+why_unlisted bytes (fault.Description why) is = absurd is
+why_unlisted bytes fault.ImageTooLarge is = absurd is
+why_unlisted bytes fault.ReadFault is = absurd is
+why_unlisted bytes fault.Usage is = absurd is
+why_unlisted bytes (fault.Load why) is = absurd is
+why_unlisted bytes fault.WriteFault is = absurd is
+why_unlisted bytes fault.InputTooLong is = absurd is
 
 -- a boot of which no image was made leaves all as it was
 pub unbuilt_so : (Gives : Answering) (setting : Setting) (bytes : List ℕ) (seen : Seen) (f : Fault) (r : Result (Unit {0}) Fault)

@@ -21,9 +21,9 @@ use Rattle.load_states.specs.Guarded.{is_work}
 use Rattle.load_states.specs.Kept.{IsCleared}
 use Rattle.load_states.specs.LoadState.{memory_of}
 use Rattle.load_states.specs.Runs.{left_by_others}
-use Rattle.memory_dump.specs.Dump.{dump}
 use Rattle.vmtables.specs.Calls.{Answering, Made, Seen}
 use Rattle.vmtables.specs.Build.{CannotBeBuilt}
+use Rattle.vmtables.specs.Dumped.{IsDumpOf}
 use Rattle.vmtables.specs.Loading.{IsImageLoaded, IsRefusedFree, IsUnloaded}
 use Rattle.vmtables.specs.declared.fault.Fault.{Fault}
 use Rattle.vmtables.specs.declared.fault.Fault.TheVariants as fault
@@ -52,7 +52,7 @@ pub record IsBooted (Gives : Answering) (setting : Setting) (bytes : List ℕ) (
 -- refused; an allocator may give no place for a file, and then the last request that it refused is one for which a place is free. Where
 -- memory runs out before the load the machine isn't loaded.
 pub data BootMakes (Gives : Answering) (setting : Setting) (bytes : List ℕ) (before after : Seen) : Made → Type 0 where
-  booted : (is : IsBooted Gives setting bytes before after) {text : List ℕ} → text ≡ dump (memory_of is.loaded.world)
+  booted : (is : IsBooted Gives setting bytes before after) {text : List ℕ} → IsDumpOf (memory_of is.loaded.world) text
       → BootMakes Gives setting bytes before after (Ok text)
   without_image : {why : Fault} → CannotBeBuilt bytes why → after ≡ before → BootMakes Gives setting bytes before after (Err why)
   without_room : {index : ℕ} (machine : Machine) → Reads bytes machine

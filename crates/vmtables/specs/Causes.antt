@@ -8,8 +8,10 @@ use Rattle.image_files.specs.declared.image.ImageBuildFault.{ImageBuildFault}
 use Rattle.image_files.specs.declared.image.ImageBuildFault.TheVariants as image
 use Rattle.cfg_directory.specs.declared.container.ImageFault.{ImageFault}
 use Rattle.cfg_directory.specs.declared.container.ImageFault.TheVariants as container
+use Rattle.anchor_scan.specs.declared.fault.ScanFault.{ScanFault}
+use Rattle.anchor_scan.specs.declared.fault.ScanFault.TheVariants as scan
 use Rattle.vmtables.specs.declared.fault.Fault.{Fault}
-use Rattle.vmtables.specs.declared.fault.Fault.TheVariants.{ReadFault, Description, Container, OutOfMemory, InputTooLong, ImageTooLarge}
+use Rattle.vmtables.specs.declared.fault.Fault.TheVariants.{ReadFault, Description, Container, Tables, OutOfMemory, InputTooLong, ImageTooLarge}
 
 -- that of the reading of an input
 abbrev pub input_fault : InputFault → Fault
@@ -28,3 +30,7 @@ IsOfImage image.OutOfMemory fault = fault ≡ OutOfMemory
 abbrev pub IsOfContainer : ImageFault → Fault → Type 0
 IsOfContainer container.OutOfMemory fault = fault ≡ OutOfMemory
 IsOfContainer refused fault = fault ≡ Container refused
+
+abbrev pub IsOfTables : ScanFault → Fault → Type 0
+IsOfTables scan.OutOfMemory fault = fault ≡ OutOfMemory
+IsOfTables refused fault = fault ≡ Tables refused

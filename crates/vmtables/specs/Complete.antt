@@ -1,10 +1,13 @@
 -- Commands that are done, unless memory runs out: a lawful input, and nothing outside failed.
-use Rattle.std.specs.Prelude.{◌≡◌, ◌⊎◌, ℕ, ◌≤◌, List, length, map, Some, Ok}
+use Rattle.std.specs.Prelude.{◌≡◌, ◌≢◌, ◌⊎◌, ℕ, ◌≤◌, List, length, map, Some, Ok}
 use Rattle.vt_outside.specs.Placement.{Range}
-use Rattle.vt_outside.specs.Stream.{SinkSeen, SourceSeen, Rose}
+use Rattle.vt_outside.specs.Stream.{SinkSeen, SourceSeen, Rose, behind}
 use Rattle.cfg_directory.specs.declared.item.Item.{Item}
 use Rattle.cfg_directory.specs.Container.{read_so}
 use Rattle.cfg_directory.specs.Items.{total_size}
+use Rattle.vt_bytes.specs.Memory.{Memory, seen}
+use Rattle.anchor_scan.specs.declared.fault.ScanFault.{ScanFault}
+use Rattle.anchor_scan.specs.Scan.{Refuses}
 use Rattle.desc_toml.specs.Reading.{Reads}
 use Rattle.cfg_directory.specs.Files.{files_of}
 use Rattle.image_files.specs.Items.{image_limit}
@@ -14,11 +17,18 @@ use Rattle.machine_desc.specs.declared.machine.Machine.{Machine}
 use Rattle.command_acts.specs.Script.{script_in}
 use Rattle.vm_image.specs.Image.{image_items}
 use Rattle.vt_words.specs.declared.command.Command.{Command}
-use Rattle.vt_words.specs.declared.command.Command.TheVariants.{Boot, Build, Load}
+use Rattle.vt_words.specs.declared.command.Command.TheVariants.{Boot, Build, Decode, Load}
 use Rattle.vt_words.specs.declared.setting.Setting.{Setting}
-use Rattle.vmtables.specs.Calls.{Answered, Answering, Seen}
+use Rattle.scan_text.specs.List.{list_of}
+use Rattle.table_model.specs.declared.inventory.Inventory.{Inventory}
+use Rattle.table_model.specs.Inventory.{inventory_of}
+use Rattle.vmtables.specs.Calls.{Answered, Answering, Said, Seen, TookWhole}
+use Rattle.vmtables.specs.Decode.{CannotBeListed, DumpShows}
+use Rattle.vmtables.specs.Dumped.{IsDumpOf}
 use Rattle.vmtables.specs.Does.{Does}
-use Rattle.vmtables.specs.Outcome.{input_limit}
+use Rattle.vmtables.specs.Outcome.{input_limit, line_of, status_of_fault}
+use Rattle.vmtables.specs.declared.fault.Fault.{Fault}
+use Rattle.vmtables.specs.declared.fault.Fault.TheVariants as fault
 use Rattle.vmtables.specs.declared.status.Status.{Status}
 use Rattle.vmtables.specs.declared.status.Status.TheVariants as status
 
@@ -68,3 +78,34 @@ RunsWhole items places = (script : List Entry) × (script_in items ≡ Ok script
 abbrev pub IsLoadComplete : Answering → Type 0
 IsLoadComplete Gives = (top_mib : ℕ) (setting : Setting) (bytes : List ℕ) (items : List Item) (call : Call Gives (Load top_mib setting))
     → read_so bytes ≡ Ok items → RunsWhole items (map (λ (r : Range). r.start) call.after.place.handed) → IsFed bytes call → HasRoom call → IsDone call
+
+-- the call is done, and out took the list of the inventory; or memory ran out
+abbrev pub IsListed : {Gives : Answering} {command : Command} → Inventory → Call Gives command → Type 0
+IsListed inventory call = ((call.answer ≡ status.Ok) × TookWhole (list_of inventory) call.out call.out_after) ⊎ (call.answer ≡ status.OutOfMemory)
+
+-- the call answered the status of the fault, and said its line; or memory ran out
+abbrev pub IsRefused : {Gives : Answering} {command : Command} → Fault → Call Gives command → Type 0
+IsRefused why call =
+    ((call.answer ≡ status_of_fault why) × Said (line_of why) call.say call.say_after) ⊎ (call.answer ≡ status.OutOfMemory)
+
+-- of the dump of a memory whose tables have no fault
+abbrev pub IsDecodeComplete : Answering → Type 0
+IsDecodeComplete Gives = (bytes : List ℕ) (memory : Memory) (call : Call Gives Decode) → IsDumpOf memory bytes
+    → ((why : ScanFault) → Refuses (seen memory) why → ⊥) → IsFed bytes call → IsDone call
+
+-- what such a memory shows is listed
+abbrev pub IsDecodeListed : Answering → Type 0
+IsDecodeListed Gives = (bytes : List ℕ) (inventory : Inventory) (call : Call Gives Decode) → DumpShows bytes inventory → IsFed bytes call
+    → IsListed inventory call
+
+-- a fault of the bytes is told, unless memory runs out
+abbrev pub IsDecodeExact : Answering → Type 0
+IsDecodeExact Gives = (bytes : List ℕ) (why : Fault) (call : Call Gives Decode) → why ≢ fault.OutOfMemory → CannotBeListed bytes why
+    → IsFed bytes call → IsRefused why call
+
+-- What `boot` wrote of a description is listed as what the machine shows that is described: the description is all that the source of the boot
+-- had, the text is what its out took, and it is all that the source of the other call had.
+abbrev pub IsBootListed : Answering → Answering → Type 0
+IsBootListed Gives Others = (setting : Setting) (description front text : List ℕ) (boot : Call Gives (Boot setting)) (list : Call Others Decode)
+    → boot.answer ≡ status.Ok → boot.source.left ≡ Some description → boot.out.taken ≡ Some front → boot.out_after.taken ≡ behind (Some front) text
+    → IsFed text list → (machine : Machine) × Reads description machine × IsListed (inventory_of machine) list

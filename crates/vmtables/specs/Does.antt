@@ -1,10 +1,11 @@
 -- What each command does.
 use Rattle.std.specs.Prelude.{◌≡◌, Option, Some, None, Err}
 use Rattle.vt_words.specs.declared.command.Command.{Command}
-use Rattle.vt_words.specs.declared.command.Command.TheVariants.{Boot, Load, Build}
+use Rattle.vt_words.specs.declared.command.Command.TheVariants.{Boot, Load, Build, Decode}
 use Rattle.vmtables.specs.Boot.{BootMakes}
 use Rattle.vmtables.specs.Build.{BuildMakes}
 use Rattle.vmtables.specs.Calls.{Answering, Unread, Doing, ReadsAll}
+use Rattle.vmtables.specs.Decode.{DecodeMakes}
 use Rattle.vmtables.specs.Load.{LoadMakes}
 use Rattle.vmtables.specs.declared.fault.Fault.TheVariants.{Usage}
 
@@ -19,3 +20,4 @@ Does Gives None = IsUsage
 Does Gives (Some (Boot setting)) = ReadsAll (BootMakes Gives setting)
 Does Gives (Some (Load top_mib setting)) = ReadsAll (LoadMakes Gives top_mib setting)
 Does Gives (Some Build) = ReadsAll BuildMakes
+Does Gives (Some Decode) = ReadsAll DecodeMakes

@@ -2,10 +2,12 @@ pub mod Causes
 pub mod Outcome
 pub mod Calls
 pub mod Described
+pub mod Dumped
 pub mod Loading
 pub mod Load
 pub mod Build
 pub mod Boot
+pub mod Decode
 pub mod Does
 pub mod Complete
 pub mod Shelf
@@ -28,6 +30,9 @@ pub use Rattle.load_states.specs.LoadState
 pub use Rattle.firmware_load.specs.Schedules
 pub use Rattle.firmware_load.specs.World
 pub use Rattle.memory_dump.specs.Dump
+pub use Rattle.memory_dump.specs.Reading as DumpReading
+pub use Rattle.anchor_scan.specs.Scan
+pub use Rattle.scan_text.specs.List
 pub use Rattle.vt_words.specs.Command
 pub use Rattle.image_files.specs.Items
 pub use Rattle.vm_image.specs.Image

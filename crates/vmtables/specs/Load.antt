@@ -4,8 +4,8 @@ use Rattle.cfg_directory.specs.declared.item.Item.{Item}
 use Rattle.cfg_directory.specs.Container.{IsContainer, read_so}
 use Rattle.load_states.specs.LoadState.{memory_of}
 use Rattle.vt_words.specs.declared.setting.Setting.{Setting}
-use Rattle.memory_dump.specs.Dump.{dump}
 use Rattle.vmtables.specs.Calls.{Answering, Made, Seen}
+use Rattle.vmtables.specs.Dumped.{IsDumpOf}
 use Rattle.vmtables.specs.Loading.{IsImageLoaded, FailsToLoad}
 use Rattle.vmtables.specs.declared.fault.Fault.{Fault}
 use Rattle.vmtables.specs.declared.fault.Fault.TheVariants as fault
@@ -26,7 +26,7 @@ CannotBeRead bytes _ = ⊥
 -- leaves what the commands before left.
 pub data LoadMakes (Gives : Answering) (top_mib : ℕ) (setting : Setting) (bytes : List ℕ) (before after : Seen) : Made → Type 0 where
   loaded : (items : List Item) → IsContainer bytes items → (is : IsImageLoaded Gives items (mib top_mib) setting (Ok tt) before after)
-      {text : List ℕ} → text ≡ dump (memory_of is.world) → LoadMakes Gives top_mib setting bytes before after (Ok text)
+      {text : List ℕ} → IsDumpOf (memory_of is.world) text → LoadMakes Gives top_mib setting bytes before after (Ok text)
   not_read : {why : Fault} → CannotBeRead bytes why → after ≡ before → LoadMakes Gives top_mib setting bytes before after (Err why)
   not_loaded : {why : Fault} (items : List Item) → IsContainer bytes items → FailsToLoad Gives items (mib top_mib) setting before after why
       → LoadMakes Gives top_mib setting bytes before after (Err why)

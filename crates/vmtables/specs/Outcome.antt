@@ -7,6 +7,12 @@ use Rattle.loader_script.specs.declared.refusing.Cause.{Cause}
 use Rattle.loader_script.specs.declared.refusing.Cause.TheVariants as cause
 use Rattle.command_acts.specs.declared.fault.LoadFault.{LoadFault}
 use Rattle.command_acts.specs.declared.fault.LoadFault.TheVariants as load
+use Rattle.memory_dump.specs.declared.fault.DumpFault.{DumpFault}
+use Rattle.memory_dump.specs.declared.fault.DumpFault.TheVariants as dump
+use Rattle.memory_dump.specs.Reading.{whole_lines}
+use Rattle.anchor_scan.specs.declared.fault.ScanFault.{ScanFault}
+use Rattle.anchor_scan.specs.declared.fault.ScanFault.TheVariants as scan
+use Rattle.scan_text.specs.Lines.{acpi_line, smbios_line}
 use Rattle.vmtables.specs.declared.fault.Fault.{Fault}
 use Rattle.vmtables.specs.declared.fault.Fault.TheVariants as fault
 use Rattle.vmtables.specs.declared.status.Status.{Status}
@@ -26,6 +32,8 @@ status_of_fault fault.Usage = status.Usage
 status_of_fault (fault.Description refused) = status.DescriptionRefused
 status_of_fault (fault.Container refused) = status.ImageRefused
 status_of_fault (fault.Load why) = status_of_load why
+status_of_fault (fault.Dump refused line) = status.DumpRefused
+status_of_fault (fault.Tables refused) = status.TablesRefused
 status_of_fault fault.WriteFault = status.WriteFault
 status_of_fault fault.OutOfMemory = status.OutOfMemory
 status_of_fault fault.InputTooLong = status.InputTooLong
@@ -63,6 +71,26 @@ cause_number cause.ReadOnly = 9
 cause_number cause.OutOfRange = 10
 cause_number cause.TooFar = 11
 
+-- the number of a dump's fault, in the order of the faults; want of memory is none of them
+abbrev pub dump_number : DumpFault → ℕ
+dump_number dump.BadHeader = 1
+dump_number (dump.BadLine line) = 2
+dump_number (dump.OutOfOrder line) = 3
+dump_number (dump.AllFill line) = 4
+dump_number (dump.NotRam line) = 5
+dump_number dump.Truncated = 6
+dump_number dump.OutOfMemory = 0
+
+-- the number of the line at fault, of which the header's is 1; of bytes that were cut off it is how many whole lines they have
+abbrev pub faulty_line : List ℕ → DumpFault → ℕ
+faulty_line bytes dump.BadHeader = 1
+faulty_line bytes (dump.BadLine line) = line
+faulty_line bytes (dump.OutOfOrder line) = line
+faulty_line bytes (dump.AllFill line) = line
+faulty_line bytes (dump.NotRam line) = line
+faulty_line bytes dump.Truncated = whole_lines bytes
+faulty_line bytes dump.OutOfMemory = 0
+
 -- the line of a container that is refused, and of a load that ended before its script did
 abbrev pub container_line : ImageFault → List ℕ
 container_line refused = codes "container: fault " ++ decimal (container_number refused) ++ 10 ∷ []
@@ -73,6 +101,15 @@ load_line load.ScriptLength = codes "script: length" ++ 10 ∷ []
 load_line (load.Command index why) = codes "command " ++ decimal index ++ codes ": cause " ++ decimal (cause_number why) ++ 10 ∷ []
 load_line (load.NoRoom index) = codes "no room at command " ++ decimal index ++ 10 ∷ []
 
+-- the line of bytes that are no dump, and of a memory whose tables have a fault
+abbrev pub dump_line : DumpFault → ℕ → List ℕ
+dump_line refused line = codes "dump: fault " ++ decimal (dump_number refused) ++ codes " line " ++ decimal line ++ 10 ∷ []
+
+abbrev pub tables_line : ScanFault → List ℕ
+tables_line (scan.Acpi refused) = acpi_line refused
+tables_line (scan.Smbios refused) = smbios_line refused
+tables_line scan.OutOfMemory = codes "out of memory" ++ 10 ∷ []
+
 -- the line of a fault, which ends in a line feed
 abbrev pub line_of : Fault → List ℕ
 line_of fault.ReadFault = codes "read fault" ++ 10 ∷ []
@@ -80,6 +117,8 @@ line_of fault.Usage = codes "usage: vmtables build, load, decode, boot, lint or 
 line_of (fault.Description refused) = description_line refused
 line_of (fault.Container refused) = container_line refused
 line_of (fault.Load why) = load_line why
+line_of (fault.Dump refused line) = dump_line refused line
+line_of (fault.Tables refused) = tables_line refused
 line_of fault.WriteFault = codes "write fault" ++ 10 ∷ []
 line_of fault.OutOfMemory = codes "out of memory" ++ 10 ∷ []
 line_of fault.InputTooLong = codes "input too long" ++ 10 ∷ []
@@ -93,6 +132,8 @@ number_of status.Usage = 2
 number_of status.DescriptionRefused = 3
 number_of status.NoRoom = 4
 number_of status.ImageRefused = 5
+number_of status.DumpRefused = 6
+number_of status.TablesRefused = 7
 number_of status.WriteFault = 8
 number_of status.OutOfMemory = 9
 number_of status.InputTooLong = 10

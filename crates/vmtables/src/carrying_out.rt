@@ -10,6 +10,7 @@ ghost use Rattle.vmtables.specs.declared.status.Status.TheVariants.{ImageRefused
 
 use crate::boot_command::boot;
 use crate::build_command::build;
+use crate::decode_command::decode;
 use crate::fault::Fault;
 use crate::load_command::load;
 use firmware_load::{Schedule, World};
@@ -23,14 +24,16 @@ use zone_alloc::ZoneAlloc;
 /// to `out` and flushes it. `load` does the same with the files of a container, which it reads from `source`, and a top of memory from
 /// the words. `place` gives the files their places, by the policy of the words. The load takes the events that `plan` has for the seed of
 /// the words, one after the other: steps of the firmware and of its device, and writes of other processors, which come between those.
-/// `build` writes the container of a machine's files, and leaves `world`, `place` and `plan` as they were. All memory comes from `alloc`,
-/// before the load. Nothing is written to `out` before all but the writing is done.
+/// `build` writes the container of a machine's files, and `decode --list` the list of what the memory shows of which it reads the dump;
+/// both leave `world`, `place` and `plan` as they were. All memory comes from `alloc`, before the load, and before the list. Nothing is
+/// written to `out` before all but the writing is done.
 ///
 /// Returns the fault for which the command wasn't carried out whole. `Usage` means that `words` are no command; nothing is then read.
 /// `ReadFault` means that `source` failed, `InputTooLong` that it gave more than 67,108,864 bytes, `Description` that its bytes describe
 /// no accepted machine, `ImageTooLarge` that the machine's files have more than 409,600 bytes, `Container` that its bytes are no
-/// container, `Load` how a load ended before its script did, `OutOfMemory` that memory ran out, and `WriteFault` that `out` failed. With
-/// `Ok` `out` took the whole text, with `WriteFault` a part of it from its front, perhaps all, and with any other fault nothing.
+/// container, `Load` how a load ended before its script did, `Dump` that its bytes are no dump, `Tables` that the tables of the dump's
+/// memory have a fault, `OutOfMemory` that memory ran out, and `WriteFault` that `out` failed. With `Ok` `out` took the whole text, with
+/// `WriteFault` a part of it from its front, perhaps all, and with any other fault nothing.
 ///
 /// With `Ok` and `WriteFault` of `boot` and `load` the files are loaded in `world`. With `Load` it holds what the commands before left.
 /// After `OutOfMemory` it is as before, idle, or as it was begun. In any other case it is as before.
@@ -62,6 +65,7 @@ pub fn carry_out<S: Source, K: Sink, A: ZoneAlloc, C: Schedule>(
             load(alloc, top_mib, &setting, source, out, place, plan, world)
         }
         Some(Command::Build) => build(alloc, source, out),
+        Some(Command::Decode) => decode(alloc, source, out),
         None => Err(Fault::Usage),
     }
 }

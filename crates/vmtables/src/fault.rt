@@ -2,11 +2,13 @@ ghost use Rattle.std.specs.Prelude.{◌≡◌};
 ghost use Rattle.vmtables.specs.Outcome.{line_of, status_of_fault, status_of_load};
 
 use crate::input::InputFault;
-use crate::lines::{container_line, load_line};
+use crate::lines::{container_line, dump_line, load_line, tables_line};
 use crate::status::Status;
+use anchor_scan::ScanFault;
 use cfg_directory::ImageFault;
 use command_acts::LoadFault;
 use desc_toml::DescFault;
+use memory_dump::DumpFault;
 use vm_image::ImageBuildFault;
 use vt_outside::{Line, OutOfMemory, words};
 
@@ -23,6 +25,15 @@ pub enum Fault {
     Container(ImageFault),
     /// The load of a machine's image or of a container ended before its script did, for this fault.
     Load(LoadFault),
+    /// The bytes are no dump.
+    Dump {
+        /// Their first fault.
+        fault: DumpFault,
+        /// The number of the line at fault, counted from 1. Of bytes that were cut off it is how many whole lines they have.
+        line: u32,
+    },
+    /// The tables of a dump's memory have this first fault.
+    Tables(ScanFault),
     /// The sink failed.
     WriteFault,
     /// Memory ran out.
@@ -44,6 +55,8 @@ impl Fault {
             Fault::Description(_) => Status::DescriptionRefused,
             Fault::Container(_) => Status::ImageRefused,
             Fault::Load(fault) => status_of_load(*fault),
+            Fault::Dump { .. } => Status::DumpRefused,
+            Fault::Tables(_) => Status::TablesRefused,
             Fault::WriteFault => Status::WriteFault,
             Fault::OutOfMemory => Status::OutOfMemory,
             Fault::InputTooLong => Status::InputTooLong,
@@ -61,6 +74,8 @@ impl Fault {
             Fault::Description(refused) => refused.line(),
             Fault::Container(refused) => container_line(*refused),
             Fault::Load(fault) => load_line(*fault),
+            Fault::Dump { fault, line } => dump_line(*fault, *line),
+            Fault::Tables(fault) => tables_line(*fault),
             Fault::WriteFault => words("write fault\n"),
             Fault::OutOfMemory => words("out of memory\n"),
             Fault::InputTooLong => words("input too long\n"),
@@ -153,5 +168,18 @@ impl From<LoadFault> for Fault {
 
     fn from(fault: LoadFault) -> Fault {
         Fault::Load(fault)
+    }
+}
+
+impl From<ScanFault> for Fault {
+    ghost use Rattle.vmtables.specs.Causes.{IsOfTables};
+
+    ghost from_gives = { IsOfTables };
+
+    fn from(fault: ScanFault) -> Fault {
+        match fault {
+            ScanFault::OutOfMemory => Fault::OutOfMemory,
+            refused => Fault::Tables(refused),
+        }
     }
 }

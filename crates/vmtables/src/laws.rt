@@ -6,7 +6,7 @@ ghost use Rattle.vt_words.specs.declared.command.Command.TheVariants.{Boot};
 ghost use Rattle.vt_words.specs.declared.setting.Setting.{Setting};
 ghost use Rattle.command_acts.specs.Allocators.{MayAnswer};
 ghost use Rattle.vmtables.specs.Calls.{Answered, Seen};
-ghost use Rattle.vmtables.specs.Complete.{IsBootComplete, IsBuildComplete, IsLoadComplete};
+ghost use Rattle.vmtables.specs.Complete.{IsBootComplete, IsBootListed, IsBuildComplete, IsDecodeComplete, IsDecodeExact, IsDecodeListed, IsLoadComplete};
 ghost use Rattle.vmtables.specs.Does.{Does};
 ghost use Rattle.vmtables.specs.Shelf.{shelf_answers};
 ghost use Rattle.vmtables.specs.declared.status.Status.{Status};
@@ -36,4 +36,23 @@ pub fn build_is_complete<A: ZoneAlloc>()
 /// read, no write, no flush and no place failed.
 pub fn load_is_complete<A: ZoneAlloc>()
     ensures { IsLoadComplete (MayAnswer A.state A.gives) }
+{}
+
+/// States that `decode --list` of the dump of a memory whose tables have no fault is done, and that it writes the list of the inventory that
+/// the memory shows, unless memory ran out, where no read, no write and no flush failed.
+pub fn decode_is_complete<A: ZoneAlloc>()
+    ensures done { IsDecodeComplete (MayAnswer A.state A.gives) }
+    ensures listed { IsDecodeListed (MayAnswer A.state A.gives) }
+{}
+
+/// States that `decode --list` of bytes that are no dump, or of the dump of a memory whose tables have a fault, tells that fault, unless
+/// memory ran out, where no read, no write and no flush failed.
+pub fn decode_tells_each_fault<A: ZoneAlloc>()
+    ensures { IsDecodeExact (MayAnswer A.state A.gives) }
+{}
+
+/// States that `decode --list` of what `boot` wrote of a description writes the list of what the machine shows that is described, unless
+/// memory ran out, where no read, no write and no flush failed. The allocators of the two calls may differ.
+pub fn a_booted_machine_is_listed<A: ZoneAlloc, B: ZoneAlloc>()
+    ensures { IsBootListed (MayAnswer A.state A.gives) (MayAnswer B.state B.gives) }
 {}

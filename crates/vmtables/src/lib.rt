@@ -1,14 +1,16 @@
-//! The top call of the program: words and a description or a container in, the dump of a guest's memory or a container out.
+//! The top call of the program: words and a description, a container or a dump in, the dump of a guest's memory, a container or a list out.
 //!
 //! `boot` reads a machine's description (TOML), builds the files that a firmware loads (SMBIOS structures and
 //! their anchor, DSP0134; ACPI tables) and the script that places, patches and checksums them, runs that script on the memory
 //! of a guest, and writes the memory as text. `build` writes these files as one container. `load` reads a container, made here or
-//! elsewhere, and runs its script in the same way.
+//! elsewhere, and runs its script in the same way. `decode --list` reads the dump of a guest's memory, and lists what the guest finds
+//! there.
 #![tactic(auto)]
 
 mod boot_command;
 mod build_command;
 mod carrying_out;
+mod decode_command;
 mod describing;
 mod fault;
 mod input;

@@ -1,11 +1,14 @@
 //! The lines that tell faults to a person, put together on the stack.
 
 ghost use Rattle.std.specs.Prelude.{◌≡◌, ◌≤◌, ◌++◌, ◌∷◌, [], codes, decimal, length};
-ghost use Rattle.vmtables.specs.Outcome.{cause_number, container_line, container_number, load_line};
+ghost use Rattle.vmtables.specs.Outcome.{cause_number, container_line, container_number, dump_line, dump_number, load_line, tables_line};
 
+use anchor_scan::ScanFault;
 use cfg_directory::ImageFault;
 use command_acts::LoadFault;
 use loader_script::Cause;
+use memory_dump::DumpFault;
+use scan_text::{acpi_line, smbios_line};
 use vt_outside::{Line, numbered_line, words};
 
 /// The line of a container that is refused: the number of its fault.
@@ -74,5 +77,45 @@ fn cause_number(cause: Cause) -> u8
         Cause::ReadOnly => 9,
         Cause::OutOfRange => 10,
         Cause::TooFar => 11,
+    }
+}
+
+/// The line of bytes that are no dump: the number of their fault, and that of the line at fault.
+pub(crate) fn dump_line(fault: DumpFault, number: u32) -> Line
+    ensures { result.bytes ≡ dump_line fault number }
+{
+    let mut digits = itoa::Buffer::new();
+    let mut line = Line::new();
+    line.push_str("dump: fault ");
+    line.push_str(digits.format(dump_number(fault)));
+    line.push_str(" line ");
+    line.push_str(digits.format(number));
+    line.push_str("\n");
+    line
+}
+
+// The number of a dump's fault, in the order of the faults. Want of memory is none of them.
+fn dump_number(fault: DumpFault) -> u8
+    ensures { result ≡ dump_number fault }
+{
+    match fault {
+        DumpFault::BadHeader => 1,
+        DumpFault::BadLine(_) => 2,
+        DumpFault::OutOfOrder(_) => 3,
+        DumpFault::AllFill(_) => 4,
+        DumpFault::NotRam(_) => 5,
+        DumpFault::Truncated => 6,
+        DumpFault::OutOfMemory => 0,
+    }
+}
+
+/// The line of the first fault of a memory's tables.
+pub(crate) fn tables_line(fault: ScanFault) -> Line
+    ensures { result.bytes ≡ tables_line fault }
+{
+    match fault {
+        ScanFault::Acpi(fault) => acpi_line(fault),
+        ScanFault::Smbios(fault) => smbios_line(fault),
+        ScanFault::OutOfMemory => words("out of memory\n"),
     }
 }

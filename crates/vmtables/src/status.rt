@@ -16,6 +16,10 @@ pub enum Status {
     NoRoom = 4,
     /// The bytes are no container, its script is missing or has no script's length, or a command is refused.
     ImageRefused = 5,
+    /// The bytes are no dump.
+    DumpRefused = 6,
+    /// The tables of the dump's memory have a fault.
+    TablesRefused = 7,
     /// The sink failed. It took a part of the output from its front.
     WriteFault = 8,
     /// Memory ran out.

@@ -1,6 +1,3 @@
-pub mod Decimals
-pub mod Steps
-pub mod Orders
 pub mod Lawful
-pub mod Spelled
-pub mod Once
+pub mod Rounds
+pub mod Choosing

@@ -1,42 +1,54 @@
 -- Which words are which command.
-use Rattle.std.specs.Prelude.{ℕ, ◌≤◌, ⊤, List, [], ◌∷◌, Option, Some, None, codes, if◌then◌else◌}
+use Rattle.std.specs.Prelude.{ℕ, ◌≤◌, ⊤, List, [], ◌∷◌, Option, None, option_map}
+use Rattle.std.specs.List.{find}
 use Rattle.std.specs.Option.{option_and_then}
 use Rattle.std.specs.Str.{bytes_eq}
+use Rattle.word_schema.specs.declared.value.Value.{Value}
+use Rattle.word_schema.specs.Forms.{Schema}
+use Rattle.word_schema.specs.Given.{values_of}
+use Rattle.word_schema.specs.Taken.{first, rest, number_to}
 use Rattle.vt_words.specs.declared.command.Command.{Command}
-use Rattle.vt_words.specs.declared.command.Command.TheVariants.{Boot, Load, Build}
-use Rattle.vt_words.specs.Numbers.{number_within}
-use Rattle.vt_words.specs.Options.{Given, are_among, have_values, options_of, value_of}
-use Rattle.vt_words.specs.Settings.{IsSetting, setting_names, setting_of}
+use Rattle.vt_words.specs.declared.command.Command.TheVariants.{Boot, Load, Build, Decode}
+use Rattle.vt_words.specs.Rows.{boot, build, decode, load}
+use Rattle.vt_words.specs.Settings.{IsSetting, setting_of}
 
--- the top of memory, in MiB
-abbrev pub top_of : List Given → Option ℕ
-top_of options = option_and_then (number_within 64 3072) (value_of (codes "--top") (codes "64") options)
+-- What each command is with the values of its words, which stand in the order of its options.
+abbrev pub build_of : List Value → Command
+build_of values = Build
 
--- The commands: the names of the options of each, and what it is with their values.
-abbrev pub boot_of : List Given → Option Command
-boot_of options = if are_among setting_names options then option_and_then (λ setting. Some (Boot setting)) (setting_of options) else None
+abbrev pub boot_of : List Value → Command
+boot_of values = Boot (setting_of values)
 
-abbrev pub load_of : List Given → Option Command
-load_of options = if are_among (codes "--top" ∷ setting_names) options
-    then option_and_then (λ top_mib. option_and_then (λ setting. Some (Load top_mib setting)) (setting_of options)) (top_of options) else None
+abbrev pub load_of : List Value → Command
+load_of values = Load (number_to 3072 (first values)) (setting_of (rest values))
 
-abbrev pub build_of : List Given → Option Command
-build_of options = if are_among [] options then Some Build else None
+abbrev pub decode_of : List Value → Command
+decode_of values = Decode
 
--- the command of a name and options
-abbrev pub command_with : List ℕ → List Given → Option Command
-command_with name options =
-    if bytes_eq name (codes "boot") then boot_of options
-    else if bytes_eq name (codes "load") then load_of options
-    else if bytes_eq name (codes "build") then build_of options else None
+-- a command's words, and what it is with their values
+pub record CommandRow : Type 0 where
+  pub schema : Schema
+  pub make : List Value → Command
 
--- The command that the words are: its name, and its options. None where they are no command.
+abbrev pub row : Schema → (List Value → Command) → CommandRow
+row schema make = record { schema = schema; make = make }
+
+-- the commands
+abbrev pub commands : List CommandRow
+commands = row build build_of ∷ row boot boot_of ∷ row load load_of ∷ row decode decode_of ∷ []
+
+-- the command of a name
+abbrev pub command_named : List ℕ → Option CommandRow
+command_named name = find (λ command. bytes_eq name command.schema.name) commands
+
+-- The command that the words are: its name, and words of it. None where they are no command.
 abbrev pub command_of : List (List ℕ) → Option Command
 command_of [] = None
-command_of (name ∷ words) = if have_values words then command_with name (options_of words) else None
+command_of (name ∷ words) = option_and_then (λ command. option_map command.make (values_of command.schema words)) (command_named name)
 
 -- a command whose values are in range
 abbrev pub IsLawful : Command → Type 0
 IsLawful (Boot setting) = IsSetting setting
 IsLawful (Load top_mib setting) = (64 ≤ top_mib) × (top_mib ≤ 3072) × IsSetting setting
 IsLawful Build = ⊤
+IsLawful Decode = ⊤

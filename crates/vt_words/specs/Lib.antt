@@ -1,5 +1,4 @@
-pub mod Numbers
-pub mod Options
+pub mod Rows
 pub mod Policies
 pub mod Settings
 pub mod Command

@@ -1,23 +1,27 @@
 -- The words of a command.
-use Rattle.std.specs.Prelude.{ℕ, ◌/◌, ◌%◌, List, [], ◌∷◌, codes}
-use Rattle.std.specs.Char.{digit_char}
-use Rattle.std.specs.Fmt.{decimal}
+use Rattle.std.specs.Prelude.{ℕ, true, List, [], ◌∷◌}
+use Rattle.word_schema.specs.declared.value.Value.{Value}
+use Rattle.word_schema.specs.declared.value.Value.TheVariants as values
+use Rattle.word_schema.specs.Written.{written}
 use Rattle.vt_words.specs.declared.command.Command.{Command}
-use Rattle.vt_words.specs.declared.command.Command.TheVariants.{Boot, Load, Build}
-use Rattle.vt_words.specs.declared.setting.Setting.{Setting}
-use Rattle.vt_words.specs.Policies.{word_of}
+use Rattle.vt_words.specs.declared.command.Command.TheVariants.{Boot, Load, Build, Decode}
+use Rattle.vt_words.specs.Command.{CommandRow, row, boot_of, build_of, decode_of, load_of}
+use Rattle.vt_words.specs.Rows.{boot, build, decode, load}
+use Rattle.vt_words.specs.Settings.{setting_values}
 
--- the two digits of a byte
-abbrev pub hex_digits : ℕ → List ℕ
-hex_digits byte = digit_char (byte / 16) ∷ digit_char (byte % 16) ∷ []
+-- the row of a command, and its values
+abbrev pub row_of : Command → CommandRow
+row_of (Boot setting) = row boot boot_of
+row_of (Load top_mib setting) = row load load_of
+row_of Build = row build build_of
+row_of Decode = row decode decode_of
 
--- a setting, each of its values as an option
-abbrev pub words_of_setting : Setting → List (List ℕ)
-words_of_setting s =
-    codes "--fill" ∷ hex_digits s.fill ∷ codes "--policy" ∷ word_of s.policy ∷ codes "--seed" ∷ decimal s.seed ∷ []
+abbrev pub values_for : Command → List Value
+values_for (Boot setting) = setting_values setting
+values_for (Load top_mib setting) = values.Number top_mib ∷ setting_values setting
+values_for Build = []
+values_for Decode = values.Flag true ∷ []
 
--- a command with each of its options
+-- a command's name, and each option whose value isn't its default
 abbrev pub words_of : Command → List (List ℕ)
-words_of (Boot setting) = codes "boot" ∷ words_of_setting setting
-words_of (Load top_mib setting) = codes "load" ∷ codes "--top" ∷ decimal top_mib ∷ words_of_setting setting
-words_of Build = codes "build" ∷ []
+words_of command = (row_of command).schema.name ∷ written (row_of command).schema (values_for command)

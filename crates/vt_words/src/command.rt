@@ -1,10 +1,11 @@
-ghost use Rattle.std.specs.Prelude.{◌≡◌, ◌≤◌, map, string_bytes, IfSome};
-ghost use Rattle.vt_words.specs.Command.{IsLawful, boot_of, build_of, command_of, load_of, top_of};
-ghost use Rattle.vt_words.specs.Options.{options_of};
+ghost use Rattle.std.specs.Prelude.{◌≡◌, ◌∷◌, map, string_bytes, option_map, IfSome};
+ghost use Rattle.word_schema.specs.Given.{values_of};
+ghost use Rattle.vt_words.specs.Command.{IsLawful, boot_of, build_of, command_of, decode_of, load_of};
+ghost use Rattle.vt_words.specs.Rows.{boot, build, decode, load};
 
-use crate::numbers::number_within;
-use crate::options::{are_among, have_values, value_of};
-use crate::setting::{Setting, setting_of};
+use crate::rows::{BOOT, BUILD, DECODE, LOAD};
+use crate::setting::Setting;
+use word_schema::read_values;
 
 /// What the words of a command line ask for.
 #[derive(Clone, Copy, Debug, PartialEq, Eq)]
@@ -20,64 +21,65 @@ pub enum Command {
     },
     /// Builds a machine's files, and gives their container.
     Build,
+    /// Reads a dump, and lists what its memory shows.
+    Decode,
 }
 
 /// Reads `words`, those after the program's name, as a command and its options. Returns `None` where they are none: no word, another
-/// command, an option that the command doesn't have or that stands there twice, a name without a value, or a value that the option
-/// can't have.
+/// command, a word in an option's place that names none of the command's, an option that stands there twice, a name without its value,
+/// a value that the option can't have, an option that must be given and isn't, or two that exclude each other. Takes no memory.
 pub fn read_words(words: &[String]) -> Option<Command>
     ensures command { result ≡ command_of (map string_bytes words.now) }
     ensures lawful { IfSome result IsLawful }
 {
-    let (name, options) = words.split_first()?;
-    if !have_values(options) {
-        return None;
-    }
-    match name.as_str() {
-        "boot" => boot_of(options),
-        "load" => load_of(options),
-        "build" => build_of(options),
-        _ => None,
+    let (name, words) = words.split_first()?;
+    command_with(name.as_str(), words)
+}
+
+// The command of this name, with the words behind it.
+fn command_with(name: &str, words: &[String]) -> Option<Command>
+    ensures { result ≡ command_of (name.now ∷ map string_bytes words.now) }
+{
+    if *name == *BUILD.name {
+        build_of(words)
+    } else if *name == *BOOT.name {
+        boot_of(words)
+    } else if *name == *LOAD.name {
+        load_of(words)
+    } else if *name == *DECODE.name {
+        decode_of(words)
+    } else {
+        None
     }
 }
 
-fn boot_of(options: &[String]) -> Option<Command>
-    ensures command { result ≡ boot_of (options_of (map string_bytes options.now)) }
-    ensures lawful { IfSome result IsLawful }
+fn build_of(words: &[String]) -> Option<Command>
+    ensures { result ≡ option_map build_of (values_of build (map string_bytes words.now)) }
 {
-    if !are_among(&["--fill", "--policy", "--seed"], options) {
-        return None;
-    }
-    Some(Command::Boot(setting_of(options)?))
-}
-
-fn load_of(options: &[String]) -> Option<Command>
-    ensures command { result ≡ load_of (options_of (map string_bytes options.now)) }
-    ensures lawful { IfSome result IsLawful }
-{
-    if !are_among(&["--top", "--fill", "--policy", "--seed"], options) {
-        return None;
-    }
-    let top_mib = top_of(options)?;
-    let setting = setting_of(options)?;
-    Some(Command::Load { top_mib, setting })
-}
-
-fn build_of(options: &[String]) -> Option<Command>
-    ensures command { result ≡ build_of (options_of (map string_bytes options.now)) }
-    ensures lawful { IfSome result IsLawful }
-{
-    if !are_among(&[], options) {
-        return None;
-    }
+    let _values = read_values(&BUILD, words)?;
     Some(Command::Build)
 }
 
-// The top of memory that the options give, in MiB.
-fn top_of(options: &[String]) -> Option<u32>
-    ensures top { result ≡ top_of (options_of (map string_bytes options.now)) }
-    ensures lawful { IfSome result (λ top_mib. (64 ≤ top_mib) × (top_mib ≤ 3072)) }
+fn boot_of(words: &[String]) -> Option<Command>
+    ensures { result ≡ option_map boot_of (values_of boot (map string_bytes words.now)) }
 {
-    let top_mib = number_within(64, 3072, value_of("--top", "64", options)?)?;
-    Some(top_mib as u32)
+    let mut values = read_values(&BOOT, words)?;
+    Some(Command::Boot(Setting::take(&mut values)))
+}
+
+fn load_of(words: &[String]) -> Option<Command>
+    ensures { result ≡ option_map load_of (values_of load (map string_bytes words.now)) }
+{
+    let mut values = read_values(&LOAD, words)?;
+    Some(Command::Load {
+        top_mib: values.take_number(3072) as u32,
+        setting: Setting::take(&mut values),
+    })
+}
+
+fn decode_of(words: &[String]) -> Option<Command>
+    ensures { result ≡ option_map decode_of (values_of decode (map string_bytes words.now)) }
+{
+    let _values = read_values(&DECODE, words)?;
+    Some(Command::Decode)
 }

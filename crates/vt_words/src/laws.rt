@@ -1,28 +1,37 @@
-//! Laws over the definitions, each the contract of a function that does nothing.
+//! Laws over the definitions, each the contract of a function that does nothing. They go over the list of commands, and name none.
 
-ghost use Rattle.std.specs.Prelude.{◌≡◌, ℕ, ◌<◌, ◌≤◌, ◌^◌, ◌↔◌, true, List, ◌∷◌, Some, IfSome, IsSome, map};
-ghost use Rattle.std.specs.List.{IsDistinct};
-ghost use Rattle.std.specs.Str.{bytes_eq};
-ghost use Rattle.std.specs.Fmt.{decimal};
+ghost use Rattle.std.specs.Prelude.{◌≡◌, ℕ, ◌↔◌, true, List, ◌∷◌, ◌++◌, length, drop, map, Some, IfSome, IsSome};
+ghost use Rattle.std.specs.List.{list_all};
 ghost use Rattle.std.specs.List.Sorted.{IsPermutation};
+ghost use Rattle.word_schema.specs.Choices.{IsChoice};
+ghost use Rattle.word_schema.specs.Fits.{are_distinct, is_sound};
+ghost use Rattle.word_schema.specs.Given.{Given, given_by};
 ghost use Rattle.vt_words.specs.declared.command.Command.{Command};
-ghost use Rattle.vt_words.specs.Command.{IsLawful, command_of};
-ghost use Rattle.vt_words.specs.Numbers.{byte_of, number_within};
-ghost use Rattle.vt_words.specs.Options.{have_values, options_of};
+ghost use Rattle.vt_words.specs.Command.{CommandRow, IsLawful, command_named, command_of, commands};
 ghost use Rattle.zone_alloc.specs.declared.policy.Policy.{Policy};
 ghost use Rattle.vt_words.specs.Policies.{policy_named, word_of, HasSeed};
-ghost use Rattle.vt_words.specs.Written.{hex_digits, words_of};
+ghost use Rattle.vt_words.specs.Written.{words_of};
 
-/// States that words are the same command in whatever order its options stand.
-pub fn options_stand_in_any_order()
-    ensures { (name : List ℕ) (words others : List (List ℕ)) → have_values words ≡ true → have_values others ≡ true
-        → IsPermutation (options_of words) (options_of others) → command_of (name ∷ words) ≡ command_of (name ∷ others) }
+/// States that the commands' names differ, and that each command's rows are sound: the names of its options differ, and each default is
+/// a value of its option.
+pub fn commands_are_sound()
+    ensures names { are_distinct (map (λ command. command.schema.name) commands) ≡ true }
+    ensures rows { list_all (λ command. is_sound command.schema) commands ≡ true }
 {}
 
-/// States that no option of a command is given twice.
+/// States that words are the same command in whatever order its options stand behind its operands.
+pub fn options_stand_in_any_order()
+    ensures { (name : List ℕ) (command : CommandRow) (front words others : List (List ℕ)) (given moved : List Given)
+        → command_named name ≡ Some command → length front ≡ length command.schema.operands
+        → given_by command.schema.options words ≡ Some given → given_by command.schema.options others ≡ Some moved → IsPermutation given moved
+        → command_of (name ∷ front ++ words) ≡ command_of (name ∷ front ++ others) }
+{}
+
+/// States that no option of a command is given twice, that each is one of the command's, and that no two exclude each other.
 pub fn each_option_is_given_once()
     ensures { (name : List ℕ) (words : List (List ℕ)) → IsSome (command_of (name ∷ words))
-        → IsDistinct bytes_eq (map (λ option. option.name) (options_of words)) }
+        → (command : CommandRow) × (given : List Given) × (command_named name ≡ Some command)
+        × (given_by command.schema.options (drop (length command.schema.operands) words) ≡ Some given) × IsChoice command.schema given }
 {}
 
 /// States that a command that words are is lawful.
@@ -33,18 +42,6 @@ pub fn commands_are_lawful()
 /// States that each lawful command is what some words are.
 pub fn each_lawful_command_has_words()
     ensures { (command : Command) → IsLawful command → command_of (words_of command) ≡ Some command }
-{}
-
-/// States that a word is a byte exactly where it's that byte's two hexadecimal digits.
-pub fn bytes_are_two_digits()
-    ensures { (word : List ℕ) (byte : ℕ) → (byte_of word ≡ Some byte)
-        ↔ ((byte < 256) × (word ≡ hex_digits byte)) }
-{}
-
-/// States that a word is a number within bounds exactly where it's the number as it's written in decimal.
-pub fn numbers_are_decimal()
-    ensures { (least most number : ℕ) (word : List ℕ) → most < 2 ^ 64 → (number_within least most word ≡ Some number)
-        ↔ ((word ≡ decimal number) × (least ≤ number) × (number ≤ most)) }
 {}
 
 /// States that a word is a policy exactly where it's that policy's name, and the policy has no seed but that of the words.

@@ -1,30 +1,17 @@
-//! The words of the command line, and the command that they are.
+//! The commands of the program, and the words of a command line that are each of them.
 //!
-//! The first word names a command. Behind it stand the command's options, in any order and each at most once, as two words: the
-//! option's name and its value. An option that isn't there has its default.
-//!
-//! | command | options |
-//! |---|---|
-//! | `build` | |
-//! | `boot` | `--fill`, `--policy`, `--seed` |
-//! | `load` | `--fill`, `--top`, `--policy`, `--seed` |
-//!
-//! | option | its values | default |
-//! |---|---|---|
-//! | `--fill` | a byte: two hexadecimal digits, of which letters are lower-case | `00` |
-//! | `--top` | a number of MiB from 64 to 3072: decimal digits, with no sign and no zero in front | `64` |
-//! | `--policy` | how the guest's allocator chooses places: `low`, `top` or `scatter` | `low` |
-//! | `--seed` | a number below 2^64: decimal digits, with no sign and no zero in front, except for `0` alone | `0` |
-//!
-//! `read_words` gives the command exactly where the words are one. The order of options doesn't matter, which a law says.
+//! The first word names a command. What may stand behind it is said by the command's row: `commands` has a row for each command, and
+//! the row has one for each option, with its values, its default and its help (`word_schema`). `read_words` reads words by these rows,
+//! and gives the command exactly where the words are one. So an option is a row, and a place in the record that takes its value.
+//! The order of options doesn't matter, and no option is given twice, which laws say of all commands at once.
 #![tactic(auto)]
 
 mod command;
 pub mod laws;
-mod numbers;
-mod options;
 mod policy;
+mod rows;
 mod setting;
 
 pub use command::{Command, read_words};
+pub use rows::commands;
 pub use setting::Setting;

@@ -1,17 +1,15 @@
-ghost use Rattle.std.specs.Prelude.{◌≡◌, IfSome};
-ghost use Rattle.vt_words.specs.Policies.{policy_named, HasSeed};
+ghost use Rattle.std.specs.Prelude.{◌≡◌};
+ghost use Rattle.vt_words.specs.Policies.{policy_at};
 
 use zone_alloc::Policy;
 
-// The policy of which `word` is the name, where `seed` is that of the words.
-pub(crate) fn policy_named(seed: u64, word: &str) -> Option<Policy>
-    ensures policy { result ≡ policy_named seed word.now }
-    ensures seed { IfSome result (HasSeed seed) }
+// The policy whose name stands at `place` among the words of its option, where `seed` is that of the words.
+pub(crate) fn policy_at(seed: u64, place: usize) -> Policy
+    ensures { result ≡ policy_at seed place }
 {
-    match word {
-        "low" => Some(Policy::Low),
-        "top" => Some(Policy::Top),
-        "scatter" => Some(Policy::Scatter(seed)),
-        _ => None,
+    match place {
+        0 => Policy::Low,
+        1 => Policy::Top,
+        _ => Policy::Scatter(seed),
     }
 }

@@ -1,7 +1,6 @@
-use Rattle.std.proofs.Common.{refl}
 use Rattle.command_acts.specs.Allocators.{MayAnswer}
 use Rattle.vmtables.specs.Boot.{BootMakes, booted}
-use Rattle.vmtables.proofs.Endings.{cut_off, ended_so, refused, dump_wrote, dump_streams, quiet_streams}
+use Rattle.vmtables.proofs.Endings.{cut_off, ended_so, refused, dump_wrote, dump_streams, world_dumped, quiet_streams}
 use Rattle.vmtables.proofs.QuietFaults.{boot_quiet}
 use Rattle.vmtables.proofs.boot_command.boot.Goals as goal
 
@@ -25,7 +24,7 @@ returns-clause-ran g c =
     let written = c.write_dump.ensures in
     let is = rw c.as_slice.ensures at c.in_ok-load_machine.ensures.ok in
     dump_wrote (BootMakes (MayAnswer g.A.ZoneAlloc.state g.A.ZoneAlloc.gives) c.args.setting.now) c.write_dump.result c.in_ok-bytes.bytes is.loaded.world _ _ _ _ _ _
-    (ended_so _ _ _ read.given read.end read.ended) is.loaded.world_is (booted is refl) written.ok written.fault written.front
+    (ended_so _ _ _ read.given read.end read.ended) is.loaded.world_is (booted is (world_dumped _ _ is.loaded.world_is written.lawful written.holds)) written.ok written.fault written.front
 
 pub returns-clause-streams : goal.returns-clause-streams
 returns-clause-streams g c =

@@ -1,7 +1,7 @@
 use Rattle.std.proofs.Common.{refl}
 use Rattle.command_acts.specs.Allocators.{MayAnswer}
 use Rattle.vmtables.specs.Load.{LoadMakes, loaded}
-use Rattle.vmtables.proofs.Endings.{cut_off, ended_so, refused, dump_wrote, dump_streams, quiet_streams}
+use Rattle.vmtables.proofs.Endings.{cut_off, ended_so, refused, dump_wrote, dump_streams, world_dumped, quiet_streams}
 use Rattle.vmtables.proofs.QuietFaults.{container_quiet}
 use Rattle.vmtables.proofs.load_command.load.Goals as goal
 
@@ -25,7 +25,7 @@ returns-clause-ran g c =
     let written = c.write_dump.ensures in
     let is = c.in_ok-load_container.ensures.ok in
     dump_wrote (LoadMakes (MayAnswer g.A.ZoneAlloc.state g.A.ZoneAlloc.gives) c.args.top_mib c.args.setting.now) c.write_dump.result c.in_ok-bytes.bytes is.2.world _ _ _ _ _ _
-    (ended_so _ _ _ read.given read.end read.ended) is.2.world_is (loaded is.0 is.1 is.2 refl) written.ok written.fault written.front
+    (ended_so _ _ _ read.given read.end read.ended) is.2.world_is (loaded is.0 is.1 is.2 (world_dumped _ _ is.2.world_is written.lawful written.holds)) written.ok written.fault written.front
 
 pub returns-clause-streams : goal.returns-clause-streams
 returns-clause-streams g c =

@@ -1,4 +1,4 @@
-use Rattle.vt_words.proofs.Spelled.{read_command}
+use Rattle.vt_words.proofs.Rounds.{read_command}
 use Rattle.vt_words.proofs.laws.each_lawful_command_has_words.Goals as goal
 
 pub returns : goal.returns

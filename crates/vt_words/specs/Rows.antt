@@ -1,0 +1,56 @@
+-- The commands and their options, without the texts of their help.
+use Rattle.std.specs.Prelude.{ℕ, ◌-◌, ◌^◌, List, [], ◌∷◌, Some, None, codes}
+use Rattle.word_schema.specs.declared.value.Value.{Value}
+use Rattle.word_schema.specs.declared.value.Value.TheVariants as values
+use Rattle.word_schema.specs.Forms.{Form, Byte, Number, Word, Row, Schema, Flag, Valued}
+
+-- an option with a value that has a default
+abbrev pub valued : List ℕ → Form → Value → Row
+valued name form default = record { name = name; kind = Valued form; default = Some default }
+
+-- a flag that must be given
+abbrev pub required_flag : List ℕ → Row
+required_flag name = record { name = name; kind = Flag; default = None }
+
+-- a command with no operands, and no options that exclude each other
+abbrev pub command : List ℕ → List Row → Schema
+command name options = record { name = name; operands = []; options = options; exclusive = [] }
+
+-- the top of memory, in MiB
+abbrev pub top_row : Row
+top_row = valued (codes "--top") (Number 64 3072) (values.Number 64)
+
+-- what each byte of memory is at the beginning
+abbrev pub fill_row : Row
+fill_row = valued (codes "--fill") Byte (values.Number 0)
+
+-- the policy of the guest's allocator, by its name
+abbrev pub policy_names : List (List ℕ)
+policy_names = codes "low" ∷ codes "top" ∷ codes "scatter" ∷ []
+
+abbrev pub policy_row : Row
+policy_row = valued (codes "--policy") (Word policy_names) (values.Word 0)
+
+-- the seed, any number of 64 bits
+abbrev pub seed_row : Row
+seed_row = valued (codes "--seed") (Number 0 (2 ^ 64 - 1)) (values.Number 0)
+
+-- the options of commands that load files
+abbrev pub setting_rows : List Row
+setting_rows = fill_row ∷ policy_row ∷ seed_row ∷ []
+
+-- that a list is wanted
+abbrev pub list_row : Row
+list_row = required_flag (codes "--list")
+
+abbrev pub build : Schema
+build = command (codes "build") []
+
+abbrev pub boot : Schema
+boot = command (codes "boot") setting_rows
+
+abbrev pub load : Schema
+load = command (codes "load") (top_row ∷ setting_rows)
+
+abbrev pub decode : Schema
+decode = command (codes "decode") (list_row ∷ [])

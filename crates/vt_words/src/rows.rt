@@ -1,0 +1,119 @@
+//! The commands and their options as data: a row for each, with the texts of its help.
+
+ghost use Rattle.std.specs.Prelude.{◌≡◌, map};
+ghost use Rattle.word_schema.specs.Forms.{schema_of};
+ghost use Rattle.vt_words.specs.Command.{commands};
+
+use word_schema::{CommandSchema, Form, Kind, OptionSchema, Value};
+
+// An option with a value: its name, what stands for the value in the help, what the value is to be, and what it is where it's left out.
+macro_rules! valued {
+    ($name:literal, $placeholder:literal, $form:expr, $default:expr, $about:literal) => {
+        OptionSchema {
+            name: $name,
+            kind: Kind::Valued($form),
+            default: Some($default),
+            placeholder: $placeholder,
+            about: $about,
+        }
+    };
+}
+
+const TOP: OptionSchema = valued!(
+    "--top",
+    "M",
+    Form::Number(64, 3072),
+    Value::Number(64),
+    "the top of the guest's memory in MiB"
+);
+
+const FILL: OptionSchema = valued!(
+    "--fill",
+    "XX",
+    Form::Byte,
+    Value::Number(0),
+    "the byte that all memory holds before the load"
+);
+
+const POLICY: OptionSchema = valued!(
+    "--policy",
+    "P",
+    Form::Word(&["low", "top", "scatter"]),
+    Value::Word(0),
+    "which of the free places of its zone a file gets: the lowest, the highest, or one that the seed draws"
+);
+
+const SEED: OptionSchema = valued!(
+    "--seed",
+    "N",
+    Form::Number(0, u64::MAX),
+    Value::Number(0),
+    "the seed of the load's events and of the places of scatter; 0 has no events"
+);
+
+// A flag that must be given: its name.
+macro_rules! required_flag {
+    ($name:literal, $about:literal) => {
+        OptionSchema {
+            name: $name,
+            kind: Kind::Flag,
+            default: None,
+            placeholder: "",
+            about: $about,
+        }
+    };
+}
+
+const LIST: OptionSchema = required_flag!(
+    "--list",
+    "lists the SMBIOS structures and the ACPI tables that a guest finds in this memory"
+);
+
+pub(crate) const BUILD: CommandSchema = CommandSchema {
+    name: "build",
+    operands: &[],
+    options: &[],
+    exclusive: &[],
+    input: "DESCRIPTION",
+    output: "CONTAINER",
+    about: "reads a machine's description (TOML), and writes the files that a firmware loads, in one container",
+};
+
+pub(crate) const BOOT: CommandSchema = CommandSchema {
+    name: "boot",
+    operands: &[],
+    options: &[FILL, POLICY, SEED],
+    exclusive: &[],
+    input: "DESCRIPTION",
+    output: "DUMP",
+    about: "reads a machine's description, builds its files, loads them into a guest's memory, and writes a dump of that memory",
+};
+
+pub(crate) const LOAD: CommandSchema = CommandSchema {
+    name: "load",
+    operands: &[],
+    options: &[TOP, FILL, POLICY, SEED],
+    exclusive: &[],
+    input: "CONTAINER",
+    output: "DUMP",
+    about: "reads a container, loads its files by the script among them into a guest's memory, and writes a dump of that memory",
+};
+
+pub(crate) const DECODE: CommandSchema = CommandSchema {
+    name: "decode",
+    operands: &[],
+    options: &[LIST],
+    exclusive: &[],
+    input: "DUMP",
+    output: "LIST",
+    about: "reads a dump of a guest's memory, and tells what the memory shows from its RSDP and its SMBIOS anchor, or the first fault",
+};
+
+const COMMANDS: &[CommandSchema] = &[BUILD, BOOT, LOAD, DECODE];
+
+/// Returns the rows of the commands, in the order in which the help lists them: those by which `read_words` reads.
+pub fn commands() -> &'static [CommandSchema]
+    ensures { map schema_of result.now ≡ map (λ command. command.schema) commands }
+{
+    COMMANDS
+}

@@ -1,0 +1,13 @@
+pub mod Decimals
+pub mod Mapped
+pub mod Walking
+pub mod Fronts
+pub mod Found
+pub mod Spelling
+pub mod Counting
+pub mod Orders
+pub mod Once
+pub mod Digits
+pub mod Fitting
+pub mod Writing
+pub mod Places

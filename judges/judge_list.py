@@ -1,0 +1,209 @@
+#!/usr/bin/env python3
+"""Judges what `vmtables decode --list` prints of dumps (docs/FORMATS.md) by what dmidecode and iasl tell of the same memory. It is no part
+of the product: it serves the checks of judges/run.sh alone.
+
+usage: judge_list.py PROGRAM dump DUMP          a dump that `boot` made
+       judge_list.py PROGRAM machine MACHINE    the memory of a machine of QEMU, pc or q35, once its firmware is through
+       judge_list.py PROGRAM templates          tables that iasl makes of its own templates
+       judge_list.py PROGRAM files CONTAINER    the tables in the files that a machine of QEMU gives its firmware
+
+PROGRAM stands for ./vmtables. What must hold:
+
+- the version, the types and the handles of the structures are those that dmidecode prints, in its order; each table that the least root
+  pointer of revision 2 leads to is there once, by the signature and the length that iasl tells;
+- a machine's memory, saved by the monitor's pmemsave and made a dump by tools/make_dump.py, has the structures of its firmware, and no ACPI
+  tables, since its root pointer has revision 0; without `smbios-entry-point-type=64` it has no structures, since its anchor has 31 bytes;
+- with a root pointer of revision 2 and an XSDT in it that names its DSDT and the tables of its RSDT, but for the FADT, each of them is
+  listed; with the FADT too, which is shorter than 276 bytes, this is fault 3 at its address;
+- all tables of iasl's templates are listed, but those of LEFT_OUT, and behind an FADT a FACS and a DSDT, too; and so are those in a
+  machine's files, once they sum to zero, but for the FADT and the FACS.
+
+Then some bits are flipped (judges/listed.py), each of which must be found.
+
+Status 0: all of this holds; 1: something doesn't, each with a line; 2: the dump is none, or a tool tells nothing of it; 3: a program isn't
+there, or the machine doesn't answer.
+"""
+
+import pathlib
+import subprocess
+import sys
+import tempfile
+
+sys.path.append(str(pathlib.Path(__file__).resolve().parent.parent / "tools"))  # whose modules the judges share
+
+from listed import SHOWN, NoTool, NotTold, end_faults, judged, list_of, told_by
+from fw_cfg_files import NotAContainer, read_container
+from made_roots import put_root, summed
+from memory_dump import UPPER_WINDOW_SIZE, Memory, NotADump, NotFound, number_at, read_dump, root_pointer, root_table
+from qemu_machine import MACHINES, Machine, NoAnswer
+
+MAKE_DUMP = pathlib.Path(__file__).resolve().parent.parent / "tools" / "make_dump.py"
+
+TOP_MIB = 128
+NEW_ANCHOR = ["-machine", "smbios-entry-point-type=64"]
+
+# What a machine is asked to have beside: the q35 has two nodes, so that it has an SRAT and a SLIT.
+NODES = [
+    *("-object", "memory-backend-ram,id=memory0,size=64M", "-numa", "node,nodeid=0,cpus=0-1,memdev=memory0"),
+    *("-object", "memory-backend-ram,id=memory1,size=64M", "-numa", "node,nodeid=1,cpus=2-3,memdev=memory1"),
+    *("-numa", "dist,src=0,dst=1,val=21"),
+]
+MORE = {"pc": [], "q35": NODES}
+
+# The tables of iasl's templates that an XSDT can't name: the RSDP has no table's header, and the FACS and the S3PT have no sum. The FADT
+# leads to a FACS and a DSDT at address 1, where none stands.
+LEFT_OUT = [b"RSD ", b"FACS", b"S3PT", b"FACP"]
+
+FADT_TEMPLATE_FAULT = "tables: acpi fault 5 at 0000000000000001"
+
+
+def machine_dump(machine_name, options):
+    """The dump that is made of what the monitor saves."""
+    with tempfile.TemporaryDirectory() as folder:
+        low, high = pathlib.Path(folder, "low.bin"), pathlib.Path(folder, "high.bin")
+        with Machine(machine_name, ["-m", str(TOP_MIB), *MORE[machine_name], *options]) as machine:
+            machine.run_firmware()
+            machine.save_memory(0, 0x100000, low)
+            machine.save_memory((TOP_MIB << 20) - UPPER_WINDOW_SIZE, UPPER_WINDOW_SIZE, high)
+        run = subprocess.run([MAKE_DUMP, low, high, str(TOP_MIB)], capture_output=True)
+    if run.returncode != 0:
+        raise NotADump(run.stderr.decode())
+    return run.stdout
+
+
+def rooted(memory, entries):
+    other = memory.copy()
+    put_root(other, entries)
+    return other
+
+
+def named_by_root(memory):
+    """The addresses of a machine's tables by their signatures, as its root pointer of revision 0 leads to them, and of its DSDT."""
+    pointer = root_pointer(memory)
+    if pointer is None or pointer[15] >= 2:
+        raise NotFound("the machine has no root pointer of revision 0")
+    root = root_table(memory, pointer)
+    addresses = [number_at(root, entry, 4) for entry in range(36, len(root), 4)]
+    named = {memory.read(address, 4, "a signature"): address for address in addresses}
+    return named | {b"DSDT": number_at(memory.read(named[b"FACP"] + 40, 4, "the address of the DSDT"), 0, 4)}
+
+
+def judge_memory(program, what, memory):
+    """The faults of a memory's list, each with what the memory is; and a line that says what is right, where nothing is wrong."""
+    faults, count = judged(program, memory)
+    return [f"{what}: {fault}" for fault in faults], f"{what}: {count} lines"
+
+
+def judge_end(program, what, memory, line):
+    return [f"{what}: {fault}" for fault in end_faults(list_of(program, memory), 7, line)], f"{what}: {line}"
+
+
+def judge_dump(program, dump):
+    yield judge_memory(program, "the dump", read_dump(pathlib.Path(dump).read_bytes()))
+
+
+def judge_machine(program, machine_name):
+    memory = read_dump(machine_dump(machine_name, NEW_ANCHOR))
+    if memory.find(b"_SM3_", 0xF0000, 0x100000) is None:
+        raise NotFound("the machine has no SMBIOS anchor of 24 bytes")
+    yield judge_memory(program, "its memory", memory)
+    tables = named_by_root(memory)
+    fadt = tables.pop(b"FACP")
+    yield judge_memory(program, "with an XSDT", rooted(memory, tables.values()))
+    short = f"tables: acpi fault 3 at {fadt:016x}"
+    yield judge_end(program, "with its FADT", rooted(memory, [*tables.values(), fadt]), short)
+    yield judge_memory(program, "with an anchor of 31 bytes", read_dump(machine_dump(machine_name, [])))
+
+
+def templates():
+    """The tables that iasl makes of its templates, by their signatures."""
+    with tempfile.TemporaryDirectory() as folder:
+        told_by(folder, "iasl", "-T", "ALL")
+        told_by(folder, "iasl", *sorted(source.name for source in pathlib.Path(folder).glob("*.asl")))
+        made = [table.read_bytes() for table in sorted(pathlib.Path(folder).glob("*.aml"))]
+    return {table[:4]: table for table in made}
+
+
+def placed(memory, tables):
+    """The addresses of tables, one behind the other in the middle of high memory."""
+    addresses, at = [], memory.top - UPPER_WINDOW_SIZE // 2
+    for table in tables:
+        memory.write(at, table)
+        addresses.append(at)
+        at += len(table)
+    return addresses
+
+
+def judge_templates(program):
+    made = templates()
+    fadt, facs, dsdt = made[b"FACP"], made[b"FACS"], made[b"DSDT"]
+    memory = Memory(64 << 20, 0)
+    addresses = placed(memory, [table for signature, table in made.items() if signature not in LEFT_OUT])
+    yield judge_memory(program, "iasl's templates", rooted(memory, addresses))
+    memory = Memory(64 << 20, 0)
+    facs_at, dsdt_at, fadt_at = placed(memory, [facs, dsdt, fadt])
+    yield judge_end(program, "its FADT", rooted(memory, [fadt_at]), FADT_TEMPLATE_FAULT)
+    links = facs_at.to_bytes(8, "little") + dsdt_at.to_bytes(8, "little")
+    memory.write(fadt_at, summed(fadt[:132] + links + fadt[148:], 9))
+    yield judge_memory(program, "its FADT with a FACS and a DSDT", rooted(memory, [fadt_at, dsdt_at]))
+
+
+def tables_in(content):
+    """The tables that stand one behind the other, up to zeros, each with a header and its length (ACPI 6.5, 5.2.6)."""
+    at = 0
+    while content[at : at + 4].strip(b"\0"):
+        size = number_at(content, at + 4, 4)
+        yield content[at : at + size]
+        at += size
+
+
+def judge_files(program, container):
+    files = read_container(pathlib.Path(container).read_bytes())
+    made = {table[:4]: table for table in tables_in(files["etc/acpi/tables"])}
+    memory = Memory(64 << 20, 0)
+    addresses = placed(memory, [summed(table, 9) for signature, table in made.items() if signature not in LEFT_OUT])
+    yield judge_memory(program, "the tables of its files", rooted(memory, addresses))
+    (fadt,) = placed(memory, [summed(made[b"FACP"], 9)])
+    yield judge_end(program, "its FADT", rooted(memory, [fadt]), f"tables: acpi fault 3 at {fadt:016x}")
+
+
+JUDGES = {"dump": judge_dump, "machine": judge_machine, "templates": judge_templates, "files": judge_files}
+
+
+def report(findings):
+    """Prints what is wrong, or what is right; returns the status."""
+    faults = [fault for found, _ in findings for fault in found]
+    if not faults:
+        print(f"{'; '.join(right for _, right in findings)}; as others tell them, and each flipped bit is found")
+        return 0
+    for line in faults[:SHOWN]:
+        print(line)
+    if faults[SHOWN:]:
+        print(f"and {len(faults) - SHOWN} more")
+    return 1
+
+
+def main(program, kind, *words):
+    try:
+        return report([*JUDGES[kind](program, *words)])
+    except (NoTool, NoAnswer) as refusal:
+        print(f"judge_list.py: {refusal}", file=sys.stderr)
+        return 3
+    except (OSError, NotADump, NotAContainer, NotFound, NotTold) as refusal:
+        print(f"judge_list.py: {refusal}", file=sys.stderr)
+        return 2
+
+
+def is_lawful(words):
+    match words:
+        case [_, "dump", _] | [_, "files", _] | [_, "templates"]:
+            return True
+        case [_, "machine", machine]:
+            return machine in MACHINES
+    return False
+
+
+if __name__ == "__main__":
+    if not is_lawful(sys.argv[1:]):
+        sys.exit("usage: judge_list.py PROGRAM dump DUMP|machine MACHINE|templates|files CONTAINER")
+    sys.exit(main(*sys.argv[1:]))

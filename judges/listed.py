@@ -1,0 +1,179 @@
+"""What other programs tell of a guest's memory, as the lines that `vmtables decode --list` prints of it: dmidecode of the SMBIOS
+structures, and iasl of the ACPI tables; and the judging of a list by that. What the judges of lists share.
+
+A list is judged once more wherever one of these bits is flipped in the memory that the program is given: of the handles of the first and
+the last structure, of the root pointer, and of the last byte of each table that has a sum. The list must then differ, or tell the table's
+address, or else the judge is none.
+"""
+
+import collections
+import itertools
+import pathlib
+import re
+import subprocess
+import sys
+import tempfile
+
+sys.path.append(str(pathlib.Path(__file__).resolve().parent.parent / "tools"))  # whose modules the judges share
+
+from dump_tables import smbios_files
+from memory_dump import dump_text, led_tables, listed_tables, number_at, root_pointer, root_table
+
+# The signatures of tables that have a record, in the order of the list. The tables behind an FADT are told from it alone.
+KNOWN = [b"XSDT", b"FACP", b"FACS", b"DSDT", b"APIC", b"SRAT", b"SLIT", b"HPET"]
+NAMED = [b"FACP", b"APIC", b"SRAT", b"SLIT", b"HPET"]
+
+VERSION = re.compile(r"SMBIOS (\d+\.\d+\.\d+) present\.")
+HANDLE = re.compile(r"Handle 0x([0-9A-F]{4}), DMI type (\d+), \d+ bytes")
+TABLE = re.compile(r"ACPI: (.{4}) 0x0{16} ([0-9A-F]{6})\b")
+
+SHOWN = 5  # of the faults
+
+Listed = collections.namedtuple("Listed", "status out said")
+
+
+class NoTool(Exception):
+    pass
+
+
+class NotTold(Exception):
+    """A tool ends with a fault, or tells something else than it was asked."""
+
+
+def list_of(program, memory):
+    """How `decode --list` of a memory ends. Bytes that are no memory's are given as they are."""
+    given = memory if isinstance(memory, bytes) else dump_text(memory)
+    run = subprocess.run([program, "decode", "--list"], input=given, capture_output=True)
+    return Listed(run.returncode, run.stdout.decode("latin-1"), run.stderr.decode("latin-1"))
+
+
+def told_by(folder, *words):
+    """What a tool prints of files in a folder."""
+    try:
+        run = subprocess.run(words, cwd=folder, stdin=subprocess.DEVNULL, stdout=subprocess.PIPE, stderr=subprocess.STDOUT)
+    except FileNotFoundError as refusal:
+        raise NoTool(f"{words[0]} isn't there") from refusal
+    said = run.stdout.decode("latin-1")
+    if run.returncode != 0:
+        raise NotTold(f"{' '.join(words)} ends with status {run.returncode}: {said}")
+    return said
+
+
+def structure_lines(memory):
+    """The lines of the SMBIOS structures, from the only anchor of 24 bytes on."""
+    files = smbios_files(memory)
+    if not files:
+        return ["smbios none"]
+    with tempfile.TemporaryDirectory() as folder:
+        pathlib.Path(folder, "smbios.bin").write_bytes(files["smbios.bin"])
+        lines = told_by(folder, "dmidecode", "--from-dump", "smbios.bin").splitlines()
+    versions = [found[1] for line in lines if (found := VERSION.fullmatch(line))]
+    structures = [(found[2], found[1].lower()) for line in lines if (found := HANDLE.fullmatch(line))]
+    if len(versions) != 1 or not structures:
+        raise NotTold("dmidecode tells no version or no structure")
+    return [f"smbios {versions[0]} structures {len(structures)}", *(f"type {kind} handle {handle}" for kind, handle in structures)]
+
+
+def told_tables(tables):
+    """The signature and the length that iasl tells of each table. It is given none twice, since it takes all for one machine's."""
+    distinct = list(dict.fromkeys(tables))
+    with tempfile.TemporaryDirectory() as folder:
+        names = [f"{number:04}.aml" for number in range(len(distinct))]
+        for name, table in zip(names, distinct):
+            pathlib.Path(folder, name).write_bytes(table)
+        told = TABLE.findall(told_by(folder, "iasl", "-d", *names))
+    if len(told) != len(distinct):
+        raise NotTold(f"iasl tells of {len(told)} tables in place of {len(distinct)}")
+    of_each = {table: (signature.encode("latin-1"), int(length, 16)) for table, (signature, length) in zip(distinct, told)}
+    return [of_each[table] for table in tables]
+
+
+def shown(text):
+    return "".join(chr(byte) if 0x20 <= byte <= 0x7E else "?" for byte in text)
+
+
+def table_lines(memory):
+    """The lines of the ACPI tables, from the least root pointer on. One of revision 0 leads to none of them."""
+    pointer = root_pointer(memory)
+    if pointer is None or pointer[15] < 2:
+        return ["acpi none"]
+    root = root_table(memory, pointer)
+    named = listed_tables(memory, root)
+    led = [table for fadt in named if fadt[:4] == b"FACP" for table in led_tables(memory, fadt)]
+    told = told_tables([root, *led, *named])
+    (root_told, led_told, named_told) = told[:1], told[1 : 1 + len(led)], told[1 + len(led) :]
+    known = [signature for signature, _ in root_told + led_told] + [signature for signature, _ in named_told if signature in NAMED]
+    rest = [one for one in led_told if one[0] == b"DSDT"] + [one for one in named_told if one[0] not in NAMED]
+    return [
+        f"acpi {shown(pointer[9:15])}",
+        *(f"table {signature.decode()}" for signature in KNOWN if signature in known),
+        *(f"table {shown(signature)} length {length}" for signature, length in rest),
+    ]
+
+
+def told_lines(memory):
+    return structure_lines(memory) + table_lines(memory)
+
+
+def list_faults(listed, told):
+    """What is wrong with a list, where these lines should stand in it."""
+    if listed.status != 0 or listed.said:
+        yield f"decode --list ends with status {listed.status}: {listed.said.strip()}"
+        return
+    if not listed.out.endswith("\n"):
+        yield "the list doesn't end in a line feed"
+    for number, (ours, theirs) in enumerate(itertools.zip_longest(listed.out.splitlines(), told), start=1):
+        if ours != theirs:
+            yield f"line {number} of the list is {ours!r}, and {theirs!r} is told"
+
+
+def end_faults(listed, status, line):
+    """What is wrong with a call that should tell this line alone."""
+    if (listed.status, listed.out, listed.said) != (status, "", f"{line}\n"):
+        yield f"status {listed.status}, {len(listed.out)} bytes and {listed.said.strip()!r}, in place of status {status} and {line!r}"
+
+
+def sum_fault(address):
+    return f"tables: acpi fault 2 at {address:016x}"
+
+
+def flips(memory):
+    """Addresses of bits that a list shows, where they are flipped."""
+    at = memory.find(b"_SM3_", 0xF0000, 0x100000)
+    if at is not None:
+        anchor = memory.read(at, 24, "the SMBIOS anchor")
+        size, table = number_at(anchor, 0x0C, 4), number_at(anchor, 0x10, 8)
+        yield from (table + 2, table + size - 4)
+    pointer = root_pointer(memory)
+    if pointer is not None and pointer[15] >= 2:
+        yield memory.find(b"RSD PTR ", 0xE0000, 0x100000) + 9
+
+
+def summed_tables(memory):
+    """The address and the last byte's of each table with a sum, from a root pointer of revision 2 on."""
+    pointer = root_pointer(memory)
+    if pointer is None or pointer[15] < 2:
+        return
+    address = number_at(pointer, 24, 8)
+    root = root_table(memory, pointer)
+    yield address, address + len(root) - 1
+    for entry in range(36, len(root), 8):
+        address = number_at(root, entry, 8)
+        yield address, address + number_at(memory.read(address + 4, 4, "the length"), 0, 4) - 1
+
+
+def missed_flips(program, memory, told):
+    """The bits whose flipping doesn't change what is said as it should."""
+    for at in flips(memory):
+        if not [*list_faults(list_of(program, memory.flipped(at)), told)]:
+            yield f"no judge: nothing is wrong with a bit flipped at {at:#x}"
+    for address, last in summed_tables(memory):
+        for fault in end_faults(list_of(program, memory.flipped(last)), 7, sum_fault(address)):
+            yield f"with a bit flipped at {last:#x}: {fault}"
+
+
+def judged(program, memory):
+    """Returns what is wrong with the list of a memory, and how many lines it should have."""
+    told = told_lines(memory)
+    faults = [*list_faults(list_of(program, memory), told)]
+    return faults or [*missed_flips(program, memory, told)], len(told)

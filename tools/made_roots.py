@@ -1,0 +1,55 @@
+"""A root pointer of revision 2 and an XSDT (ACPI 6.5, 5.2.5.3 and 5.2.8) to put into a memory, tables for it to name (5.2.6), and an SMBIOS
+anchor (DSP0134 5.2.2): what the judges of lists and the benchmark share.
+"""
+
+import struct
+
+from memory_dump import UPPER_WINDOW_SIZE, NotFound, byte_sum
+
+HEADER = struct.Struct("<4sIBB6s8sI4sI")
+POINTER = struct.Struct("<8sB6sBIIQB3x")
+ANCHOR = struct.Struct("<5sBBBBBBxIQ")
+
+MAKER, MAKERS_TABLE, CREATOR = b"JUDGES", b"OF LISTS", b"LIST"
+
+
+def summed(content, sum_at):
+    """The bytes with one of them such that they sum to zero."""
+    content = bytearray(content)
+    content[sum_at] = (content[sum_at] - byte_sum(content)) % 256
+    return bytes(content)
+
+
+def table_of(signature, body):
+    header = HEADER.pack(signature, HEADER.size + len(body), 1, 0, MAKER, MAKERS_TABLE, 1, CREATOR, 1)
+    return summed(header + body, 9)
+
+
+def xsdt_of(entries):
+    return table_of(b"XSDT", b"".join(entry.to_bytes(8, "little") for entry in entries))
+
+
+def pointer_to(xsdt):
+    pointer = POINTER.pack(b"RSD PTR ", 0, MAKER, 2, 0, POINTER.size, xsdt, 0)
+    return summed(summed(pointer[:20], 8) + pointer[20:], 32)
+
+
+def anchor_of(table, size):
+    return summed(ANCHOR.pack(b"_SM3_", 0, ANCHOR.size, 3, 0, 0, 1, size, table), 5)
+
+
+def free_place(memory, start, end, size):
+    """The least multiple of 16 in a range from which so many bytes stand where memory holds its fill byte alone, row by row."""
+    taken = (size + 15) // 16 * 16
+    for place in range(start, end - taken + 1, 16):
+        if not any(row in memory.rows for row in range(place, place + taken, 16)):
+            return place
+    raise NotFound(f"no place for {size} bytes is free in {start:#x} to {end:#x}")
+
+
+def put_root(memory, entries):
+    """Has a root pointer lead to an XSDT of these entries, both where nothing stands."""
+    xsdt = xsdt_of(entries)
+    place = free_place(memory, memory.top - UPPER_WINDOW_SIZE, memory.top, len(xsdt))
+    memory.write(place, xsdt)
+    memory.write(free_place(memory, 0xE0000, 0x100000, POINTER.size), pointer_to(place))
