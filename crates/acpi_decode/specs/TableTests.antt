@@ -31,7 +31,7 @@ is_xsdt_length total = nat_le 36 total && (((total - 36) % 8 == 0) && nat_le tot
 abbrev pub xsdt_tests : View → ℕ → List Test
 xsdt_tests view address = due_tests (codes "XSDT") is_xsdt_length view address
 
--- a DSDT has a header, and behind it its definition block, of which nothing is tested (5.2.11.1)
+-- a DSDT has a header, and behind it its definition block, of which nothing more is tested (5.2.11.1)
 abbrev pub dsdt_tests : View → ℕ → List Test
 dsdt_tests view address = due_tests (codes "DSDT") (nat_le 36) view address
 

@@ -13,10 +13,7 @@ use Rattle.vt_bytes.proofs.Ranges.{byte_here, byte_later, put_here, put_later}
 abbrev pub held : ℕ → ℕ → List ℕ → List ℕ → List ℕ → Memory
 held top fill low bios high = record { top = top; fill = fill; parts = low ∷ bios ∷ high ∷ [] }
 
--- RAM past the first range and below 1 MiB is in the second, and any past 1 MiB in the third
-pub in_bios : (top a : ℕ) → IsTop top → IsRam top a → 0xA0000 ≤ a → a < 0x100000 → 0xE0000 ≤ a
-in_bios top a lawful ram past below = grind arith
-
+-- RAM past 1 MiB is in the third range
 pub in_high : (top a : ℕ) → IsTop top → IsRam top a → 0x100000 ≤ a → (high_start top ≤ a) × (a < top)
 in_high top a lawful ram past = (grind arith, grind arith)
 

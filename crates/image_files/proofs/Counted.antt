@@ -1,6 +1,5 @@
 -- How many bytes an image has, counted file by file, with a greatest count.
-use Rattle.std.proofs.Common.{◌≡◌, ℕ, ◌+◌, ◌<◌, ◌≤◌, List, [], ◌∷◌, ◌++◌, length, get_or, take, map, min, sum_by, arith, refl, ap, ◌∙◌, length-append}
-use Rattle.std.proofs.lemmas.List.{take_more}
+use Rattle.std.proofs.Common.{◌≡◌, ℕ, ◌+◌, ◌<◌, ◌≤◌, List, [], ◌∷◌, ◌++◌, length, map, min, sum_by, arith, refl, ap, ◌∙◌, length-append}
 use Rattle.std.proofs.lemmas.List.Sums.{sum_by-cons}
 use Rattle.std.proofs.lemmas.Grind.{flat_map-append}
 use Rattle.std.specs.List.{flat_map}
@@ -38,14 +37,6 @@ pub sum_by-more : {A : Type 0} (weight : A → ℕ) (xs : List A) (x : A) → su
 sum_by-more weight [] x = omega (arith, sum_by-cons weight x [])
 sum_by-more weight (y ∷ xs) x =
     omega (arith, sum_by-cons weight y (xs ++ x ∷ []), sum_by-cons weight y xs, sum_by-more weight xs x)
-
--- one more element is counted, whose weight is counted up to the greatest count too
-pub counted_more : {A : Type 0} (all : List A → ℕ) (weight : A → ℕ) → ((xs : List A) (x : A) → all (xs ++ x ∷ []) ≡ all xs + weight x)
-    → (xs : List A) (k : ℕ) (other x : A) (total one new most : ℕ) → k < length xs → x ≡ get_or xs k other → total ≡ min (all (take k xs)) most
-    → min one most ≡ min (weight x) most → new ≡ min (total + one) most → new ≡ min (all (take (k + 1) xs)) most
-counted_more all weight grows xs k other x total one new most within is before counted after =
-    let longer = ap all (take_more xs k other within) ∙ grows (take k xs) (get_or xs k other) in
-    omega (arith, longer, ap weight is, before, counted, after)
 
 -- the commands of each file
 size-flat_map : (commands : ImageFile → List Entry) (files : List ImageFile)

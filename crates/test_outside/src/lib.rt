@@ -1,8 +1,10 @@
-//! Tests of lists, texts, byte strings, names, sources and sinks: public calls once, and what is refused.
+//! Tests of boxes, lists, texts, byte strings, names, sources and sinks: public calls once, and what is refused.
 #![tactic(auto)]
 
 #[cfg(test)]
 mod asserts;
+#[cfg(test)]
+mod boxed;
 #[cfg(test)]
 mod errors;
 #[cfg(test)]

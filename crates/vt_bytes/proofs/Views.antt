@@ -56,11 +56,6 @@ none_in : (view : View) (address : ℕ) (bytes : List ℕ) → bytes_in view add
 unfolding bytes_in
 none_in view address bytes shown = cc
 
-one_more_in : (view : View) (address count first : ℕ) (more : List ℕ) → view address ≡ Some first
-    → bytes_in view (address + 1) count ≡ Some more → bytes_in view address (suc count) ≡ Some (first ∷ more)
-unfolding bytes_in
-one_more_in view address count first more first_is more_are = rw (first_is, more_are)
-
 -- as many bytes are shown as were asked for
 pub length-bytes_in : (view : View) (address count : ℕ) (bytes : List ℕ) → bytes_in view address count ≡ Some bytes → length bytes ≡ count
 length-bytes_in view address zero bytes shown = ap length (none_in view address bytes shown)

@@ -1,3 +1,4 @@
+pub mod formers
 pub mod Stream
 pub mod Name
 pub mod MemoryStream

@@ -62,6 +62,11 @@ impl Bytes {
         self.bytes.len()
     }
 
+    /// Returns the allocator that the bytes take their memory from, so that what is made beside them may take its own there too.
+    pub fn allocator(&self) -> Global {
+        self.bytes.allocator()
+    }
+
     /// Returns the byte at `place`, counted from 0, which must be below the number of bytes.
     pub fn get(&self, place: usize) -> &u8
         requires { place < length self.now }

@@ -3,6 +3,7 @@
 //! below all that places files.
 #![tactic(auto)]
 
+mod boxed;
 mod bytes;
 mod fault;
 mod line;
@@ -16,6 +17,7 @@ mod stream;
 mod text;
 mod writing;
 
+pub use boxed::Boxed;
 pub use bytes::Bytes;
 pub use fault::{Failed, OutOfMemory};
 pub use line::{Line, numbered_line, words};

@@ -90,6 +90,11 @@ impl<T: Drop> List<T> {
         self.items.truncate(count);
     }
 
+    /// Returns the allocator that the list takes its memory from, so that what is made beside it may take its own there too.
+    pub fn allocator(&self) -> Global {
+        *self.items.allocator()
+    }
+
     /// Returns all the items, in order, as a slice.
     pub fn as_slice(&self) -> &[T]
         ensures { result.now ≡ self.now }
@@ -121,7 +126,7 @@ impl<T: Copy> List<T> {
     pub fn copy(&self) -> Result<List<T>, OutOfMemory>
         ensures { IfOk result (λ list. list ≡ self.now) }
     {
-        let mut items = Vec::new(*self.items.allocator());
+        let mut items = Vec::new(self.allocator());
         items.extend_from_slice(self.items.as_slice())?;
         Ok(List { items })
     }
