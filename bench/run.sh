@@ -1,8 +1,9 @@
 #!/usr/bin/env bash
 # Compares `vmtables boot` and `vmtables build` for each description of examples/ and for a great one, `vmtables load` for large
 # containers and for one of a machine of QEMU, and `vmtables decode --list` for the dumps of descriptions and for a long one, with other
-# programs, run side by side in one run. It prints ratios, what ours takes over what the other program takes, and for some inputs the peak
-# of memory in MiB. Then it prints what `decode --list` takes of dumps that make much work. Nothing is proved or judged here.
+# programs, run side by side in one run; and so `aml_again`, which reads AML terms and writes them again. It prints ratios, what ours takes
+# over what the other program takes, and for some inputs the peak of memory in MiB. Then it prints what `decode --list` takes of dumps that
+# make much work. Nothing is proved or judged here.
 #
 # usage: bench/run.sh [ROUNDS]     each program is run ROUNDS times, 11 if nothing is said; medians are compared
 #
@@ -17,8 +18,12 @@ trap 'rm -rf "$work"' EXIT
 program=$root/crates/vmtables_cli/out/vmtables_cli
 guest_memory=$((33 << 20)) # bytes
 long_dump=62000000         # bytes of the dump that is compared with
+again=$root/crates/aml_again/out/aml_again
+long_terms=$((4 << 20))    # bytes of AML terms, and of those that iasl reads too, whose time grows as the square of their names
+few_terms=$((64 << 10))
 most_input=$((64 << 20))   # bytes of the longest dumps that make much work, and parts of it
 parts=(1 10 100)
+terms=(names packages) # kinds of bench/aml.py
 hostile=(random unbroken rows reverse structures entries tables) # kinds of bench/dumps.py
 
 # against WHAT INPUT WORD..: one more program to compare with, what it reads from standard input, and its words.
@@ -124,6 +129,25 @@ add_machine() {
     against "iasl -d on its DSDT" /dev/null iasl -d "$work/dsdt.aml"
 }
 
+# add_terms KIND: AML terms of a kind, read and written again, and what that is compared with.
+add_terms() {
+    local name="aml $1"
+    python3 "$root/bench/aml.py" "$1" "$few_terms" "$work/$1.terms" "$work/$1.aml" || exit 1
+    against "aml_again" "$work/$1.terms" "$again"
+    against "iasl -d of the same, as a DSDT" /dev/null iasl -d "$work/$1.aml"
+    name="long aml $1"
+    python3 "$root/bench/aml.py" "$1" "$long_terms" "$work/$1.long" "$work/long.aml" || exit 1
+    against "aml_again" "$work/$1.long" "$again"
+    against "cat of as many bytes" "$work/$1.long" cat
+}
+
+# compare_terms_memory KIND: the peak of the resident memory of aml_again, beside the bytes that it reads, in MiB.
+compare_terms_memory() {
+    /usr/bin/time -f %M -o "$work/peak" "$again" <"$work/$1.long" >"$work/output" || return
+    awk -v given="$(stat -c %s "$work/$1.long")" -v what="$1" \
+        '{ printf "peak memory of aml_again of %s: %.1f MiB, with an input of %.1f\n", what, $1 / 1024, given / 2 ^ 20 }' "$work/peak"
+}
+
 # compare_memory INPUT WORD..: the peak of the program's resident memory, beside guest memory and the input, in MiB.
 compare_memory() {
     local input=$1
@@ -145,6 +169,9 @@ compare_all_memory() {
     done
     compare_memory "$work/server/dump" decode --list
     compare_memory "$work/rows.dump" decode --list
+    for input in "${terms[@]}"; do
+        compare_terms_memory "$input"
+    done
 }
 
 # measure_dump KIND BYTES: what the program takes of a dump that makes much work, of so many bytes at the most, and what it says.
@@ -172,6 +199,7 @@ measure_dumps() {
 }
 
 "$root/vmtables" --version || exit 1 # builds the program where it isn't built, in sight
+(cd "$root/crates/aml_again" && rt run </dev/null) || exit 1
 head -c "$guest_memory" /dev/zero >"$work/memory"
 python3 "$root/bench/descriptions.py" "$work" || exit 1
 for description in "$root"/examples/*.toml "$work/greatest.toml"; do
@@ -186,6 +214,9 @@ for container in large many full random; do
 done
 add_long_dump
 add_machine
+for kind in "${terms[@]}"; do
+    add_terms "$kind"
+done
 python3 "$root/bench/compare.py" "$rounds" "$work/programs" "$work/output"
 if [ -x /usr/bin/time ]; then
     compare_all_memory

@@ -7,8 +7,9 @@
 # description, and judge_load.py judges the memory that it leaves of them; of a description it must be the memory that `boot` leaves,
 # and of a machine what SeaBIOS leaves in its guest, as judge_guest.py compares them. What `vmtables decode --list` prints of the dumps of
 # the descriptions, of the memory of QEMU's machines, and of tables that others made is judged by what dmidecode and iasl tell of the same
-# bytes (judge_list.py), and what it tells of bad dumps and of memories with a fault by judge_bad_dumps.py. Last, the commands that
-# README.md shows must print what it says. Nothing is proved here.
+# bytes (judge_list.py), and what it tells of bad dumps and of memories with a fault by judge_bad_dumps.py. AML terms that iasl compiles must come
+# back as they are from `aml_again`, which reads terms and writes them again. Last, the commands that README.md shows must print what it
+# says. Nothing is proved here.
 #
 # usage: judges/run.sh [PROGRAM]     PROGRAM stands for ./vmtables
 #
@@ -265,6 +266,20 @@ judge_machine() {
     judge_list files "$folder/container"
 }
 
+# Has AML terms that iasl compiles read, and written again as they are.
+judge_terms() {
+    local said
+    description="AML terms"
+    echo "$description"
+    said=$(cd crates/aml_again && rt run </dev/null 2>&1) || { fault aml_again "the program" "$said"; return; }
+    said=$(python3 "$here/judge_aml.py" "$root/crates/aml_again/out/aml_again" 2>&1)
+    case $? in
+    0) note_asked iasl && echo "  aml_again: $said" ;;
+    3) echo "  skipped: $said" ;;
+    *) fault judge_aml.py "the terms" "$said" ;;
+    esac
+}
+
 # make_wrong_program LINE: makes a program that is as ours, but changes the last digit of a line of what it writes.
 make_wrong_program() {
     cat >"$folder/wrong" <<END
@@ -399,6 +414,7 @@ judge_all() {
     judge_greatest
     judge_templates
     judge_bad_dumps
+    judge_terms
     ! has qemu-system-x86_64 || judge_machines
     judge_document README.md
 }

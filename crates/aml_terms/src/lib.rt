@@ -6,11 +6,13 @@
 //! their terms, or the first fault. The laws say that these three agree.
 #![tactic(auto)]
 
+mod equal;
 mod fault;
 pub mod laws;
 mod opcode;
 mod term;
 
+pub use equal::{are_all_equal, are_equal};
 pub use fault::AmlFault;
 pub use opcode::Opcode;
 pub use term::{Path, Term};

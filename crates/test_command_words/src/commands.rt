@@ -4,7 +4,7 @@ use crate::reading::{is_read, is_read_around};
 use std::alloc::{AllocError, Global};
 use std::process::Abort;
 use std::test::Fail;
-use vt_words::{Command, Setting};
+use vt_words::{Command, LoadOptions, Setting};
 use zone_alloc::Policy;
 
 // What the options say where none is given.
@@ -24,10 +24,10 @@ const COMMANDS: &[Row] = &[
     Row("|boot", Command::Boot(DEFAULTS)),
     Row(
         "|load",
-        Command::Load {
+        Command::Load(LoadOptions {
             top_mib: 64,
             setting: DEFAULTS,
-        },
+        }),
     ),
     // one option
     Row(
@@ -49,36 +49,36 @@ const COMMANDS: &[Row] = &[
     // two options, in each order
     Row(
         "|load|--fill|a5|--top|128",
-        Command::Load {
+        Command::Load(LoadOptions {
             top_mib: 128,
             setting: Setting {
                 fill: 0xA5,
                 policy: Policy::Low,
                 seed: 0,
             },
-        },
+        }),
     ),
     Row(
         "|load|--top|128|--fill|a5",
-        Command::Load {
+        Command::Load(LoadOptions {
             top_mib: 128,
             setting: Setting {
                 fill: 0xA5,
                 policy: Policy::Low,
                 seed: 0,
             },
-        },
+        }),
     ),
     Row(
         "|load|--seed|18446744073709551615|--top|65",
-        Command::Load {
+        Command::Load(LoadOptions {
             top_mib: 65,
             setting: Setting {
                 fill: 0,
                 policy: Policy::Low,
                 seed: u64::MAX,
             },
-        },
+        }),
     ),
     Row(
         "|boot|--policy|scatter|--seed|12",
@@ -107,25 +107,25 @@ const COMMANDS: &[Row] = &[
     ),
     Row(
         "|load|--policy|scatter|--top|128|--seed|12|--fill|a5",
-        Command::Load {
+        Command::Load(LoadOptions {
             top_mib: 128,
             setting: Setting {
                 fill: 0xA5,
                 policy: Policy::Scatter(12),
                 seed: 12,
             },
-        },
+        }),
     ),
     Row(
         "|load|--fill|a5|--seed|12|--top|128|--policy|top",
-        Command::Load {
+        Command::Load(LoadOptions {
             top_mib: 128,
             setting: Setting {
                 fill: 0xA5,
                 policy: Policy::Top,
                 seed: 12,
             },
-        },
+        }),
     ),
     // all options, each with its default
     Row(
@@ -134,22 +134,22 @@ const COMMANDS: &[Row] = &[
     ),
     Row(
         "|load|--fill|00|--top|64|--policy|low|--seed|0",
-        Command::Load {
+        Command::Load(LoadOptions {
             top_mib: 64,
             setting: DEFAULTS,
-        },
+        }),
     ),
     // digits that are each of the values, read as what their name says
     Row(
         "|load|--top|99|--seed|99|--fill|99",
-        Command::Load {
+        Command::Load(LoadOptions {
             top_mib: 99,
             setting: Setting {
                 fill: 0x99,
                 policy: Policy::Low,
                 seed: 99,
             },
-        },
+        }),
     ),
 ];
 
@@ -258,10 +258,10 @@ fn are_read(
     setting: Setting,
 ) -> Result<(), AllocError> {
     let boot = Command::Boot(setting);
-    let load = Command::Load {
+    let load = Command::Load(LoadOptions {
         top_mib: 64,
         setting,
-    };
+    });
     is_read_around(rt, alloc, before.0, value, "", Some(boot))?;
     is_read_around(rt, alloc, before.1, value, "", Some(load))
 }
@@ -275,9 +275,9 @@ fn tops(rt: HostRuntime) -> Result<(), Fail> {
 }
 
 fn is_top(rt: &impl Abort, alloc: Global, value: &str, top_mib: u32) -> Result<(), AllocError> {
-    let load = Command::Load {
+    let load = Command::Load(LoadOptions {
         top_mib,
         setting: DEFAULTS,
-    };
+    });
     is_read_around(rt, alloc, "|load|--top", value, "", Some(load))
 }

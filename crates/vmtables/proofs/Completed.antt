@@ -20,6 +20,7 @@ use Rattle.command_acts.specs.Script.{script_in}
 use Rattle.vm_image.specs.Image.{image_items}
 use Rattle.vt_words.specs.declared.command.Command.{Command as CommandOf}
 use Rattle.vt_words.specs.declared.command.Command.TheVariants.{Boot, Build, Load}
+use Rattle.vt_words.specs.declared.command.LoadOptions.{LoadOptions}
 use Rattle.vt_words.specs.declared.setting.Setting.{Setting}
 use Rattle.vmtables.specs.Boot.{BootMakes, without_image, without_room, without_memory}
 use Rattle.vmtables.specs.Build.{BuildMakes, not_built}
@@ -150,11 +151,11 @@ load_ends Gives top_mib setting bytes items before after read whole f (not_loade
     failed_load Gives items (mib top_mib) setting before after whole f
     (subst (λ those. FailsToLoad Gives those (mib top_mib) setting before after f) (sym same) failed)
 
-pub load_completed : (Gives : Answering) (top_mib : ℕ) (setting : Setting) (bytes : List ℕ) (items : List Item) (call : Call Gives (Load top_mib setting))
+pub load_completed : (Gives : Answering) (options : LoadOptions) (bytes : List ℕ) (items : List Item) (call : Call Gives (Load options))
     → read_so bytes ≡ Ok items → RunsWhole items (map (λ (r : Range). r.start) call.after.place.handed) → IsFed bytes call → HasRoom call → IsDone call
-load_completed Gives top_mib setting bytes items call read whole fed room =
+load_completed Gives options bytes items call read whole fed room =
     let ran = call.answered.ran in
-    call_done Gives (Load top_mib setting) call
-    (whole_call (LoadMakes Gives top_mib setting) call.before call.after bytes ran.input ran.made call.answered.ended call.source call.source_after
+    call_done Gives (Load options) call
+    (whole_call (LoadMakes Gives options.top_mib options.setting) call.before call.after bytes ran.input ran.made call.answered.ended call.source call.source_after
     call.out call.out_after fed.had fed.within fed.read fed.written ran.did ran.read ran.wrote
-    (load_ends Gives top_mib setting bytes items call.before call.after read whole))
+    (load_ends Gives options.top_mib options.setting bytes items call.before call.after read whole))

@@ -18,6 +18,7 @@ use Rattle.command_acts.specs.Script.{script_in}
 use Rattle.vm_image.specs.Image.{image_items}
 use Rattle.vt_words.specs.declared.command.Command.{Command}
 use Rattle.vt_words.specs.declared.command.Command.TheVariants.{Boot, Build, Decode, Load}
+use Rattle.vt_words.specs.declared.command.LoadOptions.{LoadOptions}
 use Rattle.vt_words.specs.declared.setting.Setting.{Setting}
 use Rattle.scan_text.specs.List.{list_of}
 use Rattle.table_model.specs.declared.inventory.Inventory.{Inventory}
@@ -76,7 +77,7 @@ abbrev pub RunsWhole : List Item → List ℕ → Type 0
 RunsWhole items places = (script : List Entry) × (script_in items ≡ Ok script) × ((run (files_of items) script places).0 ≡ Done)
 
 abbrev pub IsLoadComplete : Answering → Type 0
-IsLoadComplete Gives = (top_mib : ℕ) (setting : Setting) (bytes : List ℕ) (items : List Item) (call : Call Gives (Load top_mib setting))
+IsLoadComplete Gives = (options : LoadOptions) (bytes : List ℕ) (items : List Item) (call : Call Gives (Load options))
     → read_so bytes ≡ Ok items → RunsWhole items (map (λ (r : Range). r.start) call.after.place.handed) → IsFed bytes call → HasRoom call → IsDone call
 
 -- the call is done, and out took the list of the inventory; or memory ran out

@@ -18,6 +18,6 @@ IsUsage before after _ _ = ⊥
 abbrev pub Does : Answering → Option Command → Doing
 Does Gives None = IsUsage
 Does Gives (Some (Boot setting)) = ReadsAll (BootMakes Gives setting)
-Does Gives (Some (Load top_mib setting)) = ReadsAll (LoadMakes Gives top_mib setting)
+Does Gives (Some (Load options)) = ReadsAll (LoadMakes Gives options.top_mib options.setting)
 Does Gives (Some Build) = ReadsAll BuildMakes
 Does Gives (Some Decode) = ReadsAll DecodeMakes

@@ -61,8 +61,17 @@ pub fn carry_out<S: Source, K: Sink, A: ZoneAlloc, C: Schedule>(
 {
     match read_words(words) {
         Some(Command::Boot(setting)) => boot(alloc, &setting, source, out, place, plan, world),
-        Some(Command::Load { top_mib, setting }) => {
-            load(alloc, top_mib, &setting, source, out, place, plan, world)
+        Some(Command::Load(options)) => {
+            load(
+                alloc,
+                options.top_mib,
+                &options.setting,
+                source,
+                out,
+                place,
+                plan,
+                world,
+            )
         }
         Some(Command::Build) => build(alloc, source, out),
         Some(Command::Decode) => decode(alloc, source, out),

@@ -20,7 +20,7 @@ abbrev pub boot_of : List Value → Command
 boot_of values = Boot (setting_of values)
 
 abbrev pub load_of : List Value → Command
-load_of values = Load (number_to 3072 (first values)) (setting_of (rest values))
+load_of values = Load (record { top_mib = number_to 3072 (first values); setting = setting_of (rest values) })
 
 abbrev pub decode_of : List Value → Command
 decode_of values = Decode
@@ -49,6 +49,6 @@ command_of (name ∷ words) = option_and_then (λ command. option_map command.ma
 -- a command whose values are in range
 abbrev pub IsLawful : Command → Type 0
 IsLawful (Boot setting) = IsSetting setting
-IsLawful (Load top_mib setting) = (64 ≤ top_mib) × (top_mib ≤ 3072) × IsSetting setting
+IsLawful (Load options) = (64 ≤ options.top_mib) × (options.top_mib ≤ 3072) × IsSetting options.setting
 IsLawful Build = ⊤
 IsLawful Decode = ⊤

@@ -1,5 +1,5 @@
 -- The commands and their options, without the texts of their help.
-use Rattle.std.specs.Prelude.{ℕ, ◌-◌, ◌^◌, List, [], ◌∷◌, Some, None, codes}
+use Rattle.std.specs.Prelude.{ℕ, ◌-◌, ◌^◌, List, [], ◌∷◌, Option, Some, None, codes}
 use Rattle.word_schema.specs.declared.value.Value.{Value}
 use Rattle.word_schema.specs.declared.value.Value.TheVariants as values
 use Rattle.word_schema.specs.Forms.{Form, Byte, Number, Word, Row, Schema, Flag, Valued}
@@ -8,9 +8,9 @@ use Rattle.word_schema.specs.Forms.{Form, Byte, Number, Word, Row, Schema, Flag,
 abbrev pub valued : List ℕ → Form → Value → Row
 valued name form default = record { name = name; kind = Valued form; default = Some default }
 
--- a flag that must be given
-abbrev pub required_flag : List ℕ → Row
-required_flag name = record { name = name; kind = Flag; default = None }
+-- a flag, and what it is where it's left out, or none where it must be given
+abbrev pub flag : List ℕ → Option Value → Row
+flag name default = record { name = name; kind = Flag; default = default }
 
 -- a command with no operands, and no options that exclude each other
 abbrev pub command : List ℕ → List Row → Schema
@@ -41,7 +41,7 @@ setting_rows = fill_row ∷ policy_row ∷ seed_row ∷ []
 
 -- that a list is wanted
 abbrev pub list_row : Row
-list_row = required_flag (codes "--list")
+list_row = flag (codes "--list") None
 
 abbrev pub build : Schema
 build = command (codes "build") []

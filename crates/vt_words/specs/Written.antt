@@ -12,13 +12,13 @@ use Rattle.vt_words.specs.Settings.{setting_values}
 -- the row of a command, and its values
 abbrev pub row_of : Command → CommandRow
 row_of (Boot setting) = row boot boot_of
-row_of (Load top_mib setting) = row load load_of
+row_of (Load options) = row load load_of
 row_of Build = row build build_of
 row_of Decode = row decode decode_of
 
 abbrev pub values_for : Command → List Value
 values_for (Boot setting) = setting_values setting
-values_for (Load top_mib setting) = values.Number top_mib ∷ setting_values setting
+values_for (Load options) = values.Number options.top_mib ∷ setting_values options.setting
 values_for Build = []
 values_for Decode = values.Flag true ∷ []
 

@@ -13,16 +13,20 @@ pub enum Command {
     /// Builds a machine's files, loads them, and dumps the guest's memory.
     Boot(Setting),
     /// Loads a container's files, and dumps the guest's memory.
-    Load {
-        /// The top of memory, in MiB.
-        top_mib: u32,
-        /// How the files are loaded.
-        setting: Setting,
-    },
+    Load(LoadOptions),
     /// Builds a machine's files, and gives their container.
     Build,
     /// Reads a dump, and lists what its memory shows.
     Decode,
+}
+
+/// What the options of `load` say.
+#[derive(Clone, Copy, Debug, PartialEq, Eq)]
+pub struct LoadOptions {
+    /// The top of memory, in MiB.
+    pub top_mib: u32,
+    /// How the files are loaded.
+    pub setting: Setting,
 }
 
 /// Reads `words`, those after the program's name, as a command and its options. Returns `None` where they are none: no word, another
@@ -71,10 +75,10 @@ fn load_of(words: &[String]) -> Option<Command>
     ensures { result ≡ option_map load_of (values_of load (map string_bytes words.now)) }
 {
     let mut values = read_values(&LOAD, words)?;
-    Some(Command::Load {
+    Some(Command::Load(LoadOptions {
         top_mib: values.take_number(3072) as u32,
         setting: Setting::take(&mut values),
-    })
+    }))
 }
 
 fn decode_of(words: &[String]) -> Option<Command>

@@ -51,21 +51,22 @@ const SEED: OptionSchema = valued!(
     "the seed of the load's events and of the places of scatter; 0 has no events"
 );
 
-// A flag that must be given: its name.
-macro_rules! required_flag {
-    ($name:literal, $about:literal) => {
+// A flag: its name, and what it is where it's left out, or none where it must be given.
+macro_rules! flag {
+    ($name:literal, $default:expr, $about:literal) => {
         OptionSchema {
             name: $name,
             kind: Kind::Flag,
-            default: None,
+            default: $default,
             placeholder: "",
             about: $about,
         }
     };
 }
 
-const LIST: OptionSchema = required_flag!(
+const LIST: OptionSchema = flag!(
     "--list",
+    None,
     "lists the SMBIOS structures and the ACPI tables that a guest finds in this memory"
 );
 

@@ -1,0 +1,10 @@
+pub mod Announced
+pub mod Faults
+pub mod Segments
+pub mod Views
+pub mod CharCounts
+pub mod Levels
+pub mod Each
+pub mod Led
+pub mod Counted
+pub mod ReadTold

@@ -1,0 +1,4 @@
+pub mod Widths
+pub mod Chars
+pub mod Rooms
+pub mod Kept

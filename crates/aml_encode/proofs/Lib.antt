@@ -1,0 +1,8 @@
+pub mod Lists
+pub mod Paths
+pub mod Spelling
+pub mod Measuring
+pub mod Smaller
+pub mod Writing
+pub mod Good
+pub mod EachWritten

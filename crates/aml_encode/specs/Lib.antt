@@ -1,0 +1,5 @@
+pub mod Writable
+pub mod Bodies
+pub mod Packages
+pub mod Measured
+pub mod Appended

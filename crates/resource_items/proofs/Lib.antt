@@ -1,0 +1,3 @@
+pub mod ReadItems
+pub mod OneItem
+pub mod OneTemplate

@@ -1,0 +1,9 @@
+pub mod IoPort
+pub mod IrqMask
+pub mod FixedMemory
+pub mod AddressSpaces
+pub mod Templates
+pub mod WorkedItems
+pub use Rattle.vt_layout.specs.Rows
+pub use Rattle.vt_layout.specs.Fields
+pub use Rattle.vt_layout.specs.Values
