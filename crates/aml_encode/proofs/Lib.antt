@@ -1,6 +1,5 @@
 pub mod Lists
 pub mod Paths
-pub mod Spelling
 pub mod Measuring
 pub mod Smaller
 pub mod Writing

@@ -5,14 +5,14 @@ use Rattle.std.proofs.lemmas.List.{drop_all}
 use Rattle.vt_bytes.specs.Numbers.{le_bytes}
 use Rattle.vt_bytes.proofs.Numbers.{length-le_bytes}
 use Rattle.aml_terms.specs.declared.term.Term.{Term}
-use Rattle.aml_terms.specs.Trees.{view, views}
-use Rattle.aml_terms.specs.Written.{IsShort, AreShort, length_with, more_for, package_length, spelled, all_spelled, most_enclosed}
+use Rattle.aml_terms.specs.Trees.{view, views, no_trees}
+use Rattle.aml_terms.specs.Written.{IsShort, AreShort, length_with, more_for, package_length, spelled, all_spelled, all_written, most_enclosed}
+use Rattle.aml_terms.proofs.BytesOfParts.{all_spelled-tree}
 use Rattle.aml_encode.specs.declared.fault.TermFault.{TermFault}
 use Rattle.aml_encode.specs.declared.fault.TermFault.TheVariants.{TermTooLong, OutOfMemory}
 use Rattle.aml_encode.specs.Bodies.{bodies, all_bodies}
 use Rattle.aml_encode.specs.Measured.{MeasuredBody, MeasuredTerm, Refuses, Summed, IsShortBody, size_with}
 use Rattle.aml_encode.specs.Writable.{IsWritable, AreWritable}
-use Rattle.aml_encode.proofs.Spelling.{all_spelled-none, all_spelled-more}
 
 length-length_with : (more total : ℕ) → length (length_with more total) ≡ more + 1
 length-length_with zero total = refl
@@ -61,7 +61,7 @@ unfolding AreShort
 ahead ts i t here =
     let d : drop i ts ≡ t ∷ drop (i + 1) ts = drop-at ts i t here in
     let text : text_of (drop i ts) ≡ spelled (view t) ++ text_of (drop (i + 1) ts) =
-    ap text_of d ∙ all_spelled-more (view t) (views (drop (i + 1) ts)) in
+    ap text_of d ∙ all_spelled-tree (view t) (views (drop (i + 1) ts)) in
     record {
       text = text;
       size = ap length text ∙ length-append (spelled (view t)) (text_of (drop (i + 1) ts));
@@ -70,6 +70,11 @@ ahead ts i t here =
       short = λ w. let all : AreShort (views (t ∷ drop (i + 1) ts)) = subst (λ us. AreShort (views us)) d w in all;
       all_short = λ s w. let all : AreShort (views (t ∷ drop (i + 1) ts)) = (s, w) in subst (λ us. AreShort (views us)) (sym d) all;
     }
+
+-- no terms are spelled by no bytes
+all_spelled-none : all_spelled no_trees ≡ []
+unfolding all_written
+all_spelled-none = refl
 
 -- none is left
 pub record Over (ts : List Term) (i : ℕ) : Type 0 where

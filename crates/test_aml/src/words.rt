@@ -59,25 +59,31 @@ fn push_inside(
     told.extend(END)
 }
 
-/// What is told of a package before its values, of a scope or a device before its terms, and of each behind them.
+/// What is told of a package before its values.
 pub static PACKAGE: &[u8] = b"package [ ";
 
+/// What is told of a scope or a device before its terms.
 pub static INSIDE: &[u8] = b"[ ";
 
+/// What is told behind values, and behind terms.
 pub static END: &[u8] = b"] ";
 
+/// Appends an integer.
 pub fn push_integer(told: &mut Bytes, number: u64) -> Result<(), OutOfMemory> {
     push_bytes(told, b"int ", &number.to_be_bytes())
 }
 
+/// Appends the integer of ones.
 pub fn push_ones(told: &mut Bytes) -> Result<(), OutOfMemory> {
     told.extend(b"ones ")
 }
 
+/// Appends a text.
 pub fn push_chars(told: &mut Bytes, text: &[u8]) -> Result<(), OutOfMemory> {
     push_bytes(told, b"text ", text)
 }
 
+/// Appends a buffer.
 pub fn push_buffer(told: &mut Bytes, bytes: &[u8]) -> Result<(), OutOfMemory> {
     push_bytes(told, b"buffer ", bytes)
 }
