@@ -29,9 +29,12 @@ def name_of(segment, value):
 
 
 def length_of(body):
-    """The shortest package length of a body of less than 4 KiB."""
-    total = body + 1
-    return bytes([total]) if total < 0x40 else bytes([0x40 | (total + 1) % 16, (total + 1) // 16])
+    """The shortest package length of a body of so many bytes (ACPI 6.5, 20.2.4)."""
+    if body + 1 < 0x40:
+        return bytes([body + 1])
+    more = next(more for more in (1, 2, 3) if body + 1 + more < 1 << 4 + 8 * more)
+    total = body + 1 + more
+    return bytes([more << 6 | total % 16]) + (total // 16).to_bytes(more, "little")
 
 
 def nested(levels):

@@ -62,21 +62,21 @@ def measure(programs, rounds, output):
 
 
 def ratio(one, other):
-    return "-" if not one or not other else f"{one / other:.2f}"
+    return "-" if not one or not other else f"{one / other:.3f}"
 
 
 def main(rounds, programs, output):
     programs = read_programs(programs)
     figures = measure(programs, int(rounds), output)
     print(f"medians of {rounds} rounds over the other program's, on {os.cpu_count()} processors")
-    print(f"{'program':15} {'against':42} {'elapsed':>9} {'processor':>9} {'memory':>9}")
+    print(f"{'program':19} {'against':42} {'elapsed':>9} {'processor':>9} {'memory':>9}")
     first = None
     for program, taken in zip(programs, figures):
         if first is None or first[0] != program.group:
             first = (program.group, taken)
         else:
             cells = " ".join(f"{ratio(one, other):>9}" for one, other in zip(first[1], taken))
-            print(f"{program.group:15} {program.what:42} {cells}")
+            print(f"{program.group:19} {program.what:42} {cells}")
 
 
 if __name__ == "__main__":

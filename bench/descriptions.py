@@ -4,20 +4,40 @@ product.
 
 usage: descriptions.py FOLDER
 
-`greatest.toml` has as much of everything as a description may have: each list is full, each text has 64 bytes, and each processor and each
-NMI has the longer of its two entries. `half.toml` has half as much of each list; bench/run.sh doesn't run it, it is there to count
-instructions by hand. judges/run.sh has the tables of `greatest.toml` judged, too.
+`greatest.toml` has as much of everything as a description may have: each list is full, and each processor and each NMI has the longer of its
+two entries. Its texts have 64 bytes, but those of sockets, modules and slots 24, since an image has no room for more. `half.toml` has half as
+much of each list; bench/run.sh doesn't run it, it is there to count instructions by hand. judges/run.sh has the tables of `greatest.toml`
+judged, too.
+
+`bridge.toml` has no lists but the windows and the routes of a bridge, both full, and `processors.toml` as many processors beside as there
+may be; neither has a text.
 """
 
 import pathlib
 import sys
 
-MOST = {"oem_strings": 32, "socket": 256, "dimm": 256, "range": 64, "slot": 64, "cpu": 4096, "ioapic": 16, "override": 16, "nmi": 16, "node": 64}
-LONGEST = 64  # bytes of a text
+MOST = {
+    "oem_strings": 32,
+    "socket": 256,
+    "dimm": 256,
+    "range": 64,
+    "slot": 64,
+    "cpu": 4096,
+    "ioapic": 16,
+    "override": 16,
+    "nmi": 16,
+    "node": 64,
+    "window": 32,
+    "route": 128,
+    "uart": 4,
+}
+LONGEST, SHORTER = 64, 24  # bytes of a text, and of one of sockets, modules and slots
+
+POWER = ["[acpi]", "[power]", "event = 0x600", "control = 0x604", "timer = 0x608"]
 
 
-def text(name, at):
-    return f'"{f"{name} {at} ".ljust(LONGEST, "x")}"'
+def text(name, at, size=LONGEST):
+    return f'"{f"{name} {at} ".ljust(size, "x")}"'
 
 
 def tables(name, count, texts, numbers):
@@ -25,7 +45,7 @@ def tables(name, count, texts, numbers):
     lines = []
     for at in range(count):
         lines.append(f"[[{name}]]")
-        lines += [f"{key} = {text(key, at)}" for key in texts]
+        lines += [f"{key} = {text(key, at, SHORTER)}" for key in texts]
         lines += numbers(at)
     return lines
 
@@ -42,6 +62,22 @@ def interrupts(most):
     lines += tables("ioapic", most["ioapic"], [], lambda at: [f"id = {at}", f"address = {0xFEC00000 + 0x1000 * at}", f"gsi = {24 * at}"])
     lines += tables("override", most["override"], [], lambda at: [f"irq = {at}", f"gsi = {at + 16}", "flags = 13"])
     return lines + tables("nmi", most["nmi"], [], lambda at: [f"cpu = {most['cpu'] - 1 - at}", "flags = 5"])
+
+
+def bridge(windows, routes):
+    """A bridge whose windows are memory in 64 bits, and whose routes go to GSIs 16 to 19 as those of a PC's chipset do."""
+    lines = ["[bridge]", "ecam = 0xE0000000"]
+    lines += tables("bridge.window", windows, [], lambda at: ['kind = "mem64"', f"base = {(at + 256) << 32}", f"size = {1 << 32}", "prefetch = true"])
+    pins = [(at // 4, at % 4) for at in range(routes)]
+    return lines + tables("bridge.route", routes, [], lambda at: route_lines(*pins[at]))
+
+
+def route_lines(device, pin):
+    return [f"device = {device}", f"pin = {pin}", f"gsi = {16 + (device + pin) % 4}"]
+
+
+def uarts(count):
+    return tables("uart", count, [], lambda at: [f"port = {0x3E8 + 8 * at}", f"irq = {at + 3}"])
 
 
 def nodes(count):
@@ -63,8 +99,16 @@ def description(share):
     lines += tables("dimm", most["dimm"], module, lambda at: ["size_mib = 32768", "speed = 4800"])
     lines += ranges(most["range"], most["node"])
     lines += tables("slot", most["slot"], ["designation"], lambda at: [f"id = {at}", f"device = {at % 32}"])
-    lines += ["[acpi]", "[power]", "event = 0x600", "control = 0x604", "timer = 0x608", "[hpet]", "[apic]"]
-    lines += interrupts(most) + nodes(most["node"])
+    lines += [*POWER, "[hpet]", "[apic]"]
+    lines += interrupts(most) + nodes(most["node"]) + bridge(most["window"], most["route"]) + uarts(most["uart"])
+    return "".join(line + "\n" for line in lines)
+
+
+def devices(processors):
+    """A description of a bridge, of what power management has by default, and of so many processors."""
+    lines = ["version = 1", "top_mib = 64", "[system]", *POWER, *bridge(MOST["window"], MOST["route"])]
+    if processors > 0:
+        lines += ["[apic]", *tables("cpu", processors, [], lambda at: [f"apic = {at}"])]
     return "".join(line + "\n" for line in lines)
 
 
@@ -72,3 +116,5 @@ if __name__ == "__main__":
     folder = pathlib.Path(sys.argv[1])
     (folder / "greatest.toml").write_text(description(1))
     (folder / "half.toml").write_text(description(2))
+    (folder / "bridge.toml").write_text(devices(0))
+    (folder / "processors.toml").write_text(devices(MOST["cpu"]))

@@ -1,9 +1,9 @@
 #!/usr/bin/env bash
-# Compares `vmtables boot` and `vmtables build` for each description of examples/ and for a great one, `vmtables load` for large
+# Compares `vmtables boot` and `vmtables build` for each description of examples/ and for great ones, `vmtables load` for large
 # containers and for one of a machine of QEMU, and `vmtables decode --list` for the dumps of descriptions and for a long one, with other
 # programs, run side by side in one run; and so `aml_again`, which reads AML terms and writes them again. It prints ratios, what ours takes
 # over what the other program takes, and for some inputs the peak of memory in MiB. Then it prints what `decode --list` takes of dumps that
-# make much work. Nothing is proved or judged here.
+# make much work, by many rows or tables, or by a great DSDT. Nothing is proved or judged here.
 #
 # usage: bench/run.sh [ROUNDS]     each program is run ROUNDS times, 11 if nothing is said; medians are compared
 #
@@ -25,6 +25,9 @@ most_input=$((64 << 20))   # bytes of the longest dumps that make much work, and
 parts=(1 10 100)
 terms=(names packages) # kinds of bench/aml.py
 hostile=(random unbroken rows reverse structures entries tables) # kinds of bench/dumps.py
+devices=(bridge processors)            # descriptions of bench/descriptions.py, of devices of which a DSDT tells
+dsdts=(names zeros scopes)             # kinds of bench/dsdts.py, and how many bytes the DSDT of each has
+dsdt_sizes=($((4 << 20)) $((1 << 20)))
 
 # against WHAT INPUT WORD..: one more program to compare with, what it reads from standard input, and its words.
 against() {
@@ -84,6 +87,25 @@ add_list() {
     against "boot | decode --list" "$1" "$folder/pipeline"
     against "boot" "$1" "$program" boot
     against "boot | cat" "$1" "$folder/copied"
+}
+
+# add_devices NAME: a description of devices, of whose DSDT iasl makes a text, and a DSDT again of that.
+add_devices() {
+    local name folder=$work/$1 description=$work/$1.toml command
+    mkdir "$folder"
+    "$program" boot <"$description" >"$folder/dump" && python3 "$root/tools/dump_tables.py" "$folder/dump" "$folder" || exit 1
+    ! command -v iasl >/dev/null || iasl -d -p "$folder/text" "$folder/DSDT.aml" >/dev/null 2>&1 </dev/null || exit 1
+    for command in boot build; do
+        name="$command $1"
+        against "$command" "$description" "$program" "$command"
+        against "the program's --version" /dev/null "$program" --version
+        against "iasl -d on its DSDT" /dev/null iasl -d "$folder/DSDT.aml"
+        against "iasl on the text of its DSDT" /dev/null iasl -p "$folder/made" "$folder/text.dsl"
+    done
+    name="list $1"
+    against "decode --list" "$folder/dump" "$program" decode --list
+    against "the program's --version" /dev/null "$program" --version
+    against "iasl -d on its DSDT" /dev/null iasl -d "$folder/DSDT.aml"
 }
 
 # The list of a long dump, in which each row of RAM is another one.
@@ -150,17 +172,19 @@ compare_terms_memory() {
 
 # compare_memory INPUT WORD..: the peak of the program's resident memory, beside guest memory and the input, in MiB.
 compare_memory() {
-    local input=$1
+    local input=$1 what
     shift
     /usr/bin/time -f %M -o "$work/peak" "$program" "$@" <"$input" >"$work/output" || return
-    awk -v held="$guest_memory" -v given="$(stat -c %s "$input")" -v what="$1 $(basename "$input")" \
+    what=${input#"$work"/}
+    what="$1 ${what#"$root"/examples/}"
+    awk -v held="$guest_memory" -v given="$(stat -c %s "$input")" -v what="$what" \
         '{ printf "peak memory of %s: %.1f MiB, with an input of %.1f and guest memory of %.1f\n", what, $1 / 1024, given / 2 ^ 20, held / 2 ^ 20 }' \
         "$work/peak"
 }
 
 compare_all_memory() {
     local input
-    for input in "$root/examples/server.toml" "$work/greatest.toml"; do
+    for input in "$root/examples/server.toml" "$work/greatest.toml" "$work/processors.toml"; do
         compare_memory "$input" boot
         compare_memory "$input" build
     done
@@ -169,31 +193,38 @@ compare_all_memory() {
     done
     compare_memory "$work/server/dump" decode --list
     compare_memory "$work/rows.dump" decode --list
+    compare_memory "$work/processors/dump" decode --list
     for input in "${terms[@]}"; do
         compare_terms_memory "$input"
     done
 }
 
-# measure_dump KIND BYTES: what the program takes of a dump that makes much work, of so many bytes at the most, and what it says.
+# measure_dump WRITER KIND BYTES WHAT: what the program takes of a dump that makes much work, of the kind that a program of this folder writes
+# for so many bytes, and what it says.
 measure_dump() {
     local status says
-    python3 "$root/bench/dumps.py" "$1" "$2" "$work/hostile.dump" || exit 1
+    python3 "$root/bench/$1" "$2" "$3" "$work/hostile.dump" || exit 1
     /usr/bin/time -q -f '%e %M' -o "$work/peak" "$program" decode --list <"$work/hostile.dump" >"$work/output" 2>"$work/said"
     status=$?
     says=$(head -1 "$work/said")
-    awk -v kind="$1" -v given="$(stat -c %s "$work/hostile.dump")" -v held="$guest_memory" -v status="$status" \
+    awk -v kind="$4" -v given="$(stat -c %s "$work/hostile.dump")" -v held="$guest_memory" -v status="$status" \
         -v says="${says:-$(wc -l <"$work/output") lines, $(stat -c %s "$work/output") bytes}" \
         '{ printf "%-11s %10.2f %10.1f %8.2f %10.1f %6d  %s\n", kind, given / 2 ^ 20, held / 2 ^ 20, $1, $2 / 1024, status, says }' "$work/peak"
     rm -f "$work/hostile.dump" "$work/output"
 }
 
 measure_dumps() {
-    local kind part
+    local kind part size
     echo "decode --list of dumps that make much work, run once; sizes in MiB"
     printf '%-11s %10s %10s %8s %10s %6s  %s\n' dump input "guest RAM" seconds peak status says
     for kind in "${hostile[@]}"; do
         for part in "${parts[@]}"; do
-            measure_dump "$kind" $((most_input / part))
+            measure_dump dumps.py "$kind" $((most_input / part)) "$kind"
+        done
+    done
+    for kind in "${dsdts[@]}"; do
+        for size in "${dsdt_sizes[@]}"; do
+            measure_dump dsdts.py "$kind" "$size" "DSDT $kind"
         done
     done
 }
@@ -205,6 +236,9 @@ python3 "$root/bench/descriptions.py" "$work" || exit 1
 for description in "$root"/examples/*.toml "$work/greatest.toml"; do
     add_description "$description"
     add_list "$description"
+done
+for description in "${devices[@]}"; do
+    add_devices "$description"
 done
 add_long_list
 python3 "$root/bench/containers.py" "$work" || exit 1

@@ -5,16 +5,19 @@ judges/run.sh alone.
 usage: described.py DESCRIPTION FOLDER
 
 Writes into FOLDER a file smbios.expected, where the description has the table acpi XSDT.expected, where it has the table power
-FACP.expected and FACS.expected, where it has the table apic APIC.expected, where it has the table numa SRAT.expected and SLIT.expected,
-and where it has the table hpet HPET.expected: the lines that the tool must print, in this order, without what stands before them in the
-line. A text that the description leaves out gives no line. Of an FADT the address of the FACS
-gives none either, since it isn't described: there is a FACS for iasl only where dump_tables.py finds one at that address.
+FACP.expected, FACS.expected and DSDT.expected, where it has the table apic APIC.expected, where it has the table numa SRAT.expected and
+SLIT.expected, where its bridge has an ecam MCFG.expected, and where it has the table hpet HPET.expected: the lines that the tool must print, in
+this order, without what stands before them in the line. A text that the description leaves out gives no line. Of an FADT the addresses of
+the FACS and of the DSDT give none either, since they aren't described: there is such a table for iasl only where dump_tables.py finds one at
+the address.
 """
 
 import pathlib
 import sys
 import tomllib
 import uuid
+
+from devices import device_lines, devices_of
 
 # dmidecode's words for types of chassis and slots and widths of slots: those of the examples, the defaults, and a few more (DSP0134 7.4.1,
 # 7.10.1, 7.10.2).
@@ -249,7 +252,6 @@ def register_lines(word, port=0, width=0, access=0):
 def fadt_lines(power):
     return [
         "FACS Address : 00000000",
-        "DSDT Address : 00000000",
         "Model : 00",
         *system_control_lines(power),
         *port_lines(power),
@@ -333,7 +335,6 @@ def reset_lines(power):
 
 def wide_lines(power):
     return [
-        "DSDT Address : 0000000000000000",
         *register_lines("PM1A Event Block", power["event"], 32, 2),
         *register_lines("PM1B Event Block"),
         *register_lines("PM1A Control Block", power["control"], 16, 2),
@@ -489,6 +490,18 @@ def distance_lines(place, row):
     return [f"Locality {place:3} : {lines[0]}", *lines[1:]]
 
 
+def mcfg_lines(bridge):
+    """One allocation, of all buses (PCI Firmware 3.3, 4.1.2)."""
+    return [
+        "Reserved : 0000000000000000",
+        f"Base Address : {bridge['ecam']:016X}",
+        "Segment Group Number : 0000",
+        "Start Bus Number : 00",
+        f"End Bus Number : {bridge.get('last_bus', 255):02X}",
+        "Reserved : 00000000",
+    ]
+
+
 def hpet_lines(hpet):
     return [
         f"Hardware Block ID : {hpet.get('block_id', 0x8086A201):08X}",
@@ -501,6 +514,25 @@ def hpet_lines(hpet):
     ]
 
 
+# The lines of a DSDT, which iasl prints as a text that can be compiled.
+
+def dsdt_lines(machine):
+    oem_id, oem_table_id = machine["acpi"].get("oem_id", "BOCHS").ljust(6), machine["acpi"].get("oem_table_id", "BXPC").ljust(8)
+    return [
+        '*     Signature        "DSDT"',
+        "*     Revision         0x02",
+        f'*     OEM ID           "{oem_id}"',
+        f'*     OEM Table ID     "{oem_table_id}"',
+        "*     OEM Revision     0x00000001 (1)",
+        '*     Compiler ID      "VMTB"',
+        "*     Compiler Version 0x00000001 (1)",
+        f'DefinitionBlock ("", "DSDT", 2, "{oem_id}", "{oem_table_id}", 0x00000001)',
+        *["{", r"Scope (\_SB)", "{"],
+        *(line for device in devices_of(machine) for line in device_lines(device)),
+        *["}", "}"],
+    ]
+
+
 def main(description, folder):
     machine = tomllib.loads(pathlib.Path(description).read_text())
     expected = {"smbios": smbios_lines(machine)}
@@ -509,11 +541,14 @@ def main(description, folder):
     if "power" in machine:
         expected["FACP"] = ["Table Length : 00000114", *header_lines(machine["acpi"], revision=6), *fadt_lines(machine["power"])]
         expected["FACS"] = facs_lines()
+        expected["DSDT"] = dsdt_lines(machine)
     if "apic" in machine:
         expected["APIC"] = header_lines(machine["acpi"], revision=5) + apic_lines(machine)
     if "numa" in machine:
         expected["SRAT"] = header_lines(machine["acpi"], revision=3) + srat_lines(machine)
         expected["SLIT"] = header_lines(machine["acpi"]) + slit_lines(machine["numa"])
+    if machine.get("bridge", {}).get("ecam", 0):
+        expected["MCFG"] = header_lines(machine["acpi"]) + mcfg_lines(machine["bridge"])
     if "hpet" in machine:
         expected["HPET"] = header_lines(machine["acpi"]) + hpet_lines(machine["hpet"])
     for name, lines in expected.items():

@@ -107,6 +107,11 @@ def with_table(signature, body, entries):
     return change
 
 
+def fadt_body(dsdt):
+    """What stands behind the header of an FADT that leads to a DSDT alone (ACPI 6.5, 5.2.9)."""
+    return bytes(140 - 36) + dsdt.to_bytes(8, "little") + bytes(276 - 148)
+
+
 # What is done to the memory of WITH_HPET, the fault, and its address.
 TABLE_FAULTS = [
     ("an XSDT that is no RAM", lambda memory: memory.write(RSDP, pointer_to(NO_RAM)), 1, NO_RAM),
@@ -116,6 +121,9 @@ TABLE_FAULTS = [
     ("an entry of 2 bytes", with_table(b"APIC", bytes(8) + b"\x00\x02", [HPET, FREE]), 4, FREE + 44),
     ("an HPET in place of the XSDT", lambda memory: memory.write(RSDP, pointer_to(HPET)), 5, HPET),
     ("an HPET twice", with_table(b"ABCD", b"", [HPET, FREE, HPET]), 6, HPET),
+    ("half an allocation of an MCFG", with_table(b"MCFG", bytes(16), [HPET, FREE]), 3, FREE),
+    ("an MCFG twice", with_table(b"MCFG", bytes(8), [FREE, HPET, FREE]), 6, FREE),
+    ("an HPET in place of the DSDT", with_table(b"FACP", fadt_body(HPET), [FREE]), 5, HPET),
 ]
 
 SUM_COMPLAINT = "Incorrect checksum"

@@ -11,12 +11,15 @@ PROGRAM stands for ./vmtables. What must hold:
 
 - the version, the types and the handles of the structures are those that dmidecode prints, in its order; each table that the least root
   pointer of revision 2 leads to is there once, by the signature and the length that iasl tells;
+- a DSDT behind an FADT has a second line, with its length, where iasl's text of it has anything but scopes, devices and names of plain values;
+  that of a dump gets one where its first device becomes a thermal zone;
 - a machine's memory, saved by the monitor's pmemsave and made a dump by tools/make_dump.py, has the structures of its firmware, and no ACPI
   tables, since its root pointer has revision 0; without `smbios-entry-point-type=64` it has no structures, since its anchor has 31 bytes;
 - with a root pointer of revision 2 and an XSDT in it that names its DSDT and the tables of its RSDT, but for the FADT, each of them is
-  listed; with the FADT too, which is shorter than 276 bytes, this is fault 3 at its address;
-- all tables of iasl's templates are listed, but those of LEFT_OUT, and behind an FADT a FACS and a DSDT, too; and so are those in a
-  machine's files, once they sum to zero, but for the FADT and the FACS.
+  listed; with the FADT too, which is shorter than 276 bytes, this is fault 3 at its address; where zeros make it as long as that, what it
+  leads to is listed;
+- all tables of iasl's templates are listed, but those of LEFT_OUT, and behind an FADT a FACS and a DSDT, too, also one that iasl compiles of
+  each kind of value; and so are those in a machine's files, once they sum to zero, but for the FADT and the FACS.
 
 Then some bits are flipped (judges/listed.py), each of which must be found.
 
@@ -31,10 +34,12 @@ import tempfile
 
 sys.path.append(str(pathlib.Path(__file__).resolve().parent.parent / "tools"))  # whose modules the judges share
 
+from judge_aml import compiled, names
 from listed import SHOWN, NoTool, NotTold, end_faults, judged, list_of, told_by
 from fw_cfg_files import NotAContainer, read_container
-from made_roots import put_root, summed
-from memory_dump import UPPER_WINDOW_SIZE, Memory, NotADump, NotFound, number_at, read_dump, root_pointer, root_table
+from made_roots import free_place, put_root, summed, table_of
+from memory_dump import UPPER_WINDOW_SIZE, Memory, NotADump, NotFound, acpi_table, led_addresses, listed_tables
+from memory_dump import number_at, read_dump, root_pointer, root_table
 from qemu_machine import MACHINES, Machine, NoAnswer
 
 MAKE_DUMP = pathlib.Path(__file__).resolve().parent.parent / "tools" / "make_dump.py"
@@ -55,6 +60,11 @@ MORE = {"pc": [], "q35": NODES}
 LEFT_OUT = [b"RSD ", b"FACS", b"S3PT", b"FACP"]
 
 FADT_TEMPLATE_FAULT = "tables: acpi fault 5 at 0000000000000001"
+
+FADT_LENGTH = 276  # the least length of an FADT that is read
+
+# How a device begins, and a thermal zone, of which all else is spelled alike (ACPI 6.5, 20.2.5.2).
+DEVICE, THERMAL_ZONE = b"\x5b\x82", b"\x5b\x85"
 
 
 def machine_dump(machine_name, options):
@@ -98,8 +108,38 @@ def judge_end(program, what, memory, line):
     return [f"{what}: {fault}" for fault in end_faults(list_of(program, memory), 7, line)], f"{what}: {line}"
 
 
+def dsdt_address(memory):
+    """Where the DSDT stands to which an FADT leads, or None."""
+    pointer = root_pointer(memory)
+    tables = [] if pointer is None else listed_tables(memory, root_table(memory, pointer))
+    addresses = [address for fadt in tables if fadt[:4] == b"FACP" for address in led_addresses(fadt)]
+    return next((address for address in addresses if memory.read(address, 4, "a signature") == b"DSDT"), None)
+
+
+def with_thermal_zone(memory, address):
+    """The memory with a thermal zone in place of the first device of the DSDT at the address."""
+    other, table = memory.copy(), acpi_table(memory, address)
+    other.write(address, summed(table.replace(DEVICE, THERMAL_ZONE, 1), 9))
+    return other
+
+
 def judge_dump(program, dump):
-    yield judge_memory(program, "the dump", read_dump(pathlib.Path(dump).read_bytes()))
+    memory = read_dump(pathlib.Path(dump).read_bytes())
+    yield judge_memory(program, "the dump", memory)
+    address = dsdt_address(memory)
+    if address is not None and DEVICE in acpi_table(memory, address):
+        yield judge_memory(program, "with a thermal zone", with_thermal_zone(memory, address))
+
+
+def with_long_fadt(memory, address):
+    """The memory with the FADT at the address written anew, with zeros behind it up to the least length that is read, and where that is. It
+    isn't where put_root looks for a place first, since rows of zeros look free.
+    """
+    other, table = memory.copy(), bytearray(acpi_table(memory, address).ljust(FADT_LENGTH, b"\0"))
+    table[4:8] = FADT_LENGTH.to_bytes(4, "little")
+    place = free_place(memory, memory.top - UPPER_WINDOW_SIZE // 2, memory.top, FADT_LENGTH)
+    other.write(place, summed(table, 9))
+    return other, place
 
 
 def judge_machine(program, machine_name):
@@ -112,6 +152,8 @@ def judge_machine(program, machine_name):
     yield judge_memory(program, "with an XSDT", rooted(memory, tables.values()))
     short = f"tables: acpi fault 3 at {fadt:016x}"
     yield judge_end(program, "with its FADT", rooted(memory, [*tables.values(), fadt]), short)
+    other, place = with_long_fadt(memory, fadt)
+    yield judge_memory(program, "with a longer FADT", rooted(other, [*tables.values(), place]))
     yield judge_memory(program, "with an anchor of 31 bytes", read_dump(machine_dump(machine_name, [])))
 
 
@@ -124,6 +166,12 @@ def templates():
     return {table[:4]: table for table in made}
 
 
+def devices_table():
+    """A DSDT of the terms that iasl compiles of each kind of value."""
+    with tempfile.TemporaryDirectory() as folder:
+        return table_of(b"DSDT", compiled(pathlib.Path(folder), names()))
+
+
 def placed(memory, tables):
     """The addresses of tables, one behind the other in the middle of high memory."""
     addresses, at = [], memory.top - UPPER_WINDOW_SIZE // 2
@@ -134,6 +182,15 @@ def placed(memory, tables):
     return addresses
 
 
+def linked(fadt, facs, dsdt):
+    """A memory with an FADT that leads to a FACS and a DSDT, and the addresses of the FADT and the DSDT."""
+    memory = Memory(64 << 20, 0)
+    facs_at, dsdt_at, fadt_at = placed(memory, [facs, dsdt, fadt])
+    links = facs_at.to_bytes(8, "little") + dsdt_at.to_bytes(8, "little")
+    memory.write(fadt_at, summed(fadt[:132] + links + fadt[148:], 9))
+    return memory, fadt_at, dsdt_at
+
+
 def judge_templates(program):
     made = templates()
     fadt, facs, dsdt = made[b"FACP"], made[b"FACS"], made[b"DSDT"]
@@ -141,11 +198,11 @@ def judge_templates(program):
     addresses = placed(memory, [table for signature, table in made.items() if signature not in LEFT_OUT])
     yield judge_memory(program, "iasl's templates", rooted(memory, addresses))
     memory = Memory(64 << 20, 0)
-    facs_at, dsdt_at, fadt_at = placed(memory, [facs, dsdt, fadt])
-    yield judge_end(program, "its FADT", rooted(memory, [fadt_at]), FADT_TEMPLATE_FAULT)
-    links = facs_at.to_bytes(8, "little") + dsdt_at.to_bytes(8, "little")
-    memory.write(fadt_at, summed(fadt[:132] + links + fadt[148:], 9))
+    yield judge_end(program, "its FADT", rooted(memory, placed(memory, [fadt])), FADT_TEMPLATE_FAULT)
+    memory, fadt_at, dsdt_at = linked(fadt, facs, dsdt)
     yield judge_memory(program, "its FADT with a FACS and a DSDT", rooted(memory, [fadt_at, dsdt_at]))
+    memory, fadt_at, _ = linked(fadt, facs, devices_table())
+    yield judge_memory(program, "with a DSDT of each kind of value", rooted(memory, [fadt_at]))
 
 
 def tables_in(content):

@@ -2,8 +2,8 @@
 structures, and iasl of the ACPI tables; and the judging of a list by that. What the judges of lists share.
 
 A list is judged once more wherever one of these bits is flipped in the memory that the program is given: of the handles of the first and
-the last structure, of the root pointer, and of the last byte of each table that has a sum. The list must then differ, or tell the table's
-address, or else the judge is none.
+the last structure, of the root pointer, and of the last byte of each table that has a sum, the DSDT behind an FADT among them. The list must
+then differ, or tell the table's address, or else the judge is none.
 """
 
 import collections
@@ -17,19 +17,28 @@ import tempfile
 sys.path.append(str(pathlib.Path(__file__).resolve().parent.parent / "tools"))  # whose modules the judges share
 
 from dump_tables import smbios_files
-from memory_dump import dump_text, led_tables, listed_tables, number_at, root_pointer, root_table
+from memory_dump import acpi_table, dump_text, led_addresses, led_tables, listed_tables, number_at, root_pointer, root_table
 
 # The signatures of tables that have a record, in the order of the list. The tables behind an FADT are told from it alone.
-KNOWN = [b"XSDT", b"FACP", b"FACS", b"DSDT", b"APIC", b"SRAT", b"SLIT", b"HPET"]
-NAMED = [b"FACP", b"APIC", b"SRAT", b"SLIT", b"HPET"]
+KNOWN = [b"XSDT", b"FACP", b"FACS", b"DSDT", b"APIC", b"SRAT", b"SLIT", b"MCFG", b"HPET"]
+NAMED = [b"FACP", b"APIC", b"SRAT", b"SLIT", b"MCFG", b"HPET"]
 
 VERSION = re.compile(r"SMBIOS (\d+\.\d+\.\d+) present\.")
 HANDLE = re.compile(r"Handle 0x([0-9A-F]{4}), DMI type (\d+), \d+ bytes")
 TABLE = re.compile(r"ACPI: (.{4}) 0x0{16} ([0-9A-F]{6})\b")
 
+# What stands in the text that iasl makes of a DSDT which has scopes, devices and names of plain values alone: beside texts and comments
+# resource templates, the openings of these terms, and the words of values.
+BESIDE = re.compile(r'"(?:\\.|[^"\\])*"|/\*.*?\*/|//[^\n]*', re.DOTALL)
+TEMPLATE = re.compile(r"ResourceTemplate \(\)\s*\{(?:[^{}]|\{[^{}]*\})*\}")
+OPENING = re.compile(r"\b(?:(?:Scope|Device) \([^()]*\)|Name \([^(),]*,)")
+WORD = re.compile(r"\b[A-Za-z_]\w*")
+PLAIN = {"DefinitionBlock", "Package", "Buffer", "EisaId", "ToUUID", "Unicode", "Zero", "One", "Ones"}
+
 SHOWN = 5  # of the faults
 
 Listed = collections.namedtuple("Listed", "status out said")
+Told = collections.namedtuple("Told", "signature length foreign")
 
 
 class NoTool(Exception):
@@ -74,17 +83,29 @@ def structure_lines(memory):
     return [f"smbios {versions[0]} structures {len(structures)}", *(f"type {kind} handle {handle}" for kind, handle in structures)]
 
 
+def is_foreign(text):
+    """Whether the text that iasl makes of a DSDT has anything but scopes, devices and names of plain values."""
+    rest = OPENING.sub(" ", TEMPLATE.sub(" ", BESIDE.sub(" ", text)))
+    return not set(WORD.findall(rest)) <= PLAIN
+
+
 def told_tables(tables):
-    """The signature and the length that iasl tells of each table. It is given none twice, since it takes all for one machine's."""
+    """The signature and the length that iasl tells of each table, and whether it is a DSDT that is foreign. It is given none twice, since it
+    takes all for one machine's.
+    """
     distinct = list(dict.fromkeys(tables))
     with tempfile.TemporaryDirectory() as folder:
-        names = [f"{number:04}.aml" for number in range(len(distinct))]
-        for name, table in zip(names, distinct):
-            pathlib.Path(folder, name).write_bytes(table)
-        told = TABLE.findall(told_by(folder, "iasl", "-d", *names))
+        files = [pathlib.Path(folder, f"{number:04}.aml") for number in range(len(distinct))]
+        for file, table in zip(files, distinct):
+            file.write_bytes(table)
+        told = TABLE.findall(told_by(folder, "iasl", "-d", *(file.name for file in files)))
+        texts = [file.with_suffix(".dsl").read_text("latin-1") for file in files]
     if len(told) != len(distinct):
         raise NotTold(f"iasl tells of {len(told)} tables in place of {len(distinct)}")
-    of_each = {table: (signature.encode("latin-1"), int(length, 16)) for table, (signature, length) in zip(distinct, told)}
+    of_each = {
+        table: Told(signature.encode("latin-1"), int(length, 16), signature == "DSDT" and is_foreign(text))
+        for table, (signature, length), text in zip(distinct, told, texts)
+    }
     return [of_each[table] for table in tables]
 
 
@@ -102,12 +123,12 @@ def table_lines(memory):
     led = [table for fadt in named if fadt[:4] == b"FACP" for table in led_tables(memory, fadt)]
     told = told_tables([root, *led, *named])
     (root_told, led_told, named_told) = told[:1], told[1 : 1 + len(led)], told[1 + len(led) :]
-    known = [signature for signature, _ in root_told + led_told] + [signature for signature, _ in named_told if signature in NAMED]
-    rest = [one for one in led_told if one[0] == b"DSDT"] + [one for one in named_told if one[0] not in NAMED]
+    known = [one.signature for one in root_told + led_told] + [one.signature for one in named_told if one.signature in NAMED]
+    rest = [one for one in led_told if one.foreign] + [one for one in named_told if one.signature not in NAMED]
     return [
         f"acpi {shown(pointer[9:15])}",
         *(f"table {signature.decode()}" for signature in KNOWN if signature in known),
-        *(f"table {shown(signature)} length {length}" for signature, length in rest),
+        *(f"table {shown(one.signature)} length {one.length}" for one in rest),
     ]
 
 
@@ -154,12 +175,14 @@ def summed_tables(memory):
     pointer = root_pointer(memory)
     if pointer is None or pointer[15] < 2:
         return
-    address = number_at(pointer, 24, 8)
     root = root_table(memory, pointer)
-    yield address, address + len(root) - 1
-    for entry in range(36, len(root), 8):
-        address = number_at(root, entry, 8)
-        yield address, address + number_at(memory.read(address + 4, 4, "the length"), 0, 4) - 1
+    addresses = [number_at(pointer, 24, 8), *(number_at(root, entry, 8) for entry in range(36, len(root), 8))]
+    fadts = [table for table in listed_tables(memory, root) if table[:4] == b"FACP"]
+    addresses += [address for fadt in fadts for address in led_addresses(fadt)]
+    for address in addresses:
+        table = acpi_table(memory, address)
+        if table[:4] != b"FACS":
+            yield address, address + len(table) - 1
 
 
 def missed_flips(program, memory, told):

@@ -3,7 +3,8 @@
 # the SMBIOS structures, and iasl the ACPI tables. Each must print what is described and find no fault; and each must find one
 # where a bit of a checksum is flipped, or of the length of a FACS, which has no checksum, or it would be no judge. They judge
 # boots of each policy of places and of some seeds of events too, and the boot of the greatest description, which bench/descriptions.py
-# writes. Then `vmtables load` is given files that QEMU made for machines of its own, and what `vmtables build` makes for each
+# writes. The devices that a DSDT tells of are judged by iasl's text of it, by that text compiled again, and by acpiexec, which loads and decodes
+# it (judge_dsdt.py). Then `vmtables load` is given files that QEMU made for machines of its own, and what `vmtables build` makes for each
 # description, and judge_load.py judges the memory that it leaves of them; of a description it must be the memory that `boot` leaves,
 # and of a machine what SeaBIOS leaves in its guest, as judge_guest.py compares them. What `vmtables decode --list` prints of the dumps of
 # the descriptions, of the memory of QEMU's machines, and of tables that others made is judged by what dmidecode and iasl tell of the same
@@ -25,14 +26,15 @@ PATH=$PATH:/usr/sbin # where Debian has dmidecode
 export PYTHONDONTWRITEBYTECODE=1
 work=$(mktemp -d)
 trap 'rm -rf "$work"' EXIT
-judges=(dmidecode iasl qemu-system-x86_64)
-packages=(dmidecode acpica-tools qemu-system-x86) # the package of each judge in Debian
-firmware=SeaBIOS                                  # a judge that comes with QEMU
-asked=()                                          # the judges that were asked
-machines=(pc q35)                                 # the machines of QEMU whose files are loaded
-guest_top=2048                                    # the top of memory of those whose firmware runs, in MiB
-wrong_lines=(2 4)                                 # lines of a dump that a program gets wrong: of the RSDP, and of another file
-policies=(low top scatter)                        # the policies of places, and the seeds of events, with which descriptions boot
+judges=(dmidecode iasl acpiexec qemu-system-x86_64)
+packages=(dmidecode acpica-tools acpica-tools qemu-system-x86) # the package of each judge in Debian
+firmware=SeaBIOS                                               # a judge that comes with QEMU
+asked=()                                                       # the judges that were asked
+checksum=9                                                     # the byte of an ACPI table that is its checksum
+machines=(pc q35)                                              # the machines of QEMU whose files are loaded
+guest_top=2048                                                 # the top of memory of those whose firmware runs, in MiB
+wrong_lines=(2 4)                                              # lines of a dump that a program gets wrong: of the RSDP, and of another file
+policies=(low top scatter)                                     # the policies of places, and the seeds of events, with which descriptions boot
 seeds=(1 7 18446744073709551615)
 fills=(00 ff a5) # the fill bytes, and the seeds, with which they boot for a list that is to be the same
 list_seeds=(0 1 2 3 5 7 11 13 4294967296 9223372036854775808 18446744073709551614 18446744073709551615)
@@ -112,11 +114,24 @@ judge_pointer() {
     (cd "$1" && iasl RSDP.asl 2>&1 </dev/null && cmp RSDP.aml "$2" 2>&1)
 }
 
-# flip FILE OFFSET: flips the lowest bit of a byte.
+# byte_at FILE OFFSET: a byte as a number.
+byte_at() {
+    od -An -tu1 -j "$2" -N 1 "$1"
+}
+
+# put_byte FILE OFFSET NUMBER: has a byte stand there.
+put_byte() {
+    printf '%b' "\\x$(printf %02x "$3")" | dd of="$1" bs=1 seek="$2" conv=notrunc status=none
+}
+
+# flip FILE OFFSET: flips the lowest bit of a byte. Behind the checksum of a table it changes that too, so that the table still sums to zero.
 flip() {
-    local byte
-    byte=$(od -An -tu1 -j "$2" -N 1 "$1")
-    printf '%b' "\\x$(printf %02x $((byte ^ 1)))" | dd of="$1" bs=1 seek="$2" conv=notrunc status=none
+    local byte sum
+    byte=$(byte_at "$1" "$2")
+    put_byte "$1" "$2" $((byte ^ 1))
+    [ "$2" -gt "$checksum" ] || return 0
+    sum=$(byte_at "$1" "$checksum")
+    put_byte "$1" "$checksum" $(((sum + byte - (byte ^ 1)) & 255))
 }
 
 # was_asked TOOL: whether the tool has judged a file.
@@ -129,21 +144,24 @@ note_asked() {
     was_asked "$1" || asked+=("$1")
 }
 
-# ask TOOL JUDGE FILE BYTE: has the tool judge a file, and then a copy with a bit flipped in the byte at BYTE, a checksum or
-# a length, which the file's other bytes decide.
+# ask TOOL JUDGE FILE BYTE..: has the tool judge a file, and then for each BYTE a copy with a bit flipped there: in a checksum or a length,
+# which the file's other bytes decide, or in a number that is described.
 ask() {
-    local said
-    note_asked "$1"
-    said=$("$2" "$folder" "$3" 2>&1) || { fault "$1" "$3" "$said"; return; }
-    rm -rf "$folder.flipped"
-    cp -r "$folder" "$folder.flipped"
-    flip "$folder.flipped/$3" "$4"
-    if said=$("$2" "$folder.flipped" "$3" 2>&1); then
-        fault "$1" "$3" "no judge: it finds nothing wrong with a bit flipped in byte $4
+    local said tool=$1 judge=$2 file=$3 byte bytes
+    shift 3
+    bytes=$*
+    note_asked "$tool"
+    said=$("$judge" "$folder" "$file" 2>&1) || { fault "$tool" "$file" "$said"; return; }
+    for byte in "$@"; do
+        rm -rf "$folder.flipped"
+        cp -r "$folder" "$folder.flipped"
+        flip "$folder.flipped/$file" "$byte"
+        said=$("$judge" "$folder.flipped" "$file" 2>&1) || continue
+        fault "$tool" "$file" "no judge: it finds nothing wrong with a bit flipped in byte $byte
 $said"
-    else
-        echo "  $1: $3: as described, and no fault; a bit flipped in byte $4 is found"
-    fi
+        return
+    done
+    echo "  $tool: $file: as described, and no fault; a bit flipped in byte ${bytes// /, or } is found"
 }
 
 # make_files [WORD..]: boots the description with the words into a dump and makes files of that, or counts a fault.
@@ -156,23 +174,26 @@ make_files() {
     said=$(python3 "$here/described.py" "$description" "$folder" 2>&1) || { fault described.py "the text" "$said"; return 1; }
 }
 
-# telling_byte TABLE: which byte of a table's file its other bytes decide: the checksum, or of a FACS, which has none, the length.
-telling_byte() {
+# telling_bytes TABLE: which byte of a table's file its other bytes decide: the checksum, or of a FACS, which has none, the length; and of
+# an MCFG a byte of the address that it tells, and the last bus.
+telling_bytes() {
     case $1 in
     FACS.aml) echo 4 ;;
-    *) echo 9 ;;
+    MCFG.aml) echo "$checksum" 47 55 ;;
+    *) echo "$checksum" ;;
     esac
 }
 
 ask_iasl() {
-    local table
+    local table bytes
     if [ ! -e "$folder/RSDP.bin" ]; then
         echo "  iasl: the memory has no ACPI tables"
         return
     fi
     for table in "$folder"/*.aml; do
         table=$(basename "$table")
-        ask iasl judge_table "$table" "$(telling_byte "$table")"
+        read -ra bytes < <(telling_bytes "$table")
+        ask iasl judge_table "$table" "${bytes[@]}"
     done
     ask iasl judge_pointer RSDP.bin 8
 }
@@ -183,6 +204,22 @@ find_described_tables() {
         table=$(basename "$lines" .expected)
         [ -e "$folder/$table.aml" ] || fault dump_tables.py "the dump" "no $table, which is described"
     done
+}
+
+# Has the devices of the DSDT judged, where the description has power management.
+judge_devices() {
+    local said
+    [ -e "$folder/DSDT.expected" ] || return
+    said=$(python3 "$here/judge_dsdt.py" "$description" "$folder" 2>&1)
+    case $? in
+    0)
+        note_asked iasl
+        note_asked acpiexec
+        echo "  iasl and acpiexec: DSDT.aml: $said"
+        ;;
+    3) echo "  skipped: $said" ;;
+    *) fault judge_dsdt.py DSDT.aml "$said" ;;
+    esac
 }
 
 # judge_load TOP FILL [WORD..]: has the program load the folder's container with the words, and judges the dump, which must be one
@@ -365,6 +402,7 @@ judge_description() {
     echo "$description"
     if make_files; then
         judge_tables
+        judge_devices
         judge_container
         judge_list dump "$folder/dump"
         judge_same_list
@@ -394,8 +432,27 @@ judge_greatest() {
     python3 bench/descriptions.py "$work" || { fault descriptions.py "the text" "not written"; return; }
     make_files || return
     judge_tables
+    judge_devices
     judge_container
     judge_list dump "$folder/dump"
+}
+
+# judge_more NAME LINE..: boots the minimal description with power management and lines more, and has the tables judged.
+judge_more() {
+    description=$work/$1.toml
+    folder=$work/$1
+    echo "examples/minimal.toml with power management and more: $1"
+    (cat examples/minimal.toml && printf '%s\n' '[acpi]' '[power]' 'event = 0x600' 'control = 0x604' 'timer = 0x608' "${@:2}") >"$description"
+    make_files || return
+    judge_tables
+    judge_devices
+    judge_list dump "$folder/dump"
+}
+
+# Judges devices that no example has: none at all, and a bridge that tells of nothing but its buses.
+judge_few_devices() {
+    judge_more no_devices 'rtc = false' 'keyboard = false'
+    judge_more bare_bridge '[bridge]'
 }
 
 # Has each command that a document shows print what the document says.
@@ -412,6 +469,7 @@ judge_all() {
     cd "$root" || exit 1
     judge_examples
     judge_greatest
+    judge_few_devices
     judge_templates
     judge_bad_dumps
     judge_terms

@@ -10,7 +10,8 @@ Writes into FOLDER what the memory holds of these:
   RSDP.bin        the root pointer of the ACPI tables, and where it has revision 2
   RSDP.asl        its maker and the address that it gives, for iasl to make a root pointer of
   XSDT.aml        the table that the root pointer names, in revision 0 RSDT.aml, and a file for each table that it lists, or to which an
-                  FADT that it lists leads, as FACS.aml, named by the signature; a second table of a signature is SIGNATURE-2.aml
+                  FADT that it lists leads, as FACS.aml and DSDT.aml, named by the signature; a second table of a signature is
+                  SIGNATURE-2.aml
 
 Status 0: done; 1: the SMBIOS anchor or the root pointer leads to no table; 2: the file is no dump. A memory without an anchor of 24
 bytes has no structures, and one without a root pointer no ACPI tables, which is no fault.

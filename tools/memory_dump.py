@@ -154,12 +154,17 @@ def listed_tables(memory, root):
     return [acpi_table(memory, number_at(root, entry, width)) for entry in range(36, len(root) - width + 1, width)]
 
 
-def led_tables(memory, fadt):
-    """The tables that an FADT (5.2.9) leads to: the FACS and the DSDT, by the wide pointers where these aren't zero."""
+def led_addresses(fadt):
+    """The addresses to which an FADT (5.2.9) leads: of the FACS and of the DSDT, by the wide pointers where these aren't zero."""
     for narrow, wide in ((36, 132), (40, 140)):
         address = number_at(fadt, wide, 8) or number_at(fadt, narrow, 4)
         if address != 0:
-            yield acpi_table(memory, address)
+            yield address
+
+
+def led_tables(memory, fadt):
+    """The tables that an FADT leads to."""
+    return [acpi_table(memory, address) for address in led_addresses(fadt)]
 
 
 def reachable_tables(memory, root):

@@ -13,6 +13,7 @@ use Rattle.acpi_model.specs.declared.acpi.Table.{Table}
 use Rattle.acpi_model.specs.Header.{header_rows, table_rows, IsFittingHead}
 use Rattle.acpi_model.specs.Xsdt.{most_entries, xsdt_rows}
 use Rattle.acpi_model.specs.Rsdp.{rsdp_rows}
+use Rattle.acpi_model.specs.Found.{IsBlockRow, dsdt_rows}
 use Rattle.acpi_model.specs.Acpi.{layout_of, signature_of, rows_of, IsWritable, CanBePut}
 use Rattle.acpi_model.proofs.Headers.{header_fits}
 use Rattle.acpi_model.proofs.Known.{length-signature}
@@ -25,6 +26,8 @@ use Rattle.acpi_append.specs.Tables.{table_pointer, with_table, with_xsdt, with_
 use Rattle.acpi_append.proofs.Tables.{are_table_rows, body_unsummed}
 use Rattle.acpi_append.specs.FacsPut.{with_facs, IsFacsPut}
 use Rattle.acpi_append.proofs.FacsPut.{facs_put}
+use Rattle.acpi_append.specs.DsdtPut.{with_dsdt, IsDsdtPut}
+use Rattle.acpi_append.proofs.DsdtPut.{dsdt_put}
 use Rattle.acpi_append.proofs.Puts.{put_where_held, table_put}
 
 -- so the rows of a table can be appended
@@ -69,6 +72,12 @@ module _ (file : BlobState) (blob : IsBlob file) where
   pub facs_appended : (facs : Facs) → AreRows (facs_rows facs) → next_place 16 file + 64 < 2 ^ 32 → IsFacsPut file (with_facs file facs) facs
   facs_appended facs are short =
       facs_put file (with_facs file facs) facs are.each (layout_appended 16 file (facs_rows facs) blob are (omega (arith, short)))
+
+  -- a DSDT
+  pub dsdt_appended : (head : Head) (block : List Row) → AreRows (dsdt_rows head block) → AllByRecursion IsBlockRow block
+      → next_place 16 file + size (dsdt_rows head block) < 2 ^ 32 → IsDsdtPut file (with_dsdt file head block) head block
+  dsdt_appended head block are body short =
+      dsdt_put file (with_dsdt file head block) head block are.each body (layout_appended 16 file (dsdt_rows head block) blob are short)
 
 -- the pointers to tables are no sums
 pub pointers_unsummed : (tables : List ℕ) → AllByRecursion IsUnsummed (map table_pointer tables)

@@ -5,3 +5,5 @@ pub mod Leading
 pub mod FacsPut
 pub mod EntryPut
 pub mod OfParts
+pub mod DsdtPut
+pub mod Allocations

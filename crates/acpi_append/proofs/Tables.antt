@@ -1,5 +1,5 @@
 -- The rows of tables, which can be appended.
-use Rattle.std.proofs.Common.{◌≡◌, ℕ, ◌+◌, ◌<◌, ◌≤◌, true, List, [], ◌++◌, length, drop, arith, refl, ap, sym, subst, ◌∙◌, codes, append-nil}
+use Rattle.std.proofs.Common.{◌≡◌, ℕ, ◌+◌, ◌<◌, ◌≤◌, true, List, [], ◌++◌, drop, arith, refl, ap, sym, subst, ◌∙◌, codes, append-nil, append_assoc}
 use Rattle.std.specs.Int.{is_power_of_two}
 use Rattle.std.specs.List.{AllByRecursion}
 use lib.Count.{ones}
@@ -7,19 +7,23 @@ use Rattle.vt_layout.specs.declared.row.Row.{Row}
 use Rattle.vt_layout.specs.declared.row.Row.TheVariants.{Number, Bytes, Sum}
 use Rattle.vt_layout.specs.Rows.{size, IsRow}
 use Rattle.vt_layout.specs.Fields.{Gathered, field_rows, with_row}
-use Rattle.vt_bytes.proofs.Each.{each_append, each_weaker}
+use Rattle.vt_bytes.proofs.Each.{each_append, each_weaker, each_map}
 use Rattle.vt_layout.proofs.Sizes.{size-append}
 use Rattle.acpi_records.specs.declared.header.Head.{Head}
 use Rattle.acpi_model.specs.Header.{head_fields, framed, header_rows, table_rows}
 use Rattle.acpi_model.specs.declared.acpi.Table.{Table}
-use Rattle.acpi_model.specs.declared.acpi.Table.TheVariants.{Fadt, Madt, Srat, Slit, Hpet}
+use Rattle.acpi_model.specs.declared.acpi.Table.TheVariants.{Fadt, Madt, Srat, Slit, Mcfg, Hpet}
 use Rattle.acpi_model.specs.Kinds.{rows_behind, IsBodyRow}
 use Rattle.acpi_model.specs.Acpi.{layout_of, signature_of, rows_of}
 use Rattle.acpi_model.specs.Xsdt.{xsdt_rows}
+use Rattle.acpi_model.specs.McfgKind.{mcfg_layout}
+use Rattle.acpi_model.specs.Found.{dsdt_rows}
+use Rattle.blob_holes.specs.declared.part.Part.{Part}
+use Rattle.blob_holes.specs.declared.part.Part.TheVariants.{Bytes as BytesPart, Pointer as PointerPart}
 use Rattle.blob_holes.specs.Rows.{IsUnsummed, AreRows}
-use Rattle.blob_holes.specs.Plain.{Spells}
+use Rattle.blob_holes.specs.Parts.{StandFor, part_row, part_rows}
 use Rattle.blob_holes.proofs.Unsummed.{sums_fit}
-use Rattle.blob_holes.proofs.Spelled.{size_spelled}
+use Rattle.blob_holes.proofs.PartRows.{stand_size}
 use Rattle.acpi_append.specs.Tables.{BeginWithHeader, front_body, rows_as_bytes, front_rows}
 
 -- 16 is a power of two
@@ -48,6 +52,15 @@ pub framed_are : (signature : List ℕ) (rows more : List Row) (total : ℕ) (be
 framed_are signature rows more total begin total_is =
     let length_is : total ≡ 36 + size (begin.behind ++ more) = omega (arith, total_is, ap size begin.are, size-append begin.behind more) in
     framed_begin signature rows more total begin ∙ ap (λ n. header_rows signature n begin.head ++ (begin.behind ++ more)) length_is
+
+-- so they are with rows behind them that stand for parts
+pub parts_framed : (signature : List ℕ) (rows more behind : List Row) (parts : List Part) (begin : BeginWithHeader rows) → StandFor parts behind
+    → framed signature (size rows + size more + size (part_rows parts)) rows ++ more ++ behind
+    ≡ table_rows signature begin.head (begin.behind ++ (more ++ behind))
+parts_framed signature rows more behind parts begin stand =
+    let total : ℕ = size rows + size more + size (part_rows parts) in
+    let total_is : total ≡ size rows + size (more ++ behind) = omega (arith, stand_size parts behind stand, size-append more behind) in
+    append_assoc (framed signature total rows) more behind ∙ framed_are signature rows (more ++ behind) total begin total_is
 
 -- the rows of a list in which they were set one after the other
 pub framed_by_sets : (before one two three : Gathered) (signature bytes : List ℕ) (total n m : ℕ) → one ≡ with_row 0 (Bytes 4 bytes) before
@@ -80,9 +93,18 @@ unsummed_row row is = tt
 pub body_unsummed : (rows : List Row) → AllByRecursion IsBodyRow rows → AllByRecursion IsUnsummed rows
 body_unsummed rows are = each_weaker IsBodyRow IsUnsummed unsummed_row rows are
 
+-- and in parts is none
+part_unsummed : (part : Part) → IsUnsummed (part_row part)
+part_unsummed (BytesPart bytes) = tt
+part_unsummed (PointerPart target offset) = tt
+
+pub parts_unsummed : (parts : List Part) → AllByRecursion IsUnsummed (part_rows parts)
+parts_unsummed parts = each_map IsUnsummed part_row part_unsummed parts
+
 -- behind its header a table has the rows that are put as rows, and those that are put as bytes
 pub all_rows : (table : Table) → front_body table ++ rows_as_bytes table ≡ rows_behind (layout_of table)
 all_rows (Slit t) = refl
+all_rows (Mcfg t) = sym (append-nil (mcfg_layout t).body)
 all_rows (Fadt t links) = refl
 all_rows (Madt t) = refl
 all_rows (Srat t) = refl
@@ -92,23 +114,24 @@ all_rows (Hpet t) = refl
 abbrev pub table_begins : (table : Table) (rows : List Row) → rows ≡ front_rows table → BeginWithHeader rows
 table_begins table rows are = record { head = (layout_of table).head; behind = front_body table; are = are }
 
--- with the latter behind them, which bytes spell, they are all of its rows
-pub table_framed : (table : Table) (rows : List Row) (signature bytes : List ℕ) → rows ≡ front_rows table → signature ≡ signature_of table
-    → Spells (rows_as_bytes table) bytes
-    → framed signature (size rows + size [] + length bytes) rows ++ [] ++ rows_as_bytes table ≡ rows_of table
-table_framed table rows signature bytes are its_signature spells =
-    let more : List Row = rows_as_bytes table in
+-- with the latter behind them, which parts stand for, they are all of its rows
+pub table_framed : (table : Table) (rows : List Row) (signature : List ℕ) (parts : List Part) → rows ≡ front_rows table
+    → signature ≡ signature_of table → StandFor parts (rows_as_bytes table)
+    → framed signature (size rows + size [] + size (part_rows parts)) rows ++ [] ++ rows_as_bytes table ≡ rows_of table
+table_framed table rows signature parts are its_signature stand =
     let head : Head = (layout_of table).head in
-    let total : ℕ = size rows + size [] + length bytes in
-    let total_is : total ≡ size rows + size more = omega (arith, size_spelled more bytes spells) in
-    ap (λ all. all ++ more) (append-nil (framed signature total rows))
-    ∙ framed_are signature rows more total (table_begins table rows are) total_is ∙ ap (table_rows signature head) (all_rows table)
-    ∙ ap (λ s. table_rows s head (rows_behind (layout_of table))) its_signature
+    parts_framed signature rows [] (rows_as_bytes table) parts (table_begins table rows are) stand
+    ∙ ap (table_rows signature head) (all_rows table) ∙ ap (λ s. table_rows s head (rows_behind (layout_of table))) its_signature
 
 -- and so do those of an XSDT's header, with its entries behind them
 pub xsdt_framed : (head : Head) (rows more entries : List Row) → rows ≡ field_rows (head_fields head) → more ≡ entries
     → framed (codes "XSDT") (size rows + size more + 0) rows ++ more ++ [] ≡ xsdt_rows head entries
 xsdt_framed head rows more entries are entries_are =
-    let total : ℕ = size rows + size more + 0 in
-    append-nil (framed (codes "XSDT") total rows ++ more)
-    ∙ framed_are (codes "XSDT") rows more total (record { head = head; behind = []; are = are }) (omega arith) ∙ ap (xsdt_rows head) entries_are
+    parts_framed (codes "XSDT") rows more [] [] (record { head = head; behind = []; are = are }) refl
+    ∙ ap (xsdt_rows head) (append-nil more ∙ entries_are)
+
+-- and those of a DSDT's header, with those of its definition block behind them
+pub dsdt_framed : (head : Head) (rows block : List Row) (parts : List Part) → rows ≡ field_rows (head_fields head) → StandFor parts block
+    → framed (codes "DSDT") (size rows + size [] + size (part_rows parts)) rows ++ [] ++ block ≡ dsdt_rows head block
+dsdt_framed head rows block parts are stand =
+    parts_framed (codes "DSDT") rows [] block parts (record { head = head; behind = []; are = are }) stand

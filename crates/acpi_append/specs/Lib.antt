@@ -1,5 +1,6 @@
 pub mod Tables
 pub mod FacsPut
+pub mod DsdtPut
 pub mod EntryPut
 pub use Rattle.vt_outside.specs.Name
 pub use Rattle.vt_bytes.specs.View

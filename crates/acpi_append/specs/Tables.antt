@@ -10,16 +10,18 @@ use Rattle.vt_layout.specs.Fields.{field_rows}
 use Rattle.vt_layout.specs.Entries.{entries_rows}
 use Rattle.acpi_records.specs.declared.header.Head.{Head}
 use Rattle.acpi_model.specs.declared.acpi.Table.{Table}
-use Rattle.acpi_model.specs.declared.acpi.Table.TheVariants.{Slit}
+use Rattle.acpi_model.specs.declared.acpi.Table.TheVariants.{Slit, Mcfg}
 use Rattle.acpi_model.specs.Header.{head_fields, body_rows}
 use Rattle.acpi_model.specs.Slit.{slit_front_fields, slit_front_of, distances_row}
+use Rattle.acpi_model.specs.Mcfg.{mcfg_front_fields, mcfg_front_of, allocations_rows}
 use Rattle.acpi_model.specs.Kinds.{tables_name}
 use Rattle.acpi_model.specs.Acpi.{layout_of, rows_of, linked_table, IsAt}
 use Rattle.acpi_model.specs.Xsdt.{IsXsdt, xsdt_rows, given}
 use Rattle.acpi_model.specs.Rsdp.{rsdp_rows}
 use Rattle.blob_holes.specs.Blob.{BlobState, next_place, aligned}
 use Rattle.blob_holes.specs.Rows.{with_rows}
-use Rattle.blob_holes.specs.Plain.{Spells}
+use Rattle.blob_holes.specs.declared.part.Part.{Part}
+use Rattle.blob_holes.specs.Parts.{StandFor}
 use Rattle.blob_holes.specs.Held.{WhereHeld}
 use Rattle.blob_holes.specs.Appended.{IsAppended}
 
@@ -30,13 +32,15 @@ pub record BeginWithHeader (rows : List Row) : Type 0 where
   pub are : rows ≡ field_rows (head_fields head) ++ behind
 
 -- The rows behind the header of a table that are put as rows, and those behind them that are put as the bytes which they spell, since
--- they may be many or long: the distances of a SLIT, and the entries of any other table.
+-- they may be many or long: the distances of a SLIT, the allocations of an MCFG, and the entries of any other table.
 abbrev pub front_body : Table → List Row
 front_body (Slit t) = body_rows (slit_front_fields (slit_front_of t))
+front_body (Mcfg t) = body_rows (mcfg_front_fields (mcfg_front_of t))
 front_body table = (layout_of table).body
 
 abbrev pub rows_as_bytes : Table → List Row
 rows_as_bytes (Slit t) = distances_row t.distances ∷ []
+rows_as_bytes (Mcfg t) = allocations_rows t.allocations
 rows_as_bytes table = entries_rows (layout_of table).entries
 
 -- all that are put as rows, with zeros for the signature, the length and the checksum
@@ -66,9 +70,9 @@ pub record AreRowsPut (before after : BlobState) (rows : List Row) : Type 0 wher
   pub fit : AllByRecursion IsRow rows
   pub appended : IsAppended 16 before after rows
 
--- and bytes behind them, whatever plain rows spell those
-abbrev pub AreRowsPutWith : BlobState → BlobState → List Row → List ℕ → Type 0
-AreRowsPutWith before after rows bytes = (more : List Row) → Spells more bytes → AreRowsPut before after (rows ++ more)
+-- and parts behind them, whatever rows stand for those
+abbrev pub AreRowsPutWith : BlobState → BlobState → List Row → List Part → Type 0
+AreRowsPutWith before after rows parts = (more : List Row) → StandFor parts more → AreRowsPut before after (rows ++ more)
 
 -- The rows of a table were appended at the next multiple of 16, and wherever a view then holds the file with its holes filled, this
 -- is shown at their address.

@@ -1,4 +1,4 @@
-//! ACPI tables, whichever they are, appended to files with holes: a table of a known kind, the FACS, the XSDT and the RSDP
+//! ACPI tables, whichever they are, appended to files with holes: a table of a known kind, the FACS, the DSDT, the XSDT and the RSDP
 //! (ACPI 6.5, 5.2).
 //!
 //! Each call takes what the table says and appends its rows to a file, at the next multiple of 16, exactly; and in any view that
@@ -6,17 +6,20 @@
 //! law says the same of files by the definitions alone. Crates that append tables of a machine stand on this one.
 #![tactic(auto)]
 
+mod dsdt;
 mod entries;
 mod facs;
 mod fadt;
 pub mod laws;
 mod madt;
+mod mcfg;
 mod rsdp;
 mod slit;
 mod srat;
 mod table;
 mod xsdt;
 
+pub use dsdt::put_dsdt;
 pub use facs::put_facs;
 pub use rsdp::put_rsdp;
 pub use table::{TABLES_FILE, put_table};

@@ -6,15 +6,17 @@ ghost use Rattle.acpi_model.specs.Acpi.{signature_of, IsWritable};
 ghost use Rattle.blob_holes.specs.Blob.{next_place};
 ghost use Rattle.blob_holes.specs.Rows.{IsUnsummed};
 ghost use Rattle.blob_holes.specs.Plain.{Spells};
+ghost use Rattle.blob_holes.specs.Parts.{part_rows};
 ghost use Rattle.acpi_model.specs.Kinds.{tables_name};
 ghost use Rattle.acpi_append.specs.Tables.{BeginWithHeader, AreRowsPutWith, IsTablePut, front_rows, rows_as_bytes, table_pointer};
 
 use crate::fadt::fadt_rows;
 use crate::madt::{madt_bytes, madt_rows};
+use crate::mcfg::{mcfg_bytes, mcfg_rows};
 use crate::slit::slit_rows;
 use crate::srat::{srat_bytes, srat_rows};
 use acpi_model::Table;
-use blob_holes::{Blob, append_layout};
+use blob_holes::{Blob, Part, append_layout, size_of_parts};
 use std::alloc::Global;
 use vt_layout::{Row, RowList, ShortBytes, rows_of, size_of};
 use vt_outside::{Bytes, Name, OutOfMemory};
@@ -48,11 +50,11 @@ pub fn put_table(blob: &mut Blob, table: &Table) -> Result<u32, OutOfMemory>
         known_signature(table),
         &mut rows,
         &[],
-        bytes.as_slice(),
+        &[Part::Bytes(bytes.as_slice())],
     )
 }
 
-// The rows of a table before its entries, or before its distances, with zeros for its signature, its length and its checksum.
+// The rows of a table before its entries, its distances or its allocations, with zeros for its signature, its length and its checksum.
 fn known_rows<'a>(alloc: Global, table: &'a Table) -> Result<RowList<'a>, OutOfMemory>
     requires { IsWritable table.now }
     ensures { IfOk result (λ list. list.rows ≡ front_rows table.now) }
@@ -62,11 +64,12 @@ fn known_rows<'a>(alloc: Global, table: &'a Table) -> Result<RowList<'a>, OutOfM
         Table::Madt(table) => madt_rows(alloc, table),
         Table::Srat(table) => srat_rows(alloc, table),
         Table::Slit(table) => slit_rows(alloc, table),
+        Table::Mcfg(table) => mcfg_rows(alloc, table),
         Table::Hpet(table) => rows_of(alloc, table),
     }
 }
 
-// The entries or the distances of a table as bytes, since rows of thousands of entries would take much memory.
+// The entries, the distances or the allocations of a table as bytes, since rows of thousands of entries would take much memory.
 fn known_bytes(alloc: Global, table: &Table) -> Result<Bytes, OutOfMemory>
     requires { IsWritable table.now }
     ensures { IfOk result (λ bytes. Spells (rows_as_bytes table.now) bytes) }
@@ -76,6 +79,7 @@ fn known_bytes(alloc: Global, table: &Table) -> Result<Bytes, OutOfMemory>
         Table::Madt(table) => madt_bytes(alloc, table),
         Table::Srat(table) => srat_bytes(alloc, table),
         Table::Slit(table) => table.distances.copy(),
+        Table::Mcfg(table) => mcfg_bytes(alloc, table),
         Table::Hpet(_) => Ok(Bytes::new(alloc)),
     }
 }
@@ -88,35 +92,38 @@ fn known_signature(table: &Table) -> &'static [u8; 4]
         Table::Madt(_) => b"APIC",
         Table::Srat(_) => b"SRAT",
         Table::Slit(_) => b"SLIT",
+        Table::Mcfg(_) => b"MCFG",
         Table::Hpet(_) => b"HPET",
     }
 }
 
 /// Appends the table with `signature` that has the rows `rows`, which begin with those of a header, the rows `more` behind them and the
-/// bytes `plain` behind those, at the next multiple of 16, and returns its offset in bytes. Its signature, its length and its checksum are
-/// put into `rows`. All is at most 2^25 bytes, and there is no checksum behind the header. `blob` has less than 2 GiB before. Returns
-/// `OutOfMemory` when memory runs out; what `blob` then holds is unspecified.
+/// parts `parts` behind those, at the next multiple of 16, and returns its offset in bytes. Its signature, its length and its checksum are
+/// put into `rows`. All is at most 2^25 bytes, there is no checksum behind the header, and each pointer of `parts` fits its dword wherever
+/// its file is placed. `blob` has less than 2 GiB before. Returns `OutOfMemory` when memory runs out; what `blob` then holds is
+/// unspecified.
 pub(crate) fn append_table(
     blob: &mut Blob,
     signature: &[u8; 4],
     rows: &mut RowList,
     more: &[Row],
-    plain: &[u8],
+    parts: &[Part],
 ) -> Result<u32, OutOfMemory>
     requires header { BeginWithHeader rows.old.rows }
     requires more { AllByRecursion IsRow more.now }
+    requires fit { AllByRecursion IsRow (part_rows parts.now) }
     requires no_sum { AllByRecursion IsUnsummed (drop 9 rows.old.rows ++ more.now) }
     requires short { length blob.old.bytes < 2 ^ 31 }
-    requires few { size rows.old.rows + size more.now + length plain.now ≤ 2 ^ 25 }
+    requires few { size rows.old.rows + size more.now + size (part_rows parts.now) ≤ 2 ^ 25 }
     ensures place { IfOk result (λ place. place ≡ next_place 16 blob.old) }
     ensures put { OnOk result (AreRowsPutWith blob.old blob.new
-        (framed signature.now (size rows.old.rows + size more.now + length plain.now) rows.old.rows ++ more.now) plain.now) }
+        (framed signature.now (size rows.old.rows + size more.now + size (part_rows parts.now)) rows.old.rows ++ more.now) parts.now) }
 {
-    let total = size_of(rows.rows()) + size_of(more) + plain.len() as u32;
+    let total = size_of(rows.rows()) + size_of(more) + size_of_parts(parts);
     rows.set(0, Row::Bytes(4, ShortBytes::of(signature)));
     rows.set(1, Row::Number(4, u64::from(total)));
     rows.set(3, Row::Sum(total));
-    append_layout(blob, ALIGN, rows.rows(), more, plain)
+    append_layout(blob, ALIGN, rows.rows(), more, parts)
 }
 
 /// Returns the row, 8 bytes wide, of the address of the table at `offset` in the file `TABLES_FILE`, in bytes.

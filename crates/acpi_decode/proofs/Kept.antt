@@ -3,7 +3,7 @@ use Rattle.std.proofs.Common.{◌≡◌, refl}
 use Rattle.acpi_model.specs.declared.acpi.AcpiTables.{AcpiTables}
 use Rattle.acpi_model.specs.declared.acpi.FadtTargets.{FadtTargets}
 use Rattle.acpi_model.specs.declared.acpi.Table.{Table}
-use Rattle.acpi_model.specs.declared.acpi.Table.TheVariants.{Fadt, Madt, Srat, Slit, Hpet}
+use Rattle.acpi_model.specs.declared.acpi.Table.TheVariants.{Fadt, Madt, Srat, Slit, Mcfg, Hpet}
 use Rattle.acpi_model.specs.Acpi.{with_table}
 
 pub record IsKept (before after : AcpiTables) : Type 0 where
@@ -15,4 +15,5 @@ kept_with (Fadt t links) targets all = record { oem_id = refl; xsdt = refl }
 kept_with (Madt t) targets all = record { oem_id = refl; xsdt = refl }
 kept_with (Srat t) targets all = record { oem_id = refl; xsdt = refl }
 kept_with (Slit t) targets all = record { oem_id = refl; xsdt = refl }
+kept_with (Mcfg t) targets all = record { oem_id = refl; xsdt = refl }
 kept_with (Hpet t) targets all = record { oem_id = refl; xsdt = refl }

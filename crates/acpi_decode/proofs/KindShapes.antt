@@ -1,8 +1,8 @@
 -- The shape of the rows of each known kind holds no values, and any bytes can be such rows; so can they be those of its entries.
-use Rattle.std.proofs.Common.{◌≡◌, ℕ, ◌*◌, List, [], ◌∷◌, Option, Some, None, refl, subst}
+use Rattle.std.proofs.Common.{◌≡◌, ℕ, zero, suc, ◌-◌, ◌*◌, ◌/◌, List, [], ◌∷◌, ◌++◌, drop, Option, Some, None, refl, ap, subst}
 use Rattle.vt_bytes.specs.View.{View}
 use Rattle.vt_layout.specs.declared.row.Row.{Row}
-use Rattle.vt_layout.specs.declared.row.Row.TheVariants.{Number, Bytes}
+use Rattle.vt_layout.specs.declared.row.Row.TheVariants.{Number, Bytes, Reserved}
 use Rattle.vt_layout.specs.Entries.{Types}
 use Rattle.vt_layout.specs.BadEntries.{AreReadable}
 use Rattle.acpi_records.specs.Header.{body_rows}
@@ -11,11 +11,21 @@ use Rattle.acpi_records.specs.Hpet.{hpet_fields, hpet_made}
 use Rattle.acpi_records.specs.Madt.{madt_front_fields, madt_front_made}
 use Rattle.acpi_records.specs.Srat.{srat_front_fields, srat_front_made}
 use Rattle.acpi_model.specs.SlitKind.{count_at}
+use Rattle.acpi_model.specs.McfgKind.{allocation_shape, allocations_shape}
 use Rattle.acpi_decode.specs.declared.kind.KnownKind.{KnownKind}
-use Rattle.acpi_decode.specs.declared.kind.KnownKind.TheVariants.{Fadt, Madt, Srat, Slit, Hpet}
+use Rattle.acpi_decode.specs.declared.kind.KnownKind.TheVariants.{Fadt, Madt, Srat, Slit, Mcfg, Hpet}
 use Rattle.acpi_decode.specs.KnownKinds.{kind_of}
 use Rattle.acpi_decode.specs.Blank.{IsBlank, IsBlankOrNone, blank_shape, blank_one}
 use Rattle.acpi_decode.specs.Readable.{madt_readable, srat_readable}
+
+allocations_blank : (count : ℕ) → IsBlank (Reserved 8 ∷ allocations_shape count)
+allocations_blank zero = blank_shape (Reserved 8 ∷ []) refl
+allocations_blank (suc count) =
+    let others = allocations_blank count in
+    record {
+      blank = ap (λ rows. Reserved 8 ∷ (allocation_shape ++ drop 1 rows)) others.blank;
+      readable = (tt, (tt, (tt, (tt, (tt, (tt, others.readable.1))))));
+    }
 
 shape_is_blank : (k : KnownKind) (view : View) (address total : ℕ) → IsBlankOrNone ((kind_of k).shape view address total)
 shape_is_blank Fadt view address total = blank_shape (body_rows (fadt_fields (fadt_made []))) refl
@@ -24,6 +34,8 @@ shape_is_blank Srat view address total = blank_shape (body_rows (srat_front_fiel
 shape_is_blank Slit view address total =
     let count = count_at view address in
     blank_one _ (Some (Number 8 0 ∷ Bytes (count * count) [] ∷ [])) None (blank_shape (Number 8 0 ∷ Bytes (count * count) [] ∷ []) refl) tt
+shape_is_blank Mcfg view address total =
+    blank_one _ (Some (Reserved 8 ∷ allocations_shape ((total - 44) / 16))) None (allocations_blank ((total - 44) / 16)) tt
 shape_is_blank Hpet view address total = blank_shape (body_rows (hpet_fields (hpet_made []))) refl
 
 pub blank_rows : (k : KnownKind) (view : View) (address total : ℕ) (rows : List Row) → (kind_of k).shape view address total ≡ Some rows → IsBlank rows
@@ -38,6 +50,7 @@ types_are_readable Fadt = tt
 types_are_readable Madt = madt_readable
 types_are_readable Srat = srat_readable
 types_are_readable Slit = tt
+types_are_readable Mcfg = tt
 types_are_readable Hpet = tt
 
 pub readable_types : (k : KnownKind) (types : Types) → (kind_of k).types ≡ Some types → AreReadable types

@@ -7,7 +7,7 @@ use Rattle.std.proofs.lemmas.Slice.Eq.{bytes_eq-Decides}
 use Rattle.acpi_model.specs.Kinds.{Kind}
 use Rattle.acpi_model.specs.Acpi.{kind_of as kind_for}
 use Rattle.acpi_decode.specs.declared.kind.KnownKind.{KnownKind}
-use Rattle.acpi_decode.specs.declared.kind.KnownKind.TheVariants.{Fadt, Madt, Srat, Slit, Hpet}
+use Rattle.acpi_decode.specs.declared.kind.KnownKind.TheVariants.{Fadt, Madt, Srat, Slit, Mcfg, Hpet}
 use Rattle.acpi_decode.specs.KnownKinds.{kind_of, known_kinds}
 
 found_among : {A B : Type 0} (f : A → B) (test : B → Bool) (items : List A) (found : B) → find test (map f items) ≡ Some found
@@ -32,4 +32,5 @@ is_known Fadt = refl
 is_known Madt = refl
 is_known Srat = refl
 is_known Slit = refl
+is_known Mcfg = refl
 is_known Hpet = refl

@@ -5,14 +5,13 @@ use Rattle.vt_bytes.specs.View.{View}
 use Rattle.acpi_records.specs.Facs.{IsFacs}
 use Rattle.acpi_model.specs.declared.link.FadtLinks.{FadtLinks}
 use Rattle.acpi_model.specs.declared.acpi.FadtTargets.{FadtTargets}
-use Rattle.acpi_model.specs.declared.dsdt.Dsdt.TheVariants.{Foreign}
 use Rattle.acpi_model.specs.Links.{IsFound}
 use Rattle.acpi_model.specs.Found.{IsDsdt, LeadTo, facs_address, dsdt_address}
-use Rattle.acpi_decode.specs.Seen.{bytes_from, total_at}
+use Rattle.acpi_decode.specs.Seen.{bytes_from}
 use Rattle.acpi_decode.specs.Tests.{Test, Pass}
 use Rattle.acpi_decode.specs.TableTests.{facs_tests, dsdt_tests}
 use Rattle.acpi_decode.specs.KindTests.{tests_at, target_tests}
-use Rattle.acpi_decode.specs.Read.{head_in, facs_in}
+use Rattle.acpi_decode.specs.Read.{facs_in}
 use Rattle.acpi_decode.proofs.Facses.{facs_stands, facs_passes}
 use Rattle.acpi_decode.proofs.Dsdts.{dsdt_stands, dsdt_passes}
 use Rattle.acpi_decode.proofs.Firsts.{pass_both, pass_front, pass_back}
@@ -34,13 +33,15 @@ none_due : (tests : ℕ → List Test) (address : ℕ) → (address == 0) ≡ tr
 none_due tests address is = ap (λ none. cond none [] (tests address)) is
 
 -- where tests pass exactly where something stands, so it is with what an address leads to
-passing_found : {T : Type 0} (Stands : ℕ → T → Type 0) (tests : ℕ → List Test) (made : ℕ → T)
-    → ((address : ℕ) → Pass (tests address) → Stands address (made address))
+passing_found : {T : Type 0} (Stands : ℕ → T → Type 0) (tests : ℕ → List Test)
+    → ((address : ℕ) → Pass (tests address) → (what : T) × Stands address what)
     → (address : ℕ) → Pass (tests_at tests address) → (found : Option T) × IsFound Stands address found
-passing_found Stands tests made stands address pass =
+passing_found Stands tests stands address pass =
     elim (cases_Bool (address == 0)) [
       | inl none ↦ (None, found_nowhere Stands address none)
-      | inr some ↦ (Some (made address), found_there Stands address (made address) some (stands address (subst Pass (tests_due tests address some) pass)))
+      | inr some ↦
+          let there = stands address (subst Pass (tests_due tests address some) pass) in
+          (Some there.0, found_there Stands address there.0 some there.1)
     ]
 
 found_passing : {T : Type 0} (Stands : ℕ → T → Type 0) (tests : ℕ → List Test) → ((address : ℕ) (what : T) → Stands address what → Pass (tests address))
@@ -61,9 +62,8 @@ targets_pass view links targets is =
 pub targets_found : (view : View) (links : FadtLinks) → Pass (target_tests view links) → (targets : FadtTargets) × LeadTo view (Some links) targets
 targets_found view links pass =
     let facs = passing_found (IsFacs view) (facs_tests view)
-    (λ address. facs_in (bytes_from view address 64)) (facs_stands view) (facs_address links)
+    (λ address due. (facs_in (bytes_from view address 64), facs_stands view address due)) (facs_address links)
     (pass_front (tests_at (facs_tests view) (facs_address links)) (tests_at (dsdt_tests view) (dsdt_address links)) pass) in
-    let dsdt = passing_found (IsDsdt view) (dsdt_tests view)
-    (λ address. Foreign (head_in (bytes_from view address 36)) (total_at view address)) (dsdt_stands view) (dsdt_address links)
+    let dsdt = passing_found (IsDsdt view) (dsdt_tests view) (dsdt_stands view) (dsdt_address links)
     (pass_back (tests_at (facs_tests view) (facs_address links)) (tests_at (dsdt_tests view) (dsdt_address links)) pass) in
     (record { facs = facs.0; dsdt = dsdt.0 }, (facs.1, dsdt.1))

@@ -8,6 +8,7 @@ pub mod Wholes
 pub mod TableStands
 pub mod Headed
 pub mod Facses
+pub mod TermsOfTrees
 pub mod Dsdts
 pub mod LedTo
 pub mod KnownAt
@@ -21,6 +22,7 @@ pub mod RamJoined
 pub mod Roots
 pub mod ReadFadt
 pub mod ReadSlit
+pub mod ReadMcfg
 pub mod ReadTables
 pub mod Takings
 pub mod NamedInTurn

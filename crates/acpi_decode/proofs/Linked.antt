@@ -11,7 +11,7 @@ use Rattle.acpi_model.specs.FadtKind.{fadt_kind, links_of}
 use Rattle.acpi_model.specs.Found.{LeadTo}
 use Rattle.acpi_model.specs.Acpi.{no_targets}
 use Rattle.acpi_decode.specs.declared.kind.KnownKind.{KnownKind}
-use Rattle.acpi_decode.specs.declared.kind.KnownKind.TheVariants.{Fadt, Madt, Srat, Slit, Hpet}
+use Rattle.acpi_decode.specs.declared.kind.KnownKind.TheVariants.{Fadt, Madt, Srat, Slit, Mcfg, Hpet}
 use Rattle.acpi_decode.specs.KnownKinds.{kind_of}
 use Rattle.acpi_decode.specs.Seen.{is_ram, bytes_from, number_at, total_at}
 use Rattle.acpi_decode.specs.Tests.{Pass}
@@ -54,6 +54,7 @@ led_pass Fadt view address entries targets room whole lead =
 led_pass Madt view address entries targets room whole lead = tt
 led_pass Srat view address entries targets room whole lead = tt
 led_pass Slit view address entries targets room whole lead = tt
+led_pass Mcfg view address entries targets room whole lead = tt
 led_pass Hpet view address entries targets room whole lead = tt
 
 pub passing_leads : (k : KnownKind) (view : View) (address : ℕ) (entries : List Entry) → has_room (kind_of k) view address ≡ true
@@ -65,4 +66,5 @@ passing_leads Fadt view address entries room whole pass =
 passing_leads Madt view address entries room whole pass = (no_targets, (refl, refl))
 passing_leads Srat view address entries room whole pass = (no_targets, (refl, refl))
 passing_leads Slit view address entries room whole pass = (no_targets, (refl, refl))
+passing_leads Mcfg view address entries room whole pass = (no_targets, (refl, refl))
 passing_leads Hpet view address entries room whole pass = (no_targets, (refl, refl))

@@ -17,7 +17,7 @@ use Rattle.acpi_model.specs.Acpi.{kind_of as kind_for, signature_of, IsOther, is
 use Rattle.acpi_decode.specs.declared.fault.AcpiFault.{AcpiFault}
 use Rattle.acpi_decode.specs.declared.fault.AcpiFault.TheVariants.{BadEntry, TwiceGiven}
 use Rattle.acpi_decode.specs.declared.kind.KnownKind.{KnownKind}
-use Rattle.acpi_decode.specs.declared.kind.KnownKind.TheVariants.{Fadt, Madt, Srat, Slit, Hpet}
+use Rattle.acpi_decode.specs.declared.kind.KnownKind.TheVariants.{Fadt, Madt, Srat, Slit, Mcfg, Hpet}
 use Rattle.acpi_decode.specs.KnownKinds.{kind_of}
 use Rattle.acpi_decode.specs.Seen.{is_ram, bytes_from, signature_at, total_at}
 use Rattle.acpi_decode.specs.Tests.{Test, FirstFails, Pass, NoFault}
@@ -42,6 +42,7 @@ table_signed Fadt view address entries = refl
 table_signed Madt view address entries = refl
 table_signed Srat view address entries = refl
 table_signed Slit view address entries = refl
+table_signed Mcfg view address entries = refl
 table_signed Hpet view address entries = refl
 
 -- the tests of a table of a kind, behind those of its header

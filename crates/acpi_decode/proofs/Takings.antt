@@ -10,11 +10,11 @@ use Rattle.acpi_model.specs.declared.acpi.Table.{Table}
 use Rattle.acpi_model.specs.FadtKind.{links_of}
 use Rattle.acpi_model.specs.Found.{LeadTo}
 use Rattle.acpi_model.specs.Acpi.{kind_of as kind_for, IsAt, IsOther, is_first, AreTold, with_table, signature_of}
-use Rattle.acpi_model.proofs.FoundInTurn.{table_grows, other_grows, fadt_apart, madt_apart, srat_apart, slit_apart, hpet_apart}
+use Rattle.acpi_model.proofs.FoundInTurn.{table_grows, other_grows, fadt_apart, madt_apart, srat_apart, slit_apart, mcfg_apart, hpet_apart}
 use Rattle.acpi_decode.specs.declared.fault.AcpiFault.{AcpiFault}
 use Rattle.acpi_decode.specs.declared.fault.AcpiFault.TheVariants.{BadLength, TwiceGiven}
 use Rattle.acpi_decode.specs.declared.kind.KnownKind.{KnownKind}
-use Rattle.acpi_decode.specs.declared.kind.KnownKind.TheVariants.{Fadt, Madt, Srat, Slit, Hpet}
+use Rattle.acpi_decode.specs.declared.kind.KnownKind.TheVariants.{Fadt, Madt, Srat, Slit, Mcfg, Hpet}
 use Rattle.acpi_decode.specs.KnownKinds.{kind_of}
 use Rattle.acpi_decode.specs.Seen.{is_ram, bytes_from, signature_at, total_at}
 use Rattle.acpi_decode.specs.Tests.{FirstFails, Pass, NoFault}
@@ -71,6 +71,7 @@ kind_apart Fadt view addresses all is = fadt_apart view addresses all is
 kind_apart Madt view addresses all is = madt_apart view addresses all is
 kind_apart Srat view addresses all is = srat_apart view addresses all is
 kind_apart Slit view addresses all is = slit_apart view addresses all is
+kind_apart Mcfg view addresses all is = mcfg_apart view addresses all is
 kind_apart Hpet view addresses all is = hpet_apart view addresses all is
 
 -- a table with a bad entry has no pointers
@@ -80,6 +81,7 @@ no_tests_behind Fadt view address fault is = absurd is
 no_tests_behind Madt view address fault is = tt
 no_tests_behind Srat view address fault is = tt
 no_tests_behind Slit view address fault is = tt
+no_tests_behind Mcfg view address fault is = tt
 no_tests_behind Hpet view address fault is = tt
 
 -- what is tested of a table of a kind before it is read
@@ -111,6 +113,7 @@ target_told Fadt view address entries fault room whole is =
 target_told Madt view address entries fault room whole is = absurd is
 target_told Srat view address entries fault room whole is = absurd is
 target_told Slit view address entries fault room whole is = absurd is
+target_told Mcfg view address entries fault room whole is = absurd is
 target_told Hpet view address entries fault room whole is = absurd is
 
 pub target_refused : (k : KnownKind) (view : View) (address : ℕ) (before : AcpiTables) (t : Table) (fault : AcpiFault) → IsSound k view address before

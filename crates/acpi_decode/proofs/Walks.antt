@@ -29,6 +29,7 @@ begun_with oem_id head others = record {
   madt = None;
   srat = None;
   slit = None;
+  mcfg = None;
   hpet = None;
   others = others;
 }

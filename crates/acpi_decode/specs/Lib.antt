@@ -10,6 +10,7 @@ pub mod EntryHeads
 pub mod Due
 pub mod KnownKinds
 pub mod Read
+pub mod Allocations
 pub mod Taken
 pub mod Blank
 pub mod Readable

@@ -4,7 +4,7 @@ use Rattle.vt_bytes.specs.View.{View}
 use Rattle.acpi_model.specs.declared.acpi.AcpiTables.{AcpiTables}
 use Rattle.acpi_model.specs.Acpi.{AreTold}
 use Rattle.acpi_decode.specs.declared.kind.KnownKind.{KnownKind}
-use Rattle.acpi_decode.specs.declared.kind.KnownKind.TheVariants.{Fadt, Madt, Srat, Slit, Hpet}
+use Rattle.acpi_decode.specs.declared.kind.KnownKind.TheVariants.{Fadt, Madt, Srat, Slit, Mcfg, Hpet}
 use Rattle.acpi_decode.specs.Tests.{Faults}
 use Rattle.acpi_decode.specs.Faults.{IsFault, IsTableFault}
 use Rattle.acpi_decode.specs.Read.{named_at}
@@ -24,6 +24,7 @@ has_kind Fadt all = is_some all.fadt
 has_kind Madt all = is_some all.madt
 has_kind Srat all = is_some all.srat
 has_kind Slit all = is_some all.slit
+has_kind Mcfg all = is_some all.mcfg
 has_kind Hpet all = is_some all.hpet
 
 -- All tables that the XSDT at an address names are added to what is told of none, or one of them is the first at fault.

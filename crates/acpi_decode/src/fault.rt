@@ -11,7 +11,7 @@ pub enum AcpiFault {
     /// The bytes of the table don't sum to zero.
     BadSum(u64),
     /// The table tells fewer bytes than its form needs. Of an XSDT also: its entries aren't whole, or are more than 256. Of a SLIT: it
-    /// tells more than 1,024 nodes. Of a FACS: it tells more or fewer than 64 bytes.
+    /// tells more than 1,024 nodes. Of an MCFG: its allocations aren't whole. Of a FACS: it tells more or fewer than 64 bytes.
     BadLength(u64),
     /// The entry at this address is shorter than those of its type, or runs past the end of its table.
     BadEntry(u64),

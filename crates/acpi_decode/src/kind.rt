@@ -8,15 +8,17 @@ pub(crate) enum KnownKind {
     Madt,
     Srat,
     Slit,
+    Mcfg,
     Hpet,
 }
 
 // Each of them.
-const KINDS: [KnownKind; 5] = [
+const KINDS: [KnownKind; 6] = [
     KnownKind::Fadt,
     KnownKind::Madt,
     KnownKind::Srat,
     KnownKind::Slit,
+    KnownKind::Mcfg,
     KnownKind::Hpet,
 ];
 
@@ -30,6 +32,7 @@ impl KnownKind {
             KnownKind::Madt => *b"APIC",
             KnownKind::Srat => *b"SRAT",
             KnownKind::Slit => *b"SLIT",
+            KnownKind::Mcfg => *b"MCFG",
             KnownKind::Hpet => *b"HPET",
         }
     }

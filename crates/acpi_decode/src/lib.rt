@@ -1,7 +1,8 @@
 //! ACPI tables as a guest finds them in its memory, from the RSDP on (ACPI 6.5, 5.2).
 //!
 //! The contract of [`walk`] is that the tables are read exactly where the memory shows them, and that else the first test that fails is
-//! told, with the address of the table or of the entry.
+//! told, with the address of the table or of the entry. A DSDT is told as the terms that its definition block spells (20.2), or as one
+//! that spells none.
 #![tactic(auto)]
 
 mod block;
@@ -17,6 +18,7 @@ mod hpet;
 mod kind;
 pub mod laws;
 mod madt;
+mod mcfg;
 mod number;
 mod root;
 mod slit;

@@ -11,6 +11,7 @@ use crate::fault::AcpiFault;
 use crate::hpet::{HPET_SIZE, read_hpet};
 use crate::kind::KnownKind;
 use crate::madt::{MADT_FRONT_SIZE, read_madt};
+use crate::mcfg::{is_mcfg_length, read_mcfg};
 use crate::slit::{count_at, is_slit_length, read_slit};
 use crate::srat::{SRAT_FRONT_SIZE, read_srat};
 use crate::view::MemView;
@@ -28,6 +29,7 @@ pub(crate) fn has_room<V: MemView>(view: &V, kind: KnownKind, address: u64, leng
         KnownKind::Madt => length >= MADT_FRONT_SIZE,
         KnownKind::Srat => length >= SRAT_FRONT_SIZE,
         KnownKind::Slit => is_slit_length(length, count_at(view, address)),
+        KnownKind::Mcfg => is_mcfg_length(length),
         KnownKind::Hpet => length >= HPET_SIZE,
     }
 }
@@ -55,6 +57,7 @@ pub(crate) fn read_table<V: MemView>(
         KnownKind::Madt => Table::Madt(read_madt(alloc, view, address, length)?),
         KnownKind::Srat => Table::Srat(read_srat(alloc, view, address, length)?),
         KnownKind::Slit => Table::Slit(read_slit(alloc, view, address)?),
+        KnownKind::Mcfg => Table::Mcfg(read_mcfg(alloc, view, address, length)?),
         KnownKind::Hpet => Table::Hpet(read_hpet(alloc, view, address)?),
     })
 }

@@ -96,6 +96,7 @@ fn has_kind(tables: &AcpiTables, kind: KnownKind) -> bool
         KnownKind::Madt => tables.madt.is_some(),
         KnownKind::Srat => tables.srat.is_some(),
         KnownKind::Slit => tables.slit.is_some(),
+        KnownKind::Mcfg => tables.mcfg.is_some(),
         KnownKind::Hpet => tables.hpet.is_some(),
     }
 }
@@ -113,6 +114,7 @@ fn add_table(tables: &mut AcpiTables, table: Table, targets: FadtTargets)
         Table::Madt(madt) => tables.madt = Some(madt),
         Table::Srat(srat) => tables.srat = Some(srat),
         Table::Slit(slit) => tables.slit = Some(slit),
+        Table::Mcfg(mcfg) => tables.mcfg = Some(mcfg),
         Table::Hpet(hpet) => tables.hpet = Some(hpet),
     }
 }

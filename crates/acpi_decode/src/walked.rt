@@ -32,6 +32,9 @@ pub struct Walked {
 /// where its form can't have as many bytes as it tells, `OutsideRam` where it isn't RAM as a whole, `BadSum`, `TwiceGiven` where it is the
 /// second of its kind, `BadEntry` with the address of its first bad entry. Behind an FADT come the tests of the FACS and then of the DSDT
 /// that it leads to. `OutOfMemory` means that memory ran out.
+///
+/// A DSDT that has passed its tests is told as `Terms` where its definition block spells terms (20.2), and else as `Foreign`, with its
+/// length: that it spells none is no fault. The allocations of an MCFG fill it (PCI Firmware Specification 3.3, 4.1.2).
 pub fn walk<V: MemView>(alloc: Global, view: &V, rsdp: u64) -> Result<Walked, AcpiFault>
     requires { HasRsdp (V.seen view.now) rsdp }
     // What is read is shown, and what is shown is read.
@@ -63,6 +66,7 @@ fn walk_from<V: MemView>(alloc: Global, view: &V, rsdp: u64) -> Result<Walked, A
         madt: None,
         srat: None,
         slit: None,
+        mcfg: None,
         hpet: None,
         others: List::new(alloc),
     };

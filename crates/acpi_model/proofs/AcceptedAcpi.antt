@@ -6,7 +6,7 @@ use Rattle.std.specs.Option.{option_map_or}
 use Rattle.machine_desc.specs.declared.machine.Machine.{Machine}
 use Rattle.machine_desc.specs.declared.machine.Acpi.{Acpi}
 use Rattle.machine_desc.specs.declared.acpi_parts.Power.{Power}
-use Rattle.machine_desc.specs.Rules.{ends_in_space, is_padded_text, only_at, breach_of_acpi, is_empty, is_met, lists_on_apic, IsAccepted}
+use Rattle.machine_desc.specs.Rules.{ends_in_space, is_padded_text, only_at, breach_of_acpi, is_empty, is_met, parts_on_power, lists_on_apic, IsAccepted}
 use Rattle.machine_desc.specs.Rules.{has_ports, has_lawful_gpe, has_lawful_reset, is_lawful_power}
 use Rattle.machine_desc.specs.Fields.{IsFittingPower, HasFittingFields}
 use Rattle.machine_desc.proofs.Accepted.{kept, holds_where_kept, each_kept}
@@ -69,6 +69,23 @@ no_list m list index accepted none is =
     let at : is_met (is_some m.apic) (get_or (lists_on_apic m) index false) ≡ true =
     passing_at (is_met (is_some m.apic)) (lists_on_apic m) index false all refl in
     no_elements m.apic list none (ap (is_met (is_some m.apic)) (sym is) ∙ at)
+
+-- An accepted machine without power management has none of the parts that need it: no bridge, and no serial ports.
+met_on_power : (m : Machine) → IsAccepted m → (index : ℕ) → is_met (is_some m.power) (get_or (parts_on_power m) index false) ≡ true
+met_on_power m accepted index =
+    passing_at (is_met (is_some m.power)) (parts_on_power m) index false (each_kept m accepted 14 (is_met (is_some m.power)) (parts_on_power m) refl) refl
+
+unmet : (needed there : Bool) → needed ≡ false → there ≡ true → is_met needed there ≡ true → ⊥
+unmet true there none some met = absurd (cc)
+unmet false true none some met = cc
+unmet false false none some met = cc
+
+pub no_bridge : (m : Machine) → IsAccepted m → m.power ≡ None → m.bridge ≡ None
+no_bridge m accepted none =
+    absent m.bridge (λ some. unmet (is_some m.power) (is_some m.bridge) (ap is_some none) some (met_on_power m accepted 0))
+
+pub no_uarts : (m : Machine) → IsAccepted m → m.power ≡ None → m.uarts ≡ []
+no_uarts m accepted none = no_elements m.power m.uarts none (met_on_power m accepted 1)
 
 lawful_at : (part : Option Power) → option_map_or is_lawful_power part true ≡ true → IfSome part (λ power. is_lawful_power power ≡ true)
 lawful_at None lawful = tt

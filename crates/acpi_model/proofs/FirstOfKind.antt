@@ -8,12 +8,13 @@ use Rattle.std.proofs.lemmas.Bool.{not-true}
 use Rattle.std.proofs.lemmas.List.Folds.{find-append}
 use Rattle.std.proofs.lemmas.Slice.Eq.{bytes_eq-Decides}
 use Rattle.acpi_model.specs.declared.acpi.Table.{Table}
-use Rattle.acpi_model.specs.declared.acpi.Table.TheVariants.{Fadt, Madt, Srat, Slit, Hpet}
+use Rattle.acpi_model.specs.declared.acpi.Table.TheVariants.{Fadt, Madt, Srat, Slit, Mcfg, Hpet}
 use Rattle.acpi_model.specs.Kinds.{Kind}
 use Rattle.acpi_model.specs.FadtKind.{fadt_kind, as_fadt, links_of}
 use Rattle.acpi_model.specs.MadtKind.{madt_kind, as_madt}
 use Rattle.acpi_model.specs.SratKind.{srat_kind, as_srat}
 use Rattle.acpi_model.specs.SlitKind.{slit_kind, as_slit}
+use Rattle.acpi_model.specs.McfgKind.{mcfg_kind, as_mcfg}
 use Rattle.acpi_model.specs.HpetKind.{hpet_kind, as_hpet}
 use Rattle.acpi_model.specs.Acpi.{signature_of, first_with, first_of, is_first}
 
@@ -26,6 +27,7 @@ fadt_tells (Fadt t links) = refl
 fadt_tells (Madt t) = refl
 fadt_tells (Srat t) = refl
 fadt_tells (Slit t) = refl
+fadt_tells (Mcfg t) = refl
 fadt_tells (Hpet t) = refl
 
 pub links_tell : Tells fadt_kind links_of
@@ -33,6 +35,7 @@ links_tell (Fadt t links) = refl
 links_tell (Madt t) = refl
 links_tell (Srat t) = refl
 links_tell (Slit t) = refl
+links_tell (Mcfg t) = refl
 links_tell (Hpet t) = refl
 
 pub madt_tells : Tells madt_kind as_madt
@@ -40,6 +43,7 @@ madt_tells (Fadt t links) = refl
 madt_tells (Madt t) = refl
 madt_tells (Srat t) = refl
 madt_tells (Slit t) = refl
+madt_tells (Mcfg t) = refl
 madt_tells (Hpet t) = refl
 
 pub srat_tells : Tells srat_kind as_srat
@@ -47,6 +51,7 @@ srat_tells (Fadt t links) = refl
 srat_tells (Madt t) = refl
 srat_tells (Srat t) = refl
 srat_tells (Slit t) = refl
+srat_tells (Mcfg t) = refl
 srat_tells (Hpet t) = refl
 
 pub slit_tells : Tells slit_kind as_slit
@@ -54,13 +59,23 @@ slit_tells (Fadt t links) = refl
 slit_tells (Madt t) = refl
 slit_tells (Srat t) = refl
 slit_tells (Slit t) = refl
+slit_tells (Mcfg t) = refl
 slit_tells (Hpet t) = refl
+
+pub mcfg_tells : Tells mcfg_kind as_mcfg
+mcfg_tells (Fadt t links) = refl
+mcfg_tells (Madt t) = refl
+mcfg_tells (Srat t) = refl
+mcfg_tells (Slit t) = refl
+mcfg_tells (Mcfg t) = refl
+mcfg_tells (Hpet t) = refl
 
 pub hpet_tells : Tells hpet_kind as_hpet
 hpet_tells (Fadt t links) = refl
 hpet_tells (Madt t) = refl
 hpet_tells (Srat t) = refl
 hpet_tells (Slit t) = refl
+hpet_tells (Mcfg t) = refl
 hpet_tells (Hpet t) = refl
 
 -- of two values that may be there

@@ -8,18 +8,19 @@ use Rattle.acpi_model.specs.declared.acpi.AcpiTables.{AcpiTables}
 use Rattle.acpi_model.specs.declared.acpi.OtherTable.{OtherTable}
 use Rattle.acpi_model.specs.declared.acpi.FadtTargets.{FadtTargets}
 use Rattle.acpi_model.specs.declared.acpi.Table.{Table}
-use Rattle.acpi_model.specs.declared.acpi.Table.TheVariants.{Fadt, Madt, Srat, Slit, Hpet}
+use Rattle.acpi_model.specs.declared.acpi.Table.TheVariants.{Fadt, Madt, Srat, Slit, Mcfg, Hpet}
 use Rattle.acpi_model.specs.declared.link.FadtLinks.{FadtLinks}
 use Rattle.acpi_model.specs.Found.{LeadTo}
 use Rattle.acpi_model.specs.FadtKind.{fadt_kind, as_fadt, links_of}
 use Rattle.acpi_model.specs.MadtKind.{madt_kind, as_madt}
 use Rattle.acpi_model.specs.SratKind.{srat_kind, as_srat}
 use Rattle.acpi_model.specs.SlitKind.{slit_kind, as_slit}
+use Rattle.acpi_model.specs.McfgKind.{mcfg_kind, as_mcfg}
 use Rattle.acpi_model.specs.HpetKind.{hpet_kind, as_hpet}
 use Rattle.acpi_model.specs.Acpi.{signature_of, IsAt, IsOther, Walks, AreDistinct, first_links, gathered, no_targets, AreFound, AreTold, is_first, TableLeadsTo}
 use Rattle.acpi_model.specs.Acpi.{IsFoundBehind, with_table, with_other}
 use Rattle.acpi_model.proofs.SameTold.{told_with, told_same}
-use Rattle.acpi_model.proofs.FirstOfKind.{fadt_tells, links_tell, madt_tells, srat_tells, slit_tells, hpet_tells, told_apart, first_of-append, first_of-more}
+use Rattle.acpi_model.proofs.FirstOfKind.{fadt_tells, links_tell, madt_tells, srat_tells, slit_tells, mcfg_tells, hpet_tells, told_apart, first_of-append, first_of-more}
 use Rattle.acpi_model.proofs.DistinctInTurn.{distinct_more, distinct_front, first_behind}
 
 -- no tables stand at no addresses
@@ -60,6 +61,7 @@ leads_on view (Fadt t its) targets before links lead was = lead
 leads_on view (Madt t) targets before links lead was = was
 leads_on view (Srat t) targets before links lead was = was
 leads_on view (Slit t) targets before links lead was = was
+leads_on view (Mcfg t) targets before links lead was = was
 leads_on view (Hpet t) targets before links lead was = was
 
 -- what is led to among all that is told
@@ -70,7 +72,7 @@ targets_told all = record { facs = all.facs; dsdt = all.dsdt }
 with_parts : Table → FadtTargets → AcpiTables → AcpiTables
 with_parts t targets all =
     told_with (option_or (as_fadt t) all.fadt) (option_or (as_madt t) all.madt) (option_or (as_srat t) all.srat) (option_or (as_slit t) all.slit)
-    (option_or (as_hpet t) all.hpet) all.oem_id all.xsdt (led_with t targets (targets_told all)) all.others
+    (option_or (as_mcfg t) all.mcfg) (option_or (as_hpet t) all.hpet) all.oem_id all.xsdt (led_with t targets (targets_told all)) all.others
 
 are_parts : (t : Table) (targets : FadtTargets) (all : AcpiTables) → with_parts t targets all ≡ with_table t targets all
 unfolding told_with with_parts led_with
@@ -78,6 +80,7 @@ are_parts (Fadt t links) targets all = refl
 are_parts (Madt t) targets all = refl
 are_parts (Srat t) targets all = refl
 are_parts (Slit t) targets all = refl
+are_parts (Mcfg t) targets all = refl
 are_parts (Hpet t) targets all = refl
 
 -- a table that is the first of its kind is added to what is told
@@ -100,13 +103,14 @@ module _ (view : View) (before : List ℕ) (all : AcpiTables) (is : AreTold view
             (leads_on view t targets is.targets (first_links is.tables) lead is.found.lead);
       };
       told = ap (λ those. told_with (option_or (as_fadt t) all.fadt) (option_or (as_madt t) all.madt) (option_or (as_srat t) all.srat)
-          (option_or (as_slit t) all.slit) (option_or (as_hpet t) all.hpet) all.oem_id all.xsdt (led_with t targets those) all.others)
+          (option_or (as_slit t) all.slit) (option_or (as_mcfg t) all.mcfg) (option_or (as_hpet t) all.hpet) all.oem_id all.xsdt (led_with t targets those) all.others)
           (ap targets_told is.told)
           ∙ told_same all.oem_id all.xsdt (led_with t targets is.targets) all.others
           (ap (λ (a : AcpiTables). option_or (as_fadt t) a.fadt) is.told ∙ sym (first_of-more fadt_kind as_fadt fadt_tells is.tables t first))
           (ap (λ (a : AcpiTables). option_or (as_madt t) a.madt) is.told ∙ sym (first_of-more madt_kind as_madt madt_tells is.tables t first))
           (ap (λ (a : AcpiTables). option_or (as_srat t) a.srat) is.told ∙ sym (first_of-more srat_kind as_srat srat_tells is.tables t first))
           (ap (λ (a : AcpiTables). option_or (as_slit t) a.slit) is.told ∙ sym (first_of-more slit_kind as_slit slit_tells is.tables t first))
+          (ap (λ (a : AcpiTables). option_or (as_mcfg t) a.mcfg) is.told ∙ sym (first_of-more mcfg_kind as_mcfg mcfg_tells is.tables t first))
           (ap (λ (a : AcpiTables). option_or (as_hpet t) a.hpet) is.told ∙ sym (first_of-more hpet_kind as_hpet hpet_tells is.tables t first));
     },
     refl,
@@ -244,6 +248,9 @@ module _ (view : View) (before : List ℕ) (all : AcpiTables) (is : AreTold view
 
   pub slit_apart : is_first (codes "SLIT") is.tables ≡ not (is_some all.slit)
   slit_apart = told_apart slit_kind as_slit slit_tells is.tables ∙ ap (λ (a : AcpiTables). not (is_some a.slit)) (sym is.told)
+
+  pub mcfg_apart : is_first (codes "MCFG") is.tables ≡ not (is_some all.mcfg)
+  mcfg_apart = told_apart mcfg_kind as_mcfg mcfg_tells is.tables ∙ ap (λ (a : AcpiTables). not (is_some a.mcfg)) (sym is.told)
 
   pub hpet_apart : is_first (codes "HPET") is.tables ≡ not (is_some all.hpet)
   hpet_apart = told_apart hpet_kind as_hpet hpet_tells is.tables ∙ ap (λ (a : AcpiTables). not (is_some a.hpet)) (sym is.told)

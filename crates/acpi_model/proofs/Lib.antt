@@ -26,6 +26,9 @@ pub mod AcceptedNodes
 pub mod NodesBack
 pub mod SameNodes
 pub mod SameCpus
+pub mod Dsdts
+pub mod Mcfgs
+pub mod SameDevices
 pub mod MachineTables
 pub mod MachineTargets
 pub mod OneTarget

@@ -14,7 +14,10 @@ use Rattle.acpi_records.specs.declared.fadt.Fadt.{Fadt}
 use Rattle.acpi_model.specs.Kinds.{tables_name, rows_behind}
 use Rattle.acpi_model.specs.FadtKind.{fadt_layout, linked_links}
 use Rattle.acpi_records.specs.Facs.{IsFacs}
-use Rattle.acpi_model.specs.Found.{facs_address, LeadTo}
+use Rattle.acpi_model.specs.declared.dsdt.Dsdt.{Dsdt}
+use Rattle.acpi_model.specs.declared.link.FadtLinks.{FadtLinks}
+use Rattle.acpi_model.specs.Links.{IsFound}
+use Rattle.acpi_model.specs.Found.{IsDsdt, facs_address, dsdt_address, LeadTo}
 use Rattle.acpi_records.specs.Facs.{initial_facs}
 use Rattle.acpi_model.specs.MachineFadt.{no_register, register_at, boot_arch, fadt_flags, fadt_of, fadt_links, power_in}
 
@@ -55,7 +58,7 @@ arch_fits power = either power.keyboard
     either false = omega arith
 
 pub fadt_rows_fit : (acpi : Acpi) (power : Power) → IsFittingPower power → power.gpe_len ≤ 30
-    → AllByRecursion IsRow (rows_behind (fadt_layout (fadt_of acpi power) (fadt_links 0)))
+    → AllByRecursion IsRow (rows_behind (fadt_layout (fadt_of acpi power) (fadt_links 0 64)))
 fadt_rows_fit acpi power fit few =
     let reset = register_fits 8 1 power.reset (omega arith) (omega arith) fit.reset in
     let event = register_fits 32 2 power.event (omega arith) (omega arith) fit.event in
@@ -106,28 +109,36 @@ fadt_rows_fit acpi power fit few =
       gpe.address,
     )
 
--- where the file of the tables isn't at 0, the 64-bit pointer leads to the FACS
-wide : (place : ℕ) → 0 < place → (if place == 0 then 0 else place) ≡ place
-wide place some =
-    let test : (place == 0) ≡ false = grind (arith, nat_tests) in
-    ap (λ is. cond is 0 place) test
+-- where the file of the tables isn't at 0, a 64-bit pointer to an offset of it leads there
+wide_at : (offset place narrow : ℕ) → 0 < place → (if offset + place == 0 then narrow else offset + place) ≡ offset + place
+wide_at offset place narrow some =
+    let test : (offset + place == 0) ≡ false = grind (arith, nat_tests) in
+    ap (λ is. cond is narrow (offset + place)) test
 
-pub leads_to_facs : (view : View) (place_of : List ℕ → ℕ) → 0 < place_of tables_name → (power : Option Power)
-    → (IsSome power → IsFacs view (place_of tables_name) initial_facs)
-    → LeadTo view (option_map (λ part. linked_links place_of (fadt_links 0)) power)
-    (record { facs = option_map (λ part. initial_facs) power; dsdt = None })
-leads_to_facs view place_of placed None stands = (refl, refl)
-leads_to_facs view place_of placed (Some power) stands =
-    let at : 0 + place_of tables_name ≡ place_of tables_name = omega arith in
-    let is : facs_address (linked_links place_of (fadt_links 0)) ≡ place_of tables_name =
-    ap (λ place. if place == 0 then 0 else place) at ∙ wide (place_of tables_name) placed in (
-      (λ nowhere. omega (arith, placed, is, nowhere), subst (λ address. IsFacs view address initial_facs) (sym is) (stands refl)),
-      refl,
+-- what an address leads to that isn't 0
+found_there : {T : Type 0} (Stands : ℕ → T → Type 0) (what : T) (address offset place : ℕ) → address ≡ offset + place → 0 < place
+    → Stands (place + offset) what → IsFound Stands address (Some what)
+found_there Stands what address offset place is some stands =
+    let turned : place + offset ≡ offset + place = omega arith in (
+      λ nowhere. omega (arith, some, is, nowhere),
+      subst (λ a. Stands a what) (turned ∙ sym is) stands,
     )
 
--- the part that an FADT tells, whatever its ports are
-abbrev pub power_told : Fadt → Power
-power_told t = record {
+pub leads_to_targets : (view : View) (place_of : List ℕ → ℕ) (facs dsdt : ℕ) (its : Dsdt) → 0 < place_of tables_name → (power : Option Power)
+    → (IsSome power → IsFacs view (place_of tables_name + facs) initial_facs) → (IsSome power → IsDsdt view (place_of tables_name + dsdt) its)
+    → LeadTo view (option_map (λ part. linked_links place_of (fadt_links facs dsdt)) power)
+    (record { facs = option_map (λ part. initial_facs) power; dsdt = option_map (λ part. its) power })
+leads_to_targets view place_of facs dsdt its placed None facs_stands dsdt_stands = (refl, refl)
+leads_to_targets view place_of facs dsdt its placed (Some power) facs_stands dsdt_stands =
+    let links : FadtLinks = linked_links place_of (fadt_links facs dsdt) in
+    let place : ℕ = place_of tables_name in (
+      found_there (IsFacs view) initial_facs (facs_address links) facs place (wide_at facs place 0 placed) placed (facs_stands refl),
+      found_there (IsDsdt view) its (dsdt_address links) dsdt place (wide_at dsdt place (dsdt + place) placed) placed (dsdt_stands refl),
+    )
+
+-- the part that an FADT tells, whatever its ports are, with a clock or none
+abbrev pub power_told : Bool → Fadt → Power
+power_told clock t = record {
   sci = t.sci;
   profile = t.profile;
   event = t.pm1a_evt;
@@ -138,6 +149,7 @@ power_told t = record {
   reset = t.reset_reg.address;
   reset_value = t.reset_value;
   century = t.century;
+  rtc = clock;
   keyboard = t.iapc_boot_arch / 2 % 2 == 1;
 }
 
@@ -152,7 +164,7 @@ keyboard_back : (is : Bool) → ((if is then 3 else 0) / 2 % 2 == 1) ≡ is
 keyboard_back true = refl
 keyboard_back false = refl
 
-pub told_back : (acpi : Acpi) (power : Power) → power_told (fadt_of acpi power) ≡ power
+pub told_back : (acpi : Acpi) (power : Power) → power_told power.rtc (fadt_of acpi power) ≡ power
 unfolding power_from
 told_back acpi power =
     ap (λ reset. power_from reset (boot_arch power / 2 % 2 == 1) power) (address_back 8 1 power.reset)
@@ -162,8 +174,8 @@ told_back acpi power =
 fitted-fits : (n : ℕ) → n < 2 ^ 16 → (if nat_lt n (2 ^ 16) then n else 0) ≡ n
 fitted-fits n fits = ap (λ is. cond is n 0) (lt-ltb n (2 ^ 16) fits)
 
-fitted_from : ℕ → ℕ → ℕ → ℕ → ℕ → Fadt → Power
-fitted_from event control timer gpe reset t = record {
+fitted_from : Bool → ℕ → ℕ → ℕ → ℕ → ℕ → Fadt → Power
+fitted_from clock event control timer gpe reset t = record {
   sci = t.sci;
   profile = t.profile;
   event = event;
@@ -174,18 +186,19 @@ fitted_from event control timer gpe reset t = record {
   reset = reset;
   reset_value = t.reset_value;
   century = t.century;
+  rtc = clock;
   keyboard = t.iapc_boot_arch / 2 % 2 == 1;
 }
 
-pub power_back : (acpi : Acpi) (power : Power) → IsFittingPower power → power_in (fadt_of acpi power) ≡ power
+pub power_back : (acpi : Acpi) (power : Power) → IsFittingPower power → power_in power.rtc (fadt_of acpi power) ≡ power
 unfolding fitted_from
 power_back acpi power fit =
     let t : Fadt = fadt_of acpi power in
     let short : ℕ → ℕ = λ n. if nat_lt n (2 ^ 16) then n else 0 in
     let port : t.reset_reg.address < 2 ^ 16 = omega (arith, address_back 8 1 power.reset, fit.reset) in
-    ap (λ n. fitted_from n (short t.pm1a_cnt) (short t.pm_tmr) (short t.gpe0) (short t.reset_reg.address) t) (fitted-fits t.pm1a_evt fit.event)
-    ∙ ap (λ n. fitted_from t.pm1a_evt n (short t.pm_tmr) (short t.gpe0) (short t.reset_reg.address) t) (fitted-fits t.pm1a_cnt fit.control)
-    ∙ ap (λ n. fitted_from t.pm1a_evt t.pm1a_cnt n (short t.gpe0) (short t.reset_reg.address) t) (fitted-fits t.pm_tmr fit.timer)
-    ∙ ap (λ n. fitted_from t.pm1a_evt t.pm1a_cnt t.pm_tmr n (short t.reset_reg.address) t) (fitted-fits t.gpe0 fit.gpe)
-    ∙ ap (λ n. fitted_from t.pm1a_evt t.pm1a_cnt t.pm_tmr t.gpe0 n t) (fitted-fits t.reset_reg.address port)
+    ap (λ n. fitted_from power.rtc n (short t.pm1a_cnt) (short t.pm_tmr) (short t.gpe0) (short t.reset_reg.address) t) (fitted-fits t.pm1a_evt fit.event)
+    ∙ ap (λ n. fitted_from power.rtc t.pm1a_evt n (short t.pm_tmr) (short t.gpe0) (short t.reset_reg.address) t) (fitted-fits t.pm1a_cnt fit.control)
+    ∙ ap (λ n. fitted_from power.rtc t.pm1a_evt t.pm1a_cnt n (short t.gpe0) (short t.reset_reg.address) t) (fitted-fits t.pm_tmr fit.timer)
+    ∙ ap (λ n. fitted_from power.rtc t.pm1a_evt t.pm1a_cnt t.pm_tmr n (short t.reset_reg.address) t) (fitted-fits t.gpe0 fit.gpe)
+    ∙ ap (λ n. fitted_from power.rtc t.pm1a_evt t.pm1a_cnt t.pm_tmr t.gpe0 n t) (fitted-fits t.reset_reg.address port)
     ∙ told_back acpi power

@@ -12,7 +12,7 @@ use Rattle.machine_desc.specs.Rules.{IsAccepted}
 use Rattle.vt_layout.specs.Rows.{size}
 use Rattle.acpi_records.specs.declared.hpet.HpetTable.{HpetTable}
 use Rattle.acpi_model.specs.declared.acpi.Table.{Table}
-use Rattle.acpi_model.specs.declared.acpi.Table.TheVariants.{Fadt, Madt, Srat, Slit, Hpet}
+use Rattle.acpi_model.specs.declared.acpi.Table.TheVariants.{Fadt, Madt, Srat, Slit, Mcfg, Hpet}
 use Rattle.acpi_records.specs.Header.{FitsHead}
 use Rattle.acpi_model.specs.Kinds.{Kind, rows_behind}
 use Rattle.acpi_model.specs.FadtKind.{fadt_kind}
@@ -24,8 +24,10 @@ use Rattle.acpi_model.specs.SratKind.{srat_kind, srat_layout}
 use Rattle.acpi_model.specs.SlitKind.{slit_kind}
 use Rattle.acpi_model.specs.MachineSrat.{srat_of_machine}
 use Rattle.acpi_model.specs.MachineSlit.{slit_of_machine}
+use Rattle.acpi_model.specs.McfgKind.{mcfg_kind}
+use Rattle.acpi_model.specs.MachineMcfg.{mapped, mcfg_of_bridge}
 use Rattle.acpi_model.specs.HpetKind.{hpet_kind}
-use Rattle.acpi_model.specs.Acpi.{kinds, layout_of, signature_of, linked_table, IsWritable, CanBePut, AreDistinct, bytes_behind, first_with, first_of, facs_place, parts_of, present, tables_of}
+use Rattle.acpi_model.specs.Acpi.{kinds, layout_of, signature_of, linked_table, IsWritable, CanBePut, AreDistinct, bytes_behind, first_with, first_of, facs_place, dsdt_place, parts_of, present, tables_of}
 use Rattle.acpi_model.proofs.Headers.{head_fits}
 use Rattle.acpi_model.proofs.Fadts.{size-fadt, fadt_writable}
 use Rattle.acpi_model.proofs.Srats.{size-srat, srat_writable}
@@ -35,6 +37,7 @@ use Rattle.acpi_model.proofs.AcceptedAcpi.{fits_power}
 use Rattle.acpi_model.proofs.AcceptedNodes.{most_cpus, most_ranges, HasFewNodes, FitsNodes, whichever, few_nodes, fits_nodes, accepted_numa}
 use Rattle.acpi_model.proofs.MachineFadts.{fadt_rows_fit}
 use Rattle.acpi_model.proofs.MachineMadts.{few_madt_bytes, madt_written, madt_can}
+use Rattle.acpi_model.proofs.Mcfgs.{IsLawfulBridge, mcfg_written, mcfg_can, size-mcfg, lawful_bridge}
 use Rattle.acpi_model.proofs.Parts.{AreParts, length-present, AreSigned, all_differ, parts_weaker, each_present, part_of, first-present, distinct-present, distinct-linked}
 
 -- the signatures of the known kinds, which differ
@@ -84,14 +87,14 @@ hpet_can acpi fits hpet fit =
     }
 
 -- the FADT, whose pointers are those of a machine
-fadt_written : (acpi : Acpi) (power : Power) → IsWritable (Fadt (fadt_of acpi power) (fadt_links facs_place))
-fadt_written acpi power = fadt_writable (fadt_of acpi power) (fadt_links facs_place) (search rules)
+fadt_written : (acpi : Acpi) (power : Power) → IsWritable (Fadt (fadt_of acpi power) (fadt_links facs_place dsdt_place))
+fadt_written acpi power = fadt_writable (fadt_of acpi power) (fadt_links facs_place dsdt_place) (search rules)
 
 -- what is known of the power of an accepted machine whose numbers fit their fields
 abbrev FitsPower : Power → Type 0
 FitsPower power = IsFittingPower power × (power.gpe_len ≤ 30)
 
-fadt_can : (acpi : Acpi) → FitsHead acpi → (power : Power) → FitsPower power → CanBePut (Fadt (fadt_of acpi power) (fadt_links facs_place))
+fadt_can : (acpi : Acpi) → FitsHead acpi → (power : Power) → FitsPower power → CanBePut (Fadt (fadt_of acpi power) (fadt_links facs_place dsdt_place))
 fadt_can acpi fits power fit = record {
   writable = fadt_written acpi power;
   head = head_fits acpi 6 fits (omega arith);
@@ -130,7 +133,7 @@ FitsAll m acpi = FitsHead acpi × HasFittingFields m × IsAccepted m
 
 are_parts : (m : Machine) (acpi : Acpi) → AreParts (IsPart (IsAccepted m) (FitsAll m acpi)) signatures (parts_of m acpi)
 are_parts m acpi =
-    let fadt = is_part (IsAccepted m) (FitsAll m acpi) fadt_kind.signature (λ power. Fadt (fadt_of acpi power) (fadt_links facs_place)) Always FitsPower
+    let fadt = is_part (IsAccepted m) (FitsAll m acpi) fadt_kind.signature (λ power. Fadt (fadt_of acpi power) (fadt_links facs_place dsdt_place)) Always FitsPower
     (λ power. refl) (λ power keeps. fadt_written acpi power) (λ fit. fadt_can acpi fit.0) m.power (λ accepted. always m.power)
     (λ fit. fits_power m fit.1 fit.2) in
     let madt = is_part (IsAccepted m) (FitsAll m acpi) madt_kind.signature (λ apic. Madt (madt_of_machine m acpi apic)) (λ apic. IsAccepted m) IsFittingApic
@@ -140,9 +143,12 @@ are_parts m acpi =
     (λ accepted. few_nodes m m.numa accepted) (λ fit. fits_nodes m fit.1 fit.2) in
     let slit = is_part (IsAccepted m) (FitsAll m acpi) slit_kind.signature (λ numa. Slit (slit_of_machine acpi numa)) IsSquare IsSquare (λ numa. refl)
     (slit_written acpi) (λ fit. slit_can acpi fit.0) m.numa (accepted_numa m) (λ fit. accepted_numa m fit.2) in
+    let mcfg = is_part (IsAccepted m) (FitsAll m acpi) mcfg_kind.signature (λ bridge. Mcfg (mcfg_of_bridge acpi bridge)) Always IsLawfulBridge
+    (λ bridge. refl) (λ bridge keeps. mcfg_written acpi bridge) (λ fit. mcfg_can acpi fit.0) (mapped m.bridge) (λ accepted. always (mapped m.bridge))
+    (λ fit. lawful_bridge m fit.1 fit.2) in
     let hpet = is_part (IsAccepted m) (FitsAll m acpi) hpet_kind.signature (λ hpet. Hpet (hpet_of acpi hpet)) Always IsFittingHpet (λ hpet. refl)
     (λ hpet keeps. hpet_writable (hpet_of acpi hpet)) (λ fit. hpet_can acpi fit.0) m.hpet (λ accepted. always m.hpet) (λ fit. fit.1.hpet) in
-    (fadt, (madt, (srat, (slit, (hpet, tt)))))
+    (fadt, (madt, (srat, (slit, (mcfg, (hpet, tt))))))
 
 are_signed : (m : Machine) (acpi : Acpi) → AreSigned signatures (parts_of m acpi)
 are_signed m acpi =
@@ -190,15 +196,17 @@ part_short table_of Keeps most short (Some part) keeps = short part keeps
 -- each kind has its most bytes, which an accepted machine's lists bound, and all of them are few
 pub machine_bytes : (m : Machine) (acpi : Acpi) → IsAccepted m → bytes_behind (tables_of m acpi) ≤ 0x30000
 machine_bytes m acpi accepted =
-    let fadt = part_short (λ power. Fadt (fadt_of acpi power) (fadt_links facs_place)) Always 240
-    (λ power keeps. omega (arith, size-fadt (fadt_of acpi power) (fadt_links facs_place))) m.power (always m.power) in
+    let fadt = part_short (λ power. Fadt (fadt_of acpi power) (fadt_links facs_place dsdt_place)) Always 240
+    (λ power keeps. omega (arith, size-fadt (fadt_of acpi power) (fadt_links facs_place dsdt_place))) m.power (always m.power) in
     let madt = part_short (λ apic. Madt (madt_of_machine m acpi apic)) (λ apic. IsAccepted m) 66312 (few_madt_bytes m acpi) m.apic
     (whichever (IsAccepted m) m.apic accepted) in
     let srat = part_short (λ numa. Srat (srat_of_machine m acpi)) (λ numa. HasFewNodes m) most_srat (λ numa. size-srat-few m acpi) m.numa
     (few_nodes m m.numa accepted) in
     let slit = part_short (λ numa. Slit (slit_of_machine acpi numa)) IsSquare (8 + most_numa * most_numa) (size-slit-few acpi) m.numa (accepted_numa m accepted) in
+    let mcfg = part_short (λ bridge. Mcfg (mcfg_of_bridge acpi bridge)) Always 24 (λ bridge keeps. omega (arith, size-mcfg acpi bridge)) (mapped m.bridge)
+    (always (mapped m.bridge)) in
     let hpet = part_short (λ hpet. Hpet (hpet_of acpi hpet)) Always 20 (λ hpet keeps. omega arith) m.hpet (always m.hpet) in
-    omega (arith, bytes-present (parts_of m acpi), fadt, madt, srat, slit, hpet)
+    omega (arith, bytes-present (parts_of m acpi), fadt, madt, srat, slit, mcfg, hpet)
 
 -- no two have one signature, wherever their pointers lead
 pub machine_distinct : (place_of : List ℕ → ℕ) (m : Machine) (acpi : Acpi) → AreDistinct (map (linked_table place_of) (tables_of m acpi))

@@ -1,24 +1,16 @@
 -- An FADT leads to one FACS and to one DSDT.
-use Rattle.std.proofs.Common.{◌≡◌, ℕ, [], codes, Option, Some, None, refl, ap, sym, ◌∙◌}
+use Rattle.std.proofs.Common.{◌≡◌, ℕ, Option, Some, None, ap, sym, ◌∙◌}
 use Rattle.vt_bytes.specs.View.{View}
 use Rattle.vt_bytes.proofs.AtMostOne.{IsOne, one_or_none}
-use Rattle.acpi_records.specs.declared.header.Head.{Head}
 use Rattle.acpi_records.specs.declared.facs.Facs.{Facs}
 use Rattle.acpi_records.specs.Facs.{IsFacs}
 use Rattle.acpi_records.proofs.FacsStands.{one_facs}
 use Rattle.acpi_model.specs.declared.link.FadtLinks.{FadtLinks}
 use Rattle.acpi_model.specs.declared.dsdt.Dsdt.{Dsdt}
-use Rattle.acpi_model.specs.declared.dsdt.Dsdt.TheVariants.{Foreign}
 use Rattle.acpi_model.specs.declared.acpi.FadtTargets.{FadtTargets}
 use Rattle.acpi_model.specs.Links.{IsFound}
 use Rattle.acpi_model.specs.Found.{IsDsdt, facs_address, dsdt_address, LeadTo}
-use Rattle.acpi_model.proofs.OneTable.{one_table}
-
-one_dsdt : (view : View) (address : ℕ) → IsOne (IsDsdt view address)
-one_dsdt view address (Foreign head length) (Foreign other total) is also =
-    let same =
-    one_table view address (codes "DSDT") (codes "DSDT") length total head other [] [] is also (λ totals. refl) in
-    ap (λ (h : Head). Foreign h length) same.headers ∙ ap (Foreign other) same.totals
+use Rattle.acpi_model.proofs.Dsdts.{one_dsdt}
 
 -- an address leads to one thing
 one_found : {T : Type 0} (Stands : ℕ → T → Type 0) → ((address : ℕ) → IsOne (Stands address)) → (address : ℕ) → IsOne (IsFound Stands address)

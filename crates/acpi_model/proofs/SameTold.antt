@@ -6,6 +6,7 @@ use Rattle.acpi_records.specs.declared.fadt.Fadt.{Fadt as FadtRecord}
 use Rattle.acpi_records.specs.declared.madt.Madt.{Madt as MadtRecord}
 use Rattle.acpi_records.specs.declared.srat.Srat.{Srat as SratRecord}
 use Rattle.acpi_records.specs.declared.slit.Slit.{Slit as SlitRecord}
+use Rattle.acpi_records.specs.declared.mcfg.Mcfg.{Mcfg as McfgRecord}
 use Rattle.acpi_records.specs.declared.hpet.HpetTable.{HpetTable}
 use Rattle.acpi_model.specs.declared.acpi.AcpiTables.{AcpiTables}
 use Rattle.acpi_model.specs.declared.acpi.FadtTargets.{FadtTargets}
@@ -14,11 +15,12 @@ use Rattle.acpi_model.specs.declared.acpi.Table.{Table}
 use Rattle.acpi_model.specs.Kinds.{Kind}
 use Rattle.acpi_model.specs.SratKind.{srat_kind, as_srat}
 use Rattle.acpi_model.specs.SlitKind.{slit_kind, as_slit}
+use Rattle.acpi_model.specs.McfgKind.{mcfg_kind, as_mcfg}
 use Rattle.acpi_model.specs.HpetKind.{hpet_kind, as_hpet}
 use Rattle.acpi_model.specs.FadtKind.{fadt_kind, as_fadt}
 use Rattle.acpi_model.specs.MadtKind.{madt_kind, as_madt}
 use Rattle.acpi_model.specs.Acpi.{signature_of, linked_table, first_with, first_of, gathered}
-use Rattle.acpi_model.proofs.Known.{signature-linked, fadt-linked, madt-linked, srat-linked, slit-linked, hpet-linked}
+use Rattle.acpi_model.proofs.Known.{signature-linked, fadt-linked, madt-linked, srat-linked, slit-linked, mcfg-linked, hpet-linked}
 
 first_there : (place_of : List ℕ → ℕ) (table : Table) (is : Bool) (more less : Option Table) → more ≡ option_map (linked_table place_of) less
     → cond is (Some (linked_table place_of table)) more ≡ option_map (linked_table place_of) (cond is (Some table) less)
@@ -49,9 +51,9 @@ first_of-linked place_of kind as_kind same tables =
     ∙ same_record place_of as_kind same (first_with kind.signature tables)
 
 -- what is told, with these records of the kinds
-unfoldable pub told_with : Option FadtRecord → Option MadtRecord → Option SratRecord → Option SlitRecord → Option HpetTable → List ℕ → Head → FadtTargets
+unfoldable pub told_with : Option FadtRecord → Option MadtRecord → Option SratRecord → Option SlitRecord → Option McfgRecord → Option HpetTable → List ℕ → Head → FadtTargets
     → List OtherTable → AcpiTables
-told_with fadt madt srat slit hpet oem_id xsdt targets others = record {
+told_with fadt madt srat slit mcfg hpet oem_id xsdt targets others = record {
   oem_id = oem_id;
   xsdt = xsdt;
   fadt = fadt;
@@ -60,16 +62,17 @@ told_with fadt madt srat slit hpet oem_id xsdt targets others = record {
   madt = madt;
   srat = srat;
   slit = slit;
+  mcfg = mcfg;
   hpet = hpet;
   others = others;
 }
 
 -- the same records tell the same
 pub told_same : {fadt fadt2 : Option FadtRecord} {madt madt2 : Option MadtRecord} {srat srat2 : Option SratRecord} {slit slit2 : Option SlitRecord}
-    {hpet hpet2 : Option HpetTable} (oem_id : List ℕ) (xsdt : Head) (targets : FadtTargets) (others : List OtherTable)
-    → fadt ≡ fadt2 → madt ≡ madt2 → srat ≡ srat2 → slit ≡ slit2 → hpet ≡ hpet2
-    → told_with fadt madt srat slit hpet oem_id xsdt targets others ≡ told_with fadt2 madt2 srat2 slit2 hpet2 oem_id xsdt targets others
-told_same oem_id xsdt targets others fadts madts srats slits hpets = cc
+    {mcfg mcfg2 : Option McfgRecord} {hpet hpet2 : Option HpetTable} (oem_id : List ℕ) (xsdt : Head) (targets : FadtTargets) (others : List OtherTable)
+    → fadt ≡ fadt2 → madt ≡ madt2 → srat ≡ srat2 → slit ≡ slit2 → mcfg ≡ mcfg2 → hpet ≡ hpet2
+    → told_with fadt madt srat slit mcfg hpet oem_id xsdt targets others ≡ told_with fadt2 madt2 srat2 slit2 mcfg2 hpet2 oem_id xsdt targets others
+told_same oem_id xsdt targets others fadts madts srats slits mcfgs hpets = cc
 
 -- wherever the pointers of tables lead, they tell the same
 pub gathered-linked : (place_of : List ℕ → ℕ) (oem_id : List ℕ) (xsdt : Head) (tables : List Table) (targets : FadtTargets) (others : List OtherTable)
@@ -81,4 +84,5 @@ gathered-linked place_of oem_id xsdt tables targets others =
     (first_of-linked place_of madt_kind as_madt (madt-linked place_of) tables)
     (first_of-linked place_of srat_kind as_srat (srat-linked place_of) tables)
     (first_of-linked place_of slit_kind as_slit (slit-linked place_of) tables)
+    (first_of-linked place_of mcfg_kind as_mcfg (mcfg-linked place_of) tables)
     (first_of-linked place_of hpet_kind as_hpet (hpet-linked place_of) tables)

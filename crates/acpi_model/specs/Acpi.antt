@@ -14,8 +14,11 @@ use Rattle.acpi_model.specs.declared.acpi.AcpiTables.{AcpiTables}
 use Rattle.acpi_model.specs.declared.acpi.OtherTable.{OtherTable}
 use Rattle.acpi_model.specs.declared.acpi.Table.{Table}
 use Rattle.acpi_model.specs.declared.acpi.FadtTargets.{FadtTargets}
-use Rattle.acpi_model.specs.declared.acpi.Table.TheVariants.{Fadt, Madt, Srat, Slit, Hpet}
+use Rattle.acpi_model.specs.declared.acpi.Table.TheVariants.{Fadt, Madt, Srat, Slit, Mcfg, Hpet}
+use Rattle.acpi_model.specs.declared.dsdt.Dsdt.{Dsdt}
+use Rattle.acpi_model.specs.declared.dsdt.Dsdt.TheVariants.{Terms}
 use Rattle.acpi_model.specs.declared.link.FadtLinks.{FadtLinks}
+use Rattle.dsdt_terms.specs.Dsdt.{dsdt_terms}
 use Rattle.acpi_records.specs.Header.{IsTable, IsFittingHead, head_of, padded}
 use Rattle.acpi_model.specs.Kinds.{Kind, TableLayout, IsLayoutAt, IsLawful, table_of, rows_behind, layout_rows, linked_layout}
 use Rattle.acpi_model.specs.FadtKind.{fadt_kind, fadt_layout, link_rows, as_fadt, links_of}
@@ -29,13 +32,15 @@ use Rattle.acpi_model.specs.SratKind.{srat_kind, srat_layout, as_srat}
 use Rattle.acpi_model.specs.SlitKind.{slit_kind, slit_layout, as_slit}
 use Rattle.acpi_model.specs.MachineSrat.{srat_of_machine}
 use Rattle.acpi_model.specs.MachineSlit.{slit_of_machine}
+use Rattle.acpi_model.specs.McfgKind.{mcfg_kind, mcfg_layout, as_mcfg}
+use Rattle.acpi_model.specs.MachineMcfg.{mapped, mcfg_of_bridge}
 use Rattle.acpi_model.specs.HpetKind.{hpet_kind, hpet_layout, as_hpet}
 use Rattle.acpi_model.specs.Xsdt.{IsXsdt}
 use Rattle.acpi_model.specs.Rsdp.{IsRsdp, HasRsdp}
 
 -- the kinds of tables that are known, each of another signature
 abbrev pub kinds : List Kind
-kinds = fadt_kind ∷ madt_kind ∷ srat_kind ∷ slit_kind ∷ hpet_kind ∷ []
+kinds = fadt_kind ∷ madt_kind ∷ srat_kind ∷ slit_kind ∷ mcfg_kind ∷ hpet_kind ∷ []
 
 -- the kind of a signature, where it is known
 abbrev pub kind_of : List ℕ → Option Kind
@@ -46,6 +51,7 @@ layout_of (Fadt t links) = fadt_layout t links
 layout_of (Madt t) = madt_layout t
 layout_of (Srat t) = srat_layout t
 layout_of (Slit t) = slit_layout t
+layout_of (Mcfg t) = mcfg_layout t
 layout_of (Hpet t) = hpet_layout t
 
 -- the signature of a table
@@ -136,6 +142,7 @@ gathered oem_id xsdt tables targets others = record {
   madt = first_of madt_kind as_madt tables;
   srat = first_of srat_kind as_srat tables;
   slit = first_of slit_kind as_slit tables;
+  mcfg = first_of mcfg_kind as_mcfg tables;
   hpet = first_of hpet_kind as_hpet tables;
   others = others;
 }
@@ -192,6 +199,7 @@ with_table (Fadt t links) targets all = record all { fadt = Some t; facs = targe
 with_table (Madt t) targets all = record all { madt = Some t }
 with_table (Srat t) targets all = record all { srat = Some t }
 with_table (Slit t) targets all = record all { slit = Some t }
+with_table (Mcfg t) targets all = record all { mcfg = Some t }
 with_table (Hpet t) targets all = record all { hpet = Some t }
 
 -- and another table
@@ -203,13 +211,18 @@ with_other t all = record all { others = all.others ++ t ∷ [] }
 abbrev pub facs_place : ℕ
 facs_place = 0
 
+-- where its DSDT stands: behind the FACS, which has 64 bytes
+abbrev pub dsdt_place : ℕ
+dsdt_place = 64
+
 -- of each known kind a machine's table, where it has one
 abbrev pub parts_of : Machine → Acpi → List (Option Table)
 parts_of m acpi =
-    option_map (λ power. Fadt (fadt_of acpi power) (fadt_links facs_place)) m.power
+    option_map (λ power. Fadt (fadt_of acpi power) (fadt_links facs_place dsdt_place)) m.power
     ∷ option_map (λ apic. Madt (madt_of_machine m acpi apic)) m.apic
     ∷ option_map (λ numa. Srat (srat_of_machine m acpi)) m.numa
     ∷ option_map (λ numa. Slit (slit_of_machine acpi numa)) m.numa
+    ∷ option_map (λ bridge. Mcfg (mcfg_of_bridge acpi bridge)) (mapped m.bridge)
     ∷ option_map (λ hpet. Hpet (hpet_of acpi hpet)) m.hpet ∷ []
 
 -- the parts that are there
@@ -220,10 +233,15 @@ present parts = flat_map option_to_list parts
 abbrev pub tables_of : Machine → Acpi → List Table
 tables_of m acpi = present (parts_of m acpi)
 
--- what a machine's FADT leads to
-abbrev pub targets_of : Machine → FadtTargets
-targets_of m = record { facs = option_map (λ power. initial_facs) m.power; dsdt = None }
+-- a machine's DSDT
+abbrev pub dsdt_of : Machine → Acpi → Dsdt
+dsdt_of m acpi = Terms (head_of acpi 2) (dsdt_terms m)
+
+-- what its FADT leads to
+abbrev pub targets_of : Machine → Acpi → FadtTargets
+targets_of m acpi =
+    record { facs = option_map (λ power. initial_facs) m.power; dsdt = option_map (λ power. dsdt_of m acpi) m.power }
 
 -- the tables of a machine that has some
 abbrev pub acpi_of : Machine → Acpi → AcpiTables
-acpi_of m acpi = gathered (padded 6 acpi.oem_id) (head_of acpi 1) (tables_of m acpi) (targets_of m) []
+acpi_of m acpi = gathered (padded 6 acpi.oem_id) (head_of acpi 1) (tables_of m acpi) (targets_of m acpi) []

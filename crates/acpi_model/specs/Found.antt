@@ -1,17 +1,62 @@
 -- What an FADT leads to in a view: a FACS (ACPI 6.5, 5.2.10) and a DSDT (5.2.11.1).
-use Rattle.std.specs.Prelude.{◌≡◌, ℕ, [], codes, Option, Some, None}
-use Rattle.vt_bytes.specs.View.{View}
-use Rattle.acpi_records.specs.Header.{IsTable}
+use Rattle.std.specs.Prelude.{◌≡◌, ℕ, ◌+◌, ◌-◌, ◌<◌, ◌⊎◌, List, [], codes, Option, Some, None}
+use Rattle.std.specs.List.{AllByRecursion}
+use Rattle.vt_bytes.specs.View.{View, bytes_in}
+use Rattle.vt_layout.specs.declared.row.Row.{Row}
+use Rattle.vt_layout.specs.declared.row.Row.TheVariants.{Sum}
+use Rattle.vt_layout.specs.Rows.{IsPlain}
+use Rattle.aml_terms.specs.declared.term.Term.{Term}
+use Rattle.aml_terms.specs.Trees.{Trees, views}
+use Rattle.aml_terms.specs.Grammar.{Aml}
+use Rattle.acpi_records.specs.declared.header.Head.{Head}
+use Rattle.acpi_records.specs.Header.{IsTable, table_rows}
 use Rattle.acpi_records.specs.Facs.{IsFacs}
 use Rattle.acpi_model.specs.declared.dsdt.Dsdt.{Dsdt}
-use Rattle.acpi_model.specs.declared.dsdt.Dsdt.TheVariants.{Foreign}
+use Rattle.acpi_model.specs.declared.dsdt.Dsdt.TheVariants.{Terms, Foreign}
 use Rattle.acpi_model.specs.declared.link.FadtLinks.{FadtLinks}
 use Rattle.acpi_model.specs.declared.acpi.FadtTargets.{FadtTargets}
 use Rattle.acpi_model.specs.Links.{wide_or, IsFound}
 
--- A DSDT stands at the address. Of none is more said yet than its header and how many bytes it has.
+-- A DSDT of so many bytes stands at the address, and this is its definition block, which fills it behind its header.
+pub record IsBlock (view : View) (address : ℕ) (head : Head) (total : ℕ) (block : List ℕ) : Type 0 where
+  pub stands : IsTable view address (codes "DSDT") head total []
+  pub there : bytes_in view (address + 36) (total - 36) ≡ Some block
+
+-- its definition block spells these terms
+pub record SpellsTerms (view : View) (address : ℕ) (head : Head) (terms : List Term) : Type 0 where
+  pub total : ℕ
+  pub block : List ℕ
+  pub stands : IsBlock view address head total block
+  pub spelled : Aml (views terms) block
+
+-- its definition block spells no terms
+pub record SpellsNone (view : View) (address : ℕ) (head : Head) (total : ℕ) : Type 0 where
+  pub block : List ℕ
+  pub stands : IsBlock view address head total block
+  pub foreign : (terms : Trees) → Aml terms block → ⊥
+
+-- A DSDT stands at the address. It is told as the terms that its definition block spells, or where none do, by its length.
 abbrev pub IsDsdt : View → ℕ → Dsdt → Type 0
-IsDsdt view address (Foreign head length) = IsTable view address (codes "DSDT") head length []
+IsDsdt view address (Terms head terms) = SpellsTerms view address head terms
+IsDsdt view address (Foreign head length) = SpellsNone view address head length
+
+-- a DSDT as it is written, with these rows as its definition block
+abbrev pub dsdt_rows : Head → List Row → List Row
+dsdt_rows head block = table_rows (codes "DSDT") head block
+
+-- a row of a definition block, which has no checksum of its own
+abbrev pub IsBlockRow : Row → Type 0
+IsBlockRow (Sum covers) = ⊥
+IsBlockRow row = Unit {0}
+
+-- a view that shows bytes alone, as a memory does
+abbrev pub ShowsBytes : View → Type 0
+ShowsBytes view = (place byte : ℕ) → view place ≡ Some byte → byte < 256
+
+-- What is held of rows says which bytes they are: they have no pointers, or the view shows bytes alone, since other numbers could tell a
+-- place, too.
+abbrev pub IsSpelledIn : View → List Row → Type 0
+IsSpelledIn view block = AllByRecursion IsPlain block ⊎ ShowsBytes view
 
 -- where the FACS and the DSDT are to which these pointers lead
 abbrev pub facs_address : FadtLinks → ℕ

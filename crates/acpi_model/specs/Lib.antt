@@ -11,6 +11,8 @@ pub mod SratKind
 pub mod SlitKind
 pub mod MachineSrat
 pub mod MachineSlit
+pub mod McfgKind
+pub mod MachineMcfg
 pub mod HpetKind
 pub mod Xsdt
 pub mod Rsdp
@@ -30,4 +32,9 @@ pub use Rattle.acpi_records.specs.Madt
 pub use Rattle.acpi_records.specs.SratEntries
 pub use Rattle.acpi_records.specs.Srat
 pub use Rattle.acpi_records.specs.Slit
+pub use Rattle.acpi_records.specs.Mcfg
 pub use Rattle.acpi_records.specs.Hpet
+pub use Rattle.aml_terms.specs.Trees
+pub use Rattle.aml_terms.specs.Grammar
+pub use Rattle.aml_terms.specs.Reading
+pub use Rattle.dsdt_terms.specs.Dsdt

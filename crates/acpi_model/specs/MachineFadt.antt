@@ -1,5 +1,5 @@
 -- The FADT of a machine, and the part of a machine that it tells.
-use Rattle.std.specs.Prelude.{ℕ, ◌*◌, ◌/◌, ◌%◌, ◌==◌, if◌then◌else◌}
+use Rattle.std.specs.Prelude.{ℕ, Bool, ◌*◌, ◌/◌, ◌%◌, ◌==◌, if◌then◌else◌}
 use Rattle.machine_desc.specs.declared.machine.Acpi.{Acpi}
 use Rattle.machine_desc.specs.declared.acpi_parts.Power.{Power}
 use Rattle.machine_desc.specs.Fields.{fitted}
@@ -81,14 +81,15 @@ fadt_of acpi power = record {
   hypervisor = 0;
 }
 
--- Its pointers: the FACS stands at an offset of the file of the tables, and is told in 64 bits alone; there is no DSDT.
-abbrev pub fadt_links : ℕ → FadtLinks
-fadt_links facs =
-    record { firmware_ctrl = Address 0; dsdt = Address 0; x_firmware_ctrl = Offset facs; x_dsdt = Address 0 }
+-- Its pointers: the FACS and the DSDT stand at offsets of the file of the tables. The FACS is told in 64 bits alone, since it may be told
+-- once, and the DSDT in both widths (5.2.9, FIRMWARE_CTRL and DSDT).
+abbrev pub fadt_links : ℕ → ℕ → FadtLinks
+fadt_links facs dsdt =
+    record { firmware_ctrl = Address 0; dsdt = Offset dsdt; x_firmware_ctrl = Offset facs; x_dsdt = Offset dsdt }
 
--- The machine's part that an FADT tells. What has more bits than a description has for it is 0.
-abbrev pub power_in : Fadt → Power
-power_in t = record {
+-- The machine's part that an FADT tells, with the clock that a DSDT does. What has more bits than a description has for it is 0.
+abbrev pub power_in : Bool → Fadt → Power
+power_in clock t = record {
   sci = t.sci;
   profile = t.profile;
   event = fitted 16 t.pm1a_evt;
@@ -99,5 +100,6 @@ power_in t = record {
   reset = fitted 16 t.reset_reg.address;
   reset_value = t.reset_value;
   century = t.century;
+  rtc = clock;
   keyboard = t.iapc_boot_arch / 2 % 2 == 1;
 }

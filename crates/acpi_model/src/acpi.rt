@@ -7,16 +7,21 @@ ghost use Rattle.acpi_model.specs.MachineMadt.{madt_of_machine};
 ghost use Rattle.acpi_records.specs.Hpet.{hpet_of};
 ghost use Rattle.acpi_model.specs.MachineSrat.{srat_of_machine};
 ghost use Rattle.acpi_model.specs.MachineSlit.{slit_of_machine};
-ghost use Rattle.acpi_model.specs.declared.acpi.Table.TheVariants.{Fadt as FadtVariant, Madt as MadtVariant, Srat as SratVariant, Slit as SlitVariant, Hpet as HpetVariant};
-ghost use Rattle.acpi_model.specs.Acpi.{facs_place, tables_of, acpi_of};
+ghost use Rattle.acpi_model.specs.declared.acpi.Table.TheVariants.{Fadt as FadtVariant, Madt as MadtVariant, Srat as SratVariant, Slit as SlitVariant, Mcfg as McfgVariant, Hpet as HpetVariant};
+ghost use Rattle.acpi_model.specs.MachineMcfg.{mapped, mcfg_of_bridge};
+ghost use Rattle.acpi_model.specs.Acpi.{facs_place, dsdt_place, dsdt_of, tables_of, acpi_of};
 
 use crate::dsdt::Dsdt;
 use crate::link::FadtLinks;
-use crate::machine_fadt::{FACS_PLACE, fadt_links, fadt_of};
+use crate::machine_fadt::{DSDT_PLACE, FACS_PLACE, fadt_links, fadt_of};
 use crate::machine_madt::madt_of_machine;
+use crate::machine_mcfg::mcfg_of_bridge;
 use crate::machine_slit::slit_of_machine;
 use crate::machine_srat::srat_of_machine;
-use acpi_records::{Facs, Fadt, Head, HpetTable, Madt, Slit, Srat, head_of, hpet_of, initial_facs};
+use acpi_records::{
+    Facs, Fadt, Head, HpetTable, Madt, Mcfg, Slit, Srat, head_of, hpet_of, initial_facs,
+};
+use dsdt_terms::dsdt_terms;
 use machine_desc::{Acpi, Machine};
 use std::alloc::Global;
 use vt_outside::{List, OutOfMemory};
@@ -40,6 +45,8 @@ pub struct AcpiTables {
     pub srat: Option<Srat>,
     /// The SLIT, where the XSDT names one.
     pub slit: Option<Slit>,
+    /// The MCFG, where the XSDT names one.
+    pub mcfg: Option<Mcfg>,
     /// The HPET table, where the XSDT names one.
     pub hpet: Option<HpetTable>,
     /// The tables of other signatures, in the order of the XSDT's entries.
@@ -56,7 +63,7 @@ pub struct OtherTable {
 }
 
 /// What the pointers of an FADT lead to.
-#[derive(Clone, Copy, Debug, PartialEq, Eq)]
+#[derive(Debug, Drop)]
 pub struct FadtTargets {
     /// The FACS, where they lead to one.
     pub facs: Option<Facs>,
@@ -75,6 +82,8 @@ pub enum Table {
     Srat(Srat),
     /// The SLIT.
     Slit(Slit),
+    /// The MCFG.
+    Mcfg(Mcfg),
     /// The HPET table.
     Hpet(HpetTable),
 }
@@ -92,16 +101,17 @@ pub fn tables_of(alloc: Global, machine: &Machine, acpi: &Acpi) -> Result<List<T
     push_madt(&mut tables, madt_part(alloc, machine, acpi)?)?;
     push_srat(&mut tables, srat_part(alloc, machine, acpi)?)?;
     push_slit(&mut tables, slit_part(alloc, machine, acpi)?)?;
+    push_mcfg(&mut tables, mcfg_part(alloc, machine, acpi)?)?;
     push_hpet(&mut tables, hpet_part(machine, acpi))?;
     Ok(tables)
 }
 
 // Adds the FADT at the end of tables, where there is one. Its pointers are those of a machine.
 fn push_fadt(tables: &mut List<Table>, fadt: Option<Fadt>) -> Result<(), OutOfMemory>
-    ensures { OnOk result (tables.new ≡ tables.old ++ option_to_list (option_map (λ t. FadtVariant t (fadt_links facs_place)) fadt)) }
+    ensures { OnOk result (tables.new ≡ tables.old ++ option_to_list (option_map (λ t. FadtVariant t (fadt_links facs_place dsdt_place)) fadt)) }
 {
     match fadt {
-        Some(fadt) => tables.push(Table::Fadt(fadt, fadt_links(FACS_PLACE))),
+        Some(fadt) => tables.push(Table::Fadt(fadt, fadt_links(FACS_PLACE, DSDT_PLACE))),
         None => Ok(()),
     }
 }
@@ -132,6 +142,16 @@ fn push_slit(tables: &mut List<Table>, slit: Option<Slit>) -> Result<(), OutOfMe
 {
     match slit {
         Some(slit) => tables.push(Table::Slit(slit)),
+        None => Ok(()),
+    }
+}
+
+// Adds the MCFG, where there is one.
+fn push_mcfg(tables: &mut List<Table>, mcfg: Option<Mcfg>) -> Result<(), OutOfMemory>
+    ensures { OnOk result (tables.new ≡ tables.old ++ option_to_list (option_map McfgVariant mcfg)) }
+{
+    match mcfg {
+        Some(mcfg) => tables.push(Table::Mcfg(mcfg)),
         None => Ok(()),
     }
 }
@@ -202,6 +222,32 @@ fn slit_part(alloc: Global, machine: &Machine, acpi: &Acpi) -> Result<Option<Sli
     }
 }
 
+// Its MCFG.
+fn mcfg_part(alloc: Global, machine: &Machine, acpi: &Acpi) -> Result<Option<Mcfg>, OutOfMemory>
+    requires { FitsHead acpi.now }
+    ensures { IfOk result (λ part. part ≡ option_map (mcfg_of_bridge acpi.now) (mapped machine.now.bridge)) }
+{
+    match &machine.bridge {
+        Some(bridge) if bridge.ecam != 0 => Ok(Some(mcfg_of_bridge(alloc, acpi, bridge)?)),
+        _ => Ok(None),
+    }
+}
+
+// Its DSDT.
+fn dsdt_part(alloc: Global, machine: &Machine, acpi: &Acpi) -> Result<Option<Dsdt>, OutOfMemory>
+    requires accepted { IsAccepted machine.now }
+    requires fits { FitsHead acpi.now }
+    ensures { IfOk result (λ part. part ≡ option_map (λ power. dsdt_of machine.now acpi.now) machine.now.power) }
+{
+    match machine.power {
+        Some(_) => Ok(Some(Dsdt::Terms {
+            head: head_of(acpi, 2),
+            terms: dsdt_terms(alloc, machine)?,
+        })),
+        None => Ok(None),
+    }
+}
+
 // Its HPET table.
 fn hpet_part(machine: &Machine, acpi: &Acpi) -> Option<HpetTable>
     requires { FitsHead acpi.now }
@@ -224,6 +270,8 @@ pub fn acpi_of(alloc: Global, machine: &Machine, acpi: &Acpi) -> Result<AcpiTabl
     let madt = madt_part(alloc, machine, acpi)?;
     let srat = srat_part(alloc, machine, acpi)?;
     let slit = slit_part(alloc, machine, acpi)?;
+    let mcfg = mcfg_part(alloc, machine, acpi)?;
+    let dsdt = dsdt_part(alloc, machine, acpi)?;
     let xsdt = head_of(acpi, 1);
     let oem_id = xsdt.oem_id;
     Ok(AcpiTables {
@@ -231,10 +279,11 @@ pub fn acpi_of(alloc: Global, machine: &Machine, acpi: &Acpi) -> Result<AcpiTabl
         xsdt,
         fadt: fadt_part(machine, acpi),
         facs: facs_part(machine),
-        dsdt: None,
+        dsdt,
         madt,
         srat,
         slit,
+        mcfg,
         hpet: hpet_part(machine, acpi),
         others: List::new(alloc),
     })

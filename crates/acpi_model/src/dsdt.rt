@@ -1,9 +1,18 @@
 use acpi_records::Head;
+use aml_terms::Term;
+use vt_outside::List;
 
 /// The DSDT (ACPI 6.5, 5.2.11.1).
-#[derive(Clone, Copy, Debug, PartialEq, Eq)]
+#[derive(Debug, Drop)]
 pub enum Dsdt {
-    /// One of whose definition block only its length is told.
+    /// One whose definition block spells terms.
+    Terms {
+        /// The table's header.
+        head: Head,
+        /// The terms, in order.
+        terms: List<Term>,
+    },
+    /// One whose definition block spells none: only its length is told.
     Foreign {
         /// The table's header.
         head: Head,

@@ -4,7 +4,7 @@ ghost use Rattle.std.specs.Prelude.{◌≡◌, ℕ, ◌+◌, ◌<◌, ◌≤◌,
 ghost use Rattle.std.specs.List.{AllByRecursion};
 ghost use Rattle.vt_bytes.specs.View.{View};
 ghost use Rattle.vt_layout.specs.declared.row.Row.TheVariants.{Pointer};
-ghost use Rattle.vt_layout.specs.Rows.{IsRow, spelled};
+ghost use Rattle.vt_layout.specs.Rows.{IsRow, linked, spelled};
 ghost use Rattle.vt_layout.specs.Entries.{entries_rows};
 ghost use Rattle.vt_layout.specs.Shown.{LayoutHeld};
 ghost use Rattle.machine_desc.specs.declared.machine.Machine.{Machine};
@@ -20,10 +20,16 @@ ghost use Rattle.acpi_model.specs.declared.acpi.Table.{Table};
 ghost use Rattle.acpi_records.specs.Header.{head_of, padded, FitsHead};
 ghost use Rattle.acpi_model.specs.Maker.{acpi_in};
 ghost use Rattle.acpi_model.specs.Acpi.{IsAt, IsOther, IsWritable, CanBePut, rows_of, linked_table, signature_of, Walks, AreAt, AreDistinct, bytes_behind, first_with, first_links, gathered, facs_place, tables_of, targets_of, acpi_of};
-ghost use Rattle.acpi_model.specs.Acpi.{no_targets, AreFound, AreTold, is_first, TableLeadsTo, IsFoundBehind, with_table, with_other};
+ghost use Rattle.acpi_model.specs.Acpi.{dsdt_place, dsdt_of, no_targets, AreFound, AreTold, is_first, TableLeadsTo, IsFoundBehind, with_table, with_other};
 ghost use Rattle.acpi_model.specs.Kinds.{tables_name};
 ghost use Rattle.acpi_records.specs.Facs.{IsFacs};
-ghost use Rattle.acpi_model.specs.Found.{LeadTo};
+ghost use Rattle.acpi_model.specs.declared.dsdt.Dsdt.{Dsdt};
+ghost use Rattle.acpi_model.specs.declared.dsdt.Dsdt.TheVariants.{Terms};
+ghost use Rattle.acpi_model.specs.Found.{IsDsdt, IsBlockRow, IsSpelledIn, dsdt_rows, LeadTo};
+ghost use Rattle.aml_terms.specs.declared.term.Term.{Term};
+ghost use Rattle.aml_terms.specs.Trees.{views};
+ghost use Rattle.aml_terms.specs.Grammar.{Aml};
+ghost use Rattle.vt_layout.specs.declared.row.Row.{Row};
 ghost use Rattle.acpi_records.specs.Facs.{initial_facs};
 ghost use Rattle.acpi_records.specs.MadtEntries.{madt_entry_of};
 ghost use Rattle.acpi_model.specs.MachineMadt.{cpu_entries, nmi_entry, madt_of_machine, apic_in, cpus_in, io_apics_in, overrides_in, nmis_in, without_node};
@@ -75,6 +81,8 @@ pub fn known_table_is_told_apart()
         → is_first (codes "SRAT") is.tables ≡ not (is_some all.srat) }
     ensures slit { (view : View) (before : List ℕ) (all : AcpiTables) (is : AreTold view before all)
         → is_first (codes "SLIT") is.tables ≡ not (is_some all.slit) }
+    ensures mcfg { (view : View) (before : List ℕ) (all : AcpiTables) (is : AreTold view before all)
+        → is_first (codes "MCFG") is.tables ≡ not (is_some all.mcfg) }
     ensures hpet { (view : View) (before : List ℕ) (all : AcpiTables) (is : AreTold view before all)
         → is_first (codes "HPET") is.tables ≡ not (is_some all.hpet) }
 {}
@@ -90,16 +98,30 @@ pub fn table_in_a_list_is_found()
 pub fn tables_of_a_machine_are_gathered()
     ensures distinct { (place_of : List ℕ → ℕ) (machine : Machine) (acpi : Acpi) → AreDistinct (map (linked_table place_of) (tables_of machine acpi)) }
     ensures told { (place_of : List ℕ → ℕ) (machine : Machine) (acpi : Acpi)
-        → gathered (padded 6 acpi.oem_id) (head_of acpi 1) (map (linked_table place_of) (tables_of machine acpi)) (targets_of machine) []
+        → gathered (padded 6 acpi.oem_id) (head_of acpi 1) (map (linked_table place_of) (tables_of machine acpi)) (targets_of machine acpi) []
         ≡ acpi_of machine acpi }
 {}
 
 /// States that, where the file of the tables isn't placed at 0, a machine's FADT leads to the FACS that a view shows where that file
-/// begins, and to nothing else; and that a machine without an FADT leads to none.
-pub fn fadt_of_a_machine_leads_to_its_facs()
+/// begins, and to the machine's DSDT where the view shows it behind the FACS; and that a machine without an FADT leads to nothing.
+pub fn fadt_of_a_machine_leads_to_its_facs_and_its_dsdt()
     ensures { (view : View) (place_of : List ℕ → ℕ) (machine : Machine) (acpi : Acpi) → 0 < place_of tables_name
         → (IsSome machine.power → IsFacs view (place_of tables_name + facs_place) initial_facs)
-        → LeadTo view (first_links (map (linked_table place_of) (tables_of machine acpi))) (targets_of machine) }
+        → (IsSome machine.power → IsDsdt view (place_of tables_name + dsdt_place) (dsdt_of machine acpi))
+        → LeadTo view (first_links (map (linked_table place_of) (tables_of machine acpi))) (targets_of machine acpi) }
+{}
+
+/// States that at most one DSDT stands at an address: its definition block spells one list of terms, or none.
+pub fn one_dsdt_stands_at_an_address()
+    ensures { (view : View) (address : ℕ) (d e : Dsdt) → IsDsdt view address d → IsDsdt view address e → d ≡ e }
+{}
+
+/// States that a DSDT that a view holds as it was written stands there, as the terms that the rows of its definition block spell, their
+/// pointers with their targets' places added. Where they have pointers, the view shows bytes alone.
+pub fn held_dsdt_is_there()
+    ensures { (view : View) (place_of : List ℕ → ℕ) (address : ℕ) (head : Head) (block : List Row) (terms : List Term)
+        → AllByRecursion IsRow (dsdt_rows head block) → AllByRecursion IsBlockRow block → LayoutHeld view place_of address (dsdt_rows head block)
+        → IsSpelledIn view block → Aml (views terms) (spelled (linked place_of block)) → IsDsdt view address (Terms head terms) }
 {}
 
 /// States that the tables that a machine's XSDT names are few, and that those of an accepted machine can be written, are short, and can be

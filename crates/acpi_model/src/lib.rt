@@ -14,6 +14,7 @@ pub mod laws;
 mod link;
 mod machine_fadt;
 mod machine_madt;
+mod machine_mcfg;
 mod machine_slit;
 mod machine_srat;
 mod rsdp;
@@ -22,13 +23,15 @@ pub use acpi::{AcpiTables, FadtTargets, OtherTable, Table, acpi_of, tables_of};
 pub use acpi_records::{
     ApicAffinity, FACS_SIZE, FADT_DSDT_ROW, FADT_FACS_ROW, FADT_X_DSDT_ROW, FADT_X_FACS_ROW, Facs,
     Fadt, GenericAddress, HEADER_SIZE, Head, HpetTable, IoApicEntry, LocalApicEntry, LocalNmiEntry,
-    Madt, MadtEntry, MadtFront, MemoryAffinity, OverrideEntry, Slit, SlitFront, Srat, SratEntry,
-    SratFront, X2ApicAffinity, X2ApicEntry, X2ApicNmiEntry, head_of, hpet_of, initial_facs,
+    Madt, MadtEntry, MadtFront, Mcfg, McfgAllocation, McfgFront, MemoryAffinity, OverrideEntry,
+    Slit, SlitFront, Srat, SratEntry, SratFront, X2ApicAffinity, X2ApicEntry, X2ApicNmiEntry,
+    head_of, hpet_of, initial_facs,
 };
 pub use dsdt::Dsdt;
 pub use link::{FadtLinks, Link};
-pub use machine_fadt::{FACS_PLACE, fadt_links, fadt_of};
+pub use machine_fadt::{DSDT_PLACE, FACS_PLACE, fadt_links, fadt_of};
 pub use machine_madt::madt_of_machine;
+pub use machine_mcfg::mcfg_of_bridge;
 pub use machine_slit::slit_of_machine;
 pub use machine_srat::srat_of_machine;
 pub use rsdp::rsdp_rows;

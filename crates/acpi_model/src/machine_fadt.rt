@@ -11,6 +11,9 @@ use machine_desc::{Acpi, Power};
 /// as the FACS has to be (ACPI 6.5, 5.2.10).
 pub const FACS_PLACE: u32 = 0;
 
+/// Where the DSDT of a machine stands in that file, in bytes: behind the FACS.
+pub const DSDT_PLACE: u32 = 64;
+
 // The flags of each machine (ACPI 6.5, 5.2.9, table 5.10): WBINVD, PROC_C1, SLP_BUTTON, RTC_S4 and TMR_VAL_EXT.
 const FLAGS: u32 = 0x1A5;
 
@@ -122,15 +125,14 @@ fn register_at(width: u8, access: u8, port: u16) -> GenericAddress
     }
 }
 
-/// Returns the pointers of a machine's FADT, whose FACS stands at the offset `facs` in the file of the tables, in bytes. They lead to no
-/// DSDT.
-pub fn fadt_links(facs: u32) -> FadtLinks
-    ensures { result ≡ fadt_links facs }
+/// Returns the pointers of a machine's FADT, whose FACS and DSDT stand at the offsets `facs` and `dsdt` in the file of the tables, in bytes.
+pub fn fadt_links(facs: u32, dsdt: u32) -> FadtLinks
+    ensures { result ≡ fadt_links facs dsdt }
 {
     FadtLinks {
         firmware_ctrl: Link::Address(0),
-        dsdt: Link::Address(0),
+        dsdt: Link::Offset(dsdt),
         x_firmware_ctrl: Link::Offset(facs),
-        x_dsdt: Link::Address(0),
+        x_dsdt: Link::Offset(dsdt),
     }
 }

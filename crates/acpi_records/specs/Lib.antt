@@ -9,6 +9,7 @@ pub mod SratEntries
 pub mod NodeBack
 pub mod Srat
 pub mod Slit
+pub mod Mcfg
 pub mod Offsets
 pub mod Worked
 pub use Rattle.vt_bytes.specs.View

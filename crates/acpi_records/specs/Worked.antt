@@ -1,7 +1,9 @@
--- Worked entries of the MADT and of the SRAT, and their bytes, which were made by hand from the standard (ACPI 6.5, 5.2.12 and 5.2.16).
+-- Worked entries of the MADT, of the SRAT and of the MCFG, and their bytes, which were made by hand from the standards (ACPI 6.5, 5.2.12 and
+-- 5.2.16; PCI Firmware Specification 3.3, 4.1.2).
 use Rattle.std.specs.Prelude.{ℕ, List, [], ◌∷◌}
 use Rattle.acpi_records.specs.declared.madt_entry.MadtEntry.{MadtEntry}
 use Rattle.acpi_records.specs.declared.madt_entry.MadtEntry.TheVariants.{LocalApic, IoApic, Override, LocalNmi, X2Apic, X2ApicNmi, Other}
+use Rattle.acpi_records.specs.declared.mcfg.McfgAllocation.{McfgAllocation}
 use Rattle.acpi_records.specs.declared.srat_entry.SratEntry.{SratEntry}
 use Rattle.acpi_records.specs.declared.srat_entry.SratEntry.TheVariants as srat
 
@@ -34,3 +36,11 @@ worked_srat_bytes =
     ∷ 1 ∷ 40 ∷ 1 ∷ 0 ∷ 0 ∷ 0 ∷ 0 ∷ 0 ∷ 0 ∷ 0 ∷ 0 ∷ 0 ∷ 1 ∷ 0 ∷ 0 ∷ 0 ∷ 0 ∷ 0 ∷ 0 ∷ 0x80 ∷ 0 ∷ 0 ∷ 0 ∷ 0 ∷ 0 ∷ 0 ∷ 0 ∷ 0
     ∷ 1 ∷ 0 ∷ 0 ∷ 0 ∷ 0 ∷ 0 ∷ 0 ∷ 0 ∷ 0 ∷ 0 ∷ 0 ∷ 0
     ∷ 2 ∷ 24 ∷ 0 ∷ 0 ∷ 2 ∷ 0 ∷ 0 ∷ 0 ∷ 0xFF ∷ 1 ∷ 0 ∷ 0 ∷ 1 ∷ 0 ∷ 0 ∷ 0 ∷ 0 ∷ 0 ∷ 0 ∷ 0 ∷ 0 ∷ 0 ∷ 0 ∷ 0 ∷ []
+
+abbrev pub worked_allocations : List McfgAllocation
+worked_allocations = record { base = 0xB0000000; segment = 0; last_bus = 0xFF } ∷ record { base = 0x1234567800000; segment = 0x0102; last_bus = 7 } ∷ []
+
+abbrev pub worked_allocations_bytes : List ℕ
+worked_allocations_bytes =
+    0 ∷ 0 ∷ 0 ∷ 0xB0 ∷ 0 ∷ 0 ∷ 0 ∷ 0 ∷ 0 ∷ 0 ∷ 0 ∷ 0xFF ∷ 0 ∷ 0 ∷ 0 ∷ 0
+    ∷ 0 ∷ 0 ∷ 0x80 ∷ 0x67 ∷ 0x45 ∷ 0x23 ∷ 1 ∷ 0 ∷ 2 ∷ 1 ∷ 0 ∷ 7 ∷ 0 ∷ 0 ∷ 0 ∷ 0 ∷ []

@@ -18,11 +18,14 @@ ghost use Rattle.acpi_records.specs.SratEntries.{srat_entry_of, srat_types, srat
 ghost use Rattle.acpi_records.specs.declared.madt.MadtFront.{MadtFront};
 ghost use Rattle.acpi_records.specs.declared.srat.SratFront.{SratFront};
 ghost use Rattle.acpi_records.specs.declared.slit.SlitFront.{SlitFront};
+ghost use Rattle.acpi_records.specs.declared.mcfg.McfgFront.{McfgFront};
+ghost use Rattle.acpi_records.specs.declared.mcfg.McfgAllocation.{McfgAllocation};
+ghost use Rattle.acpi_records.specs.Mcfg.{mcfg_front_fields, allocation_fields, allocations_rows};
 ghost use Rattle.acpi_records.specs.Madt.{madt_front_fields};
 ghost use Rattle.acpi_records.specs.Srat.{srat_front_fields};
 ghost use Rattle.acpi_records.specs.Slit.{slit_front_fields};
 ghost use Rattle.acpi_records.specs.Offsets.{offsets_from, fadt_offsets};
-ghost use Rattle.acpi_records.specs.Worked.{worked_madt, worked_madt_bytes, worked_srat, worked_srat_bytes};
+ghost use Rattle.acpi_records.specs.Worked.{worked_madt, worked_madt_bytes, worked_srat, worked_srat_bytes, worked_allocations, worked_allocations_bytes};
 
 /// States that at most one FACS stands at an address.
 pub fn one_facs_stands_at_an_address()
@@ -36,7 +39,7 @@ pub fn held_facs_is_there()
 {}
 
 /// States that each row of an FADT stands at its offset of the standard, and how many bytes that table has, the FACS, and the fronts of
-/// the MADT, the SRAT and the SLIT.
+/// the MADT, the SRAT, the SLIT and the MCFG, and an allocation of the MCFG.
 pub fn rows_stand_at_their_offsets()
     ensures fadt { (t : Fadt) → offsets_from 0 (field_rows (fadt_fields t)) ≡ fadt_offsets }
     ensures fadt_size { (t : Fadt) → size (field_rows (fadt_fields t)) ≡ 276 }
@@ -44,6 +47,8 @@ pub fn rows_stand_at_their_offsets()
     ensures madt_size { (f : MadtFront) → size (field_rows (madt_front_fields f)) ≡ 44 }
     ensures srat_size { (f : SratFront) → size (field_rows (srat_front_fields f)) ≡ 48 }
     ensures slit_size { (f : SlitFront) → size (field_rows (slit_front_fields f)) ≡ 44 }
+    ensures mcfg_size { (f : McfgFront) → size (field_rows (mcfg_front_fields f)) ≡ 44 }
+    ensures allocation_size { (a : McfgAllocation) → size (field_rows (allocation_fields a)) ≡ 16 }
 {}
 
 /// States of the entries of a MADT that they are got back from their rows, which have no pointers and no sums, are of their types, and
@@ -79,4 +84,5 @@ pub fn entries_of_an_srat_are_got_back()
 pub fn worked_entries_are_spelled()
     ensures madt { spelled (entries_rows (map madt_entry_of worked_madt)) ≡ worked_madt_bytes }
     ensures srat { spelled (entries_rows (map srat_entry_of worked_srat)) ≡ worked_srat_bytes }
+    ensures mcfg { spelled (allocations_rows worked_allocations) ≡ worked_allocations_bytes }
 {}

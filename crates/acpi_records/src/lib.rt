@@ -14,6 +14,7 @@ mod hpet;
 pub mod laws;
 mod madt;
 mod madt_entry;
+mod mcfg;
 mod slit;
 mod srat;
 mod srat_entry;
@@ -29,6 +30,7 @@ pub use madt_entry::{
     MadtEntry, OVERRIDE_TYPE, OverrideEntry, X2APIC_NMI_TYPE, X2APIC_TYPE, X2ApicEntry,
     X2ApicNmiEntry,
 };
+pub use mcfg::{Mcfg, McfgAllocation, McfgFront};
 pub use slit::{Slit, SlitFront};
 pub use srat::{Srat, SratFront};
 pub use srat_entry::{

@@ -22,6 +22,22 @@ pub record InParts (old first second : BlobState) (header body : List Row) (star
   pub start_is : start ≡ length old.bytes
   pub behind_is : behind ≡ length first.bytes
 
+-- the second of rows and of others behind them
+pub in_parts : (old first second : BlobState) (header body more : List Row) (start behind : ℕ) → IsBlob old → AreRows (header ++ body ++ more)
+    → length old.bytes + size (header ++ body ++ more) < 2 ^ 32 → first ≡ unsummed old header → second ≡ unsummed first (body ++ more)
+    → start ≡ length old.bytes → behind ≡ length first.bytes → InParts old first second header (body ++ more) start behind
+in_parts old first second header body more start behind blob are short first_is second_is start_is behind_is =
+    let grouped : header ++ body ++ more ≡ header ++ (body ++ more) = append_assoc header body more in
+    record {
+      blob = blob;
+      are = subst AreRows grouped are;
+      short = subst (λ rows. length old.bytes + size rows < 2 ^ 32) grouped short;
+      first_is = first_is;
+      second_is = second_is;
+      start_is = start_is;
+      behind_is = behind_is;
+    }
+
 module _ (old first second : BlobState) (header body : List Row) (start behind : ℕ) (p : InParts old first second header body start behind) where
   -- both are appended
   whole : second ≡ unsummed old (header ++ body)

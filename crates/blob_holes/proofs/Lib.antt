@@ -14,3 +14,5 @@ pub mod Pieces
 pub mod Unsummed
 pub mod RowsKept
 pub mod Spelled
+pub mod Alike
+pub mod PartRows

@@ -3,6 +3,7 @@ pub mod Filled
 pub mod Grown
 pub mod Rows
 pub mod Plain
+pub mod Parts
 pub mod Held
 pub mod Appended
 pub use Rattle.vt_outside.specs.Name

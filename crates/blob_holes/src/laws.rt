@@ -1,12 +1,17 @@
 //! Laws over the definitions, each the contract of a function that does nothing.
 
 ghost use Rattle.std.specs.Prelude.{◌≡◌, ℕ, ◌+◌, ◌^◌, ◌<◌, List, [], ◌∷◌, ◌++◌};
+ghost use Rattle.std.specs.Borrow.{Bor};
+ghost use Rattle.std.specs.List.{AllByRecursion};
 ghost use Rattle.vt_bytes.specs.Parts.{part};
 ghost use Rattle.vt_layout.specs.declared.row.Row.{Row};
-ghost use Rattle.vt_layout.specs.Rows.{size};
+ghost use Rattle.vt_layout.specs.Rows.{IsRow, size};
+ghost use Rattle.blob_holes.specs.declared.part.Part.{Part};
+ghost use Rattle.blob_holes.specs.declared.part.Part.TheVariants.{Bytes};
 ghost use Rattle.blob_holes.specs.Blob.{BlobState, IsBlob, next_place, aligned};
 ghost use Rattle.blob_holes.specs.Rows.{AreRows, with_rows};
 ghost use Rattle.blob_holes.specs.Plain.{Spells, bytes_row};
+ghost use Rattle.blob_holes.specs.Parts.{StandFor, part_rows};
 ghost use Rattle.blob_holes.specs.Appended.{IsAppended};
 ghost use Rattle.blob_holes.specs.Filled.{IsSolid, IsFilled, PlacesFit, AreInOrder, with_pointers, with_sums};
 
@@ -36,4 +41,14 @@ pub fn rows_spell_their_bytes()
     ensures one { (bytes : List ℕ) → Spells (bytes_row bytes ∷ []) bytes }
     ensures behind { (rows more : List Row) (bytes others : List ℕ) → Spells rows bytes → Spells more others
         → Spells (rows ++ more) (bytes ++ others) }
+{}
+
+/// States that one row of each part stands for parts, and that whatever plain rows spell bytes stand for the one part of these bytes.
+/// All rows that stand for parts have as many bytes, and values that fit them where those of the parts do.
+pub fn rows_stand_for_their_parts()
+    ensures canonical { (parts : List Part) → StandFor parts (part_rows parts) }
+    ensures bytes { (bytes : Bor (List ℕ)) (rows : List Row) → Spells rows bytes.now → StandFor (Bytes bytes ∷ []) rows }
+    ensures size { (parts : List Part) (rows : List Row) → StandFor parts rows → size rows ≡ size (part_rows parts) }
+    ensures fit { (parts : List Part) (rows : List Row) → StandFor parts rows → AllByRecursion IsRow (part_rows parts)
+        → AllByRecursion IsRow rows }
 {}

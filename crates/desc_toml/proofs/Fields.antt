@@ -14,11 +14,13 @@ use Rattle.desc_schema.proofs.Fitting.{walked_fit}
 use Rattle.desc_schema.proofs.UuidText.{small_parsed}
 use Rattle.machine_desc.specs.declared.machine.Machine.{Machine}
 use Rattle.machine_desc.specs.Fields.{IsFittingFirmware, IsFittingSocket, IsFittingSlot, IsFittingPower, IsFittingHpet, HasFittingFields}
-use Rattle.machine_desc.specs.Fields.{IsFittingApic, IsFittingCpu, IsFittingIoApic, IsFittingOverride, IsFittingNmi, IsFittingNuma}
+use Rattle.machine_desc.specs.Fields.{IsFittingApic, IsFittingCpu, IsFittingIoApic, IsFittingOverride, IsFittingNmi, IsFittingNuma, IsFittingRoute, IsFittingBridge}
 use Rattle.desc_toml.specs.Keys.{schema}
-use Rattle.desc_toml.specs.Values.{part_of, each_of, list_of, firmware_of, socket_of, slot_of, power_of, hpet_of, apic_of, cpu_of, io_apic_of, override_of, nmi_of, one_byte}
-use Rattle.desc_toml.specs.Values.{text_taken, firmware_taken, socket_taken, slot_taken, power_taken, hpet_taken, apic_taken, cpu_taken, io_apic_taken, override_taken, nmi_taken, byte_taken, numa_taken}
-use Rattle.desc_toml.specs.Values.{front_of, arrays_of, tables_of, entries_of, acpi_parts_of, rest_of, machine_of}
+use Rattle.desc_toml.specs.Values.{part_of, each_of, list_of, firmware_of, socket_of, slot_of, power_of, hpet_of, apic_of, cpu_of, io_apic_of}
+use Rattle.desc_toml.specs.Values.{override_of, nmi_of, route_of, one_byte, text_taken, firmware_taken, socket_taken, slot_taken, power_taken, hpet_taken}
+use Rattle.desc_toml.specs.Values.{apic_taken, cpu_taken, io_apic_taken, override_taken, nmi_taken, byte_taken, numa_taken, window_taken, route_taken}
+use Rattle.desc_toml.specs.Values.{bridge_taken}
+use Rattle.desc_toml.specs.Values.{front_of, arrays_of, tables_of, entries_of, acpi_parts_of, devices_of, behind_of, rest_of, machine_of}
 use Rattle.desc_toml.specs.Reading.{Reads}
 use Rattle.desc_schema.proofs.EachTable.{at_each}
 use Rattle.desc_toml.proofs.Says.{values_walked}
@@ -239,9 +241,18 @@ byte_fits values = omega (arith, number_within 0xFF (first values))
 numa_fits : (values : List Value) → IsFittingNuma (numa_taken values).0
 numa_fits values = list_has (λ distance. distance < 2 ^ 8) byte_taken byte_fits (skip 1 values)
 
+route_fits : (values : List Value) → IsFittingRoute (route_of values)
+route_fits values = omega (arith, number_within 0xFFFFFFFF (value_at 2 values))
+
+bridge_fits : (values : List Value) → IsFittingBridge (bridge_taken values).0
+bridge_fits values = record {
+  last_bus = omega (arith, number_within 0xFF (value_at 1 values));
+  routes = list_has IsFittingRoute route_taken route_fits (list_of window_taken (skip 2 values)).1;
+}
+
 -- the machine of fitting values
 machine_fits : (values : List Value) → AreFitting values → HasFittingFields (machine_of values)
-unfolding front_of arrays_of tables_of entries_of acpi_parts_of rest_of machine_of
+unfolding front_of arrays_of tables_of entries_of acpi_parts_of devices_of behind_of rest_of machine_of
 machine_fits values fit =
     let strings = list_of text_taken (skip 2 values) in
     record {
@@ -259,6 +270,7 @@ machine_fits values fit =
       overrides = list_has IsFittingOverride override_taken override_fits _;
       nmis = list_has IsFittingNmi nmi_taken nmi_fits _;
       numa = part_has IsFittingNuma numa_taken numa_fits _;
+      bridge = part_has IsFittingBridge bridge_taken bridge_fits _;
     }
 
 -- and so one that is read

@@ -1,7 +1,7 @@
 -- The keys of a machine's description, table by table, in the order in which they are walked.
 use Rattle.std.specs.Prelude.{codes, ℕ, Bool, true, false, List, [], ◌∷◌, Option, Some, None}
 use Rattle.desc_schema.specs.declared.value.Value.{Value}
-use Rattle.desc_schema.specs.Form.{Field, Shape, One, Table, Tables, Values, Text, Number, Flag, Uuid}
+use Rattle.desc_schema.specs.Form.{Field, Shape, One, Table, Tables, Values, Text, Number, Flag, Uuid, Word}
 
 abbrev pub key : ℕ → List ℕ → Shape → Option Value → Field
 key number name shape default = record { number = number; name = name; shape = shape; default = default }
@@ -57,7 +57,9 @@ root_keys =
     parts 16 (codes "ioapic") 13 ∷
     parts 17 (codes "override") 14 ∷
     parts 18 (codes "nmi") 15 ∷
-    part 19 (codes "numa") 16 ∷ []
+    part 19 (codes "numa") 16 ∷
+    part 20 (codes "bridge") 17 ∷
+    parts 21 (codes "uart") 20 ∷ []
 
 -- table 1
 abbrev pub system_keys : List Field
@@ -152,6 +154,7 @@ power_keys =
     number 7 (codes "reset") 0xFFFF 0 ∷
     number 8 (codes "reset_value") 0xFF 0 ∷
     number 9 (codes "century") 0xFF 0 ∷
+    flag 10 (codes "rtc") true ∷
     flag 11 (codes "keyboard") true ∷ []
 
 -- table 10: numbers of 32, 32, 8 and 16 bits
@@ -202,8 +205,37 @@ numa_keys =
     number_given 0 (codes "nodes") 0xFF ∷
     key 1 (codes "distance") (Values (Number 0 0xFF)) None ∷ []
 
+-- table 17: numbers of 64 and 8 bits, and the tables of its windows and its routes
+abbrev pub bridge_keys : List Field
+bridge_keys =
+    number 0 (codes "ecam") 0xFFFFFFFFFFFFFFFF 0 ∷
+    number 1 (codes "last_bus") 0xFF 255 ∷
+    parts 2 (codes "window") 18 ∷
+    parts 3 (codes "route") 19 ∷ []
+
+-- table 18: what the addresses are of, and numbers of 64 bits
+abbrev pub window_keys : List Field
+window_keys =
+    key 0 (codes "kind") (One (Word (codes "io" ∷ codes "mem32" ∷ codes "mem64" ∷ []))) None ∷
+    number_given 1 (codes "base") 0xFFFFFFFFFFFFFFFF ∷
+    number_given 2 (codes "size") 0xFFFFFFFFFFFFFFFF ∷
+    flag 3 (codes "prefetch") false ∷ []
+
+-- table 19: numbers of 8, 8 and 32 bits
+abbrev pub route_keys : List Field
+route_keys =
+    number_given 0 (codes "device") 0xFF ∷
+    number_given 1 (codes "pin") 0xFF ∷
+    number_given 2 (codes "gsi") 0xFFFFFFFF ∷ []
+
+-- table 20: numbers of 16 and 8 bits
+abbrev pub uart_keys : List Field
+uart_keys =
+    number_given 0 (codes "port") 0xFFFF ∷
+    number_given 1 (codes "irq") 0xFF ∷ []
+
 -- the tables by their numbers
 abbrev pub schema : List (List Field)
 schema =
     root_keys ∷ system_keys ∷ firmware_keys ∷ chassis_keys ∷ socket_keys ∷ dimm_keys ∷ range_keys ∷ slot_keys ∷ acpi_keys ∷ power_keys ∷ hpet_keys
-    ∷ apic_keys ∷ cpu_keys ∷ io_apic_keys ∷ override_keys ∷ nmi_keys ∷ numa_keys ∷ []
+    ∷ apic_keys ∷ cpu_keys ∷ io_apic_keys ∷ override_keys ∷ nmi_keys ∷ numa_keys ∷ bridge_keys ∷ window_keys ∷ route_keys ∷ uart_keys ∷ []

@@ -13,7 +13,8 @@ table_name table =
     else if table == 6 then codes "range" else if table == 7 then codes "slot" else if table == 8 then codes "acpi"
     else if table == 9 then codes "power" else if table == 10 then codes "hpet" else if table == 11 then codes "apic"
     else if table == 12 then codes "cpu" else if table == 13 then codes "ioapic" else if table == 14 then codes "override"
-    else if table == 15 then codes "nmi" else if table == 16 then codes "numa" else []
+    else if table == 15 then codes "nmi" else if table == 16 then codes "numa" else if table == 17 then codes "bridge"
+    else if table == 18 then codes "window" else if table == 19 then codes "route" else if table == 20 then codes "uart" else []
 
 -- a byte of a key, or a question mark for one that doesn't show
 abbrev pub shown_byte : ℕ → ℕ

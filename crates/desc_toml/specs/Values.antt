@@ -1,14 +1,16 @@
 -- A machine from the values of its description, by their positions. A value of another kind stands for nothing: no walk gives one.
 use Rattle.std.specs.Prelude.{ℕ, zero, suc, List, [], ◌∷◌, length, Option, Some, None, ◌==◌, if◌then◌else◌}
 use Rattle.desc_schema.specs.declared.value.Value.{Value}
-use Rattle.desc_schema.specs.Taken.{first, rest, skip, value_at, text_of, number_to, number_if, flag_of, uuid_if, count_of}
+use Rattle.desc_schema.specs.Taken.{first, rest, skip, value_at, text_of, number_to, number_if, flag_of, uuid_if, word_of, count_of}
 use Rattle.desc_toml.specs.Keys.{system_keys, firmware_keys, chassis_keys, socket_keys, dimm_keys, range_keys, slot_keys, acpi_keys, power_keys, hpet_keys}
-use Rattle.desc_toml.specs.Keys.{apic_keys, cpu_keys, io_apic_keys, override_keys, nmi_keys}
+use Rattle.desc_toml.specs.Keys.{apic_keys, cpu_keys, io_apic_keys, override_keys, nmi_keys, window_keys, route_keys, uart_keys}
 use Rattle.desc_toml.specs.declared.machine.Front.{Front}
 use Rattle.desc_toml.specs.declared.machine.Arrays.{Arrays}
 use Rattle.desc_toml.specs.declared.machine.Tables.{Tables}
 use Rattle.desc_toml.specs.declared.machine.Entries.{Entries}
 use Rattle.desc_toml.specs.declared.machine.AcpiParts.{AcpiParts}
+use Rattle.desc_toml.specs.declared.machine.Devices.{Devices}
+use Rattle.desc_toml.specs.declared.machine.Behind.{Behind}
 use Rattle.desc_toml.specs.declared.machine.Rest.{Rest}
 use Rattle.machine_desc.specs.declared.machine.Machine.{Machine}
 use Rattle.machine_desc.specs.declared.machine.System.{System}
@@ -21,6 +23,12 @@ use Rattle.machine_desc.specs.declared.acpi_parts.IoApic.{IoApic}
 use Rattle.machine_desc.specs.declared.acpi_parts.Override.{Override}
 use Rattle.machine_desc.specs.declared.acpi_parts.Nmi.{Nmi}
 use Rattle.machine_desc.specs.declared.acpi_parts.Numa.{Numa}
+use Rattle.machine_desc.specs.declared.device_parts.Bridge.{Bridge}
+use Rattle.machine_desc.specs.declared.device_parts.Window.{Window}
+use Rattle.machine_desc.specs.declared.device_parts.WindowKind.{WindowKind}
+use Rattle.machine_desc.specs.declared.device_parts.WindowKind.TheVariants.{Io, Mem32, Mem64}
+use Rattle.machine_desc.specs.declared.device_parts.Route.{Route}
+use Rattle.machine_desc.specs.declared.device_parts.Uart.{Uart}
 use Rattle.machine_desc.specs.declared.smbios_parts.Firmware.{Firmware}
 use Rattle.machine_desc.specs.declared.smbios_parts.Chassis.{Chassis}
 use Rattle.machine_desc.specs.declared.smbios_parts.Socket.{Socket}
@@ -147,7 +155,8 @@ power_of values = record {
   reset = number_to 0xFFFF (value_at 7 values);
   reset_value = number_to 0xFF (value_at 8 values);
   century = number_to 0xFF (value_at 9 values);
-  keyboard = flag_of (value_at 10 values);
+  rtc = flag_of (value_at 10 values);
+  keyboard = flag_of (value_at 11 values);
 }
 
 abbrev pub hpet_of : List Value → Hpet
@@ -188,6 +197,28 @@ nmi_of values = record {
   flags = number_to 0xFFFF (value_at 1 values);
   lint = number_to 0xFF (value_at 2 values);
 }
+
+-- the kind of a window by its word's place
+abbrev pub kind_at : ℕ → WindowKind
+kind_at place = if place == 0 then Io else if place == 1 then Mem32 else Mem64
+
+abbrev pub window_of : List Value → Window
+window_of values = record {
+  kind = kind_at (word_of (value_at 0 values));
+  base = number_to 0xFFFFFFFFFFFFFFFF (value_at 1 values);
+  size = number_to 0xFFFFFFFFFFFFFFFF (value_at 2 values);
+  prefetch = flag_of (value_at 3 values);
+}
+
+abbrev pub route_of : List Value → Route
+route_of values = record {
+  device = number_to 0xFF (value_at 0 values);
+  pin = number_to 0xFF (value_at 1 values);
+  gsi = number_to 0xFFFFFFFF (value_at 2 values);
+}
+
+abbrev pub uart_of : List Value → Uart
+uart_of values = record { port = number_to 0xFFFF (value_at 0 values); irq = number_to 0xFF (value_at 1 values) }
 
 -- each part with what follows it
 
@@ -248,6 +279,29 @@ numa_taken values =
     let distance = list_of byte_taken (skip 1 values) in
     (record { nodes = number_to 0xFF (value_at 0 values); distance = distance.0 }, distance.1)
 
+abbrev pub window_taken : List Value → Window × List Value
+window_taken values = fixed window_of (length window_keys) values
+
+abbrev pub route_taken : List Value → Route × List Value
+route_taken values = fixed route_of (length route_keys) values
+
+abbrev pub uart_taken : List Value → Uart × List Value
+uart_taken values = fixed uart_of (length uart_keys) values
+
+-- two numbers, the windows, and the routes
+abbrev pub bridge_taken : List Value → Bridge × List Value
+bridge_taken values =
+    let windows = list_of window_taken (skip 2 values) in
+    let routes = list_of route_taken windows.1 in (
+      record {
+        ecam = number_to 0xFFFFFFFFFFFFFFFF (value_at 0 values);
+        last_bus = number_to 0xFF (value_at 1 values);
+        windows = windows.0;
+        routes = routes.0;
+      },
+      routes.1,
+    )
+
 -- The version, the top, the texts of the maker, the one table of the system, and two tables that may be left out, each behind what stands
 -- before it; and what follows them.
 unfoldable pub front_of : List Value → Front × List Value
@@ -301,12 +355,26 @@ acpi_parts_of values =
     let entries = entries_of tables.1 in
     (record { tables = tables.0; entries = entries.0 }, entries.1)
 
--- the arrays, and what is about ACPI
+-- the bridge, which may be left out, and the serial ports; and what follows them
+unfoldable pub devices_of : List Value → Devices × List Value
+devices_of values =
+    let bridge = part_of bridge_taken values in
+    let uarts = list_of uart_taken bridge.1 in
+    (record { bridge = bridge.0; uarts = uarts.0 }, uarts.1)
+
+-- what is about ACPI, and then the devices
+unfoldable pub behind_of : List Value → Behind × List Value
+behind_of values =
+    let acpi_parts = acpi_parts_of values in
+    let devices = devices_of acpi_parts.1 in
+    (record { acpi_parts = acpi_parts.0; devices = devices.0 }, devices.1)
+
+-- the arrays, and what stands behind them
 unfoldable pub rest_of : List Value → Rest × List Value
 rest_of values =
     let arrays = arrays_of values in
-    let acpi_parts = acpi_parts_of arrays.1 in
-    (record { arrays = arrays.0; acpi_parts = acpi_parts.0 }, acpi_parts.1)
+    let behind = behind_of arrays.1 in
+    (record { arrays = arrays.0; behind = behind.0 }, behind.1)
 
 abbrev pub joined : Front → Rest → Machine
 joined front rest = record {
@@ -319,15 +387,17 @@ joined front rest = record {
   dimms = rest.arrays.dimms;
   ranges = rest.arrays.ranges;
   slots = rest.arrays.slots;
-  acpi = rest.acpi_parts.tables.acpi;
-  power = rest.acpi_parts.tables.power;
-  hpet = rest.acpi_parts.tables.hpet;
-  apic = rest.acpi_parts.tables.apic;
-  cpus = rest.acpi_parts.entries.cpus;
-  io_apics = rest.acpi_parts.entries.io_apics;
-  overrides = rest.acpi_parts.entries.overrides;
-  nmis = rest.acpi_parts.entries.nmis;
-  numa = rest.acpi_parts.entries.numa;
+  acpi = rest.behind.acpi_parts.tables.acpi;
+  power = rest.behind.acpi_parts.tables.power;
+  hpet = rest.behind.acpi_parts.tables.hpet;
+  apic = rest.behind.acpi_parts.tables.apic;
+  cpus = rest.behind.acpi_parts.entries.cpus;
+  io_apics = rest.behind.acpi_parts.entries.io_apics;
+  overrides = rest.behind.acpi_parts.entries.overrides;
+  nmis = rest.behind.acpi_parts.entries.nmis;
+  numa = rest.behind.acpi_parts.entries.numa;
+  bridge = rest.behind.devices.bridge;
+  uarts = rest.behind.devices.uarts;
 }
 
 -- what stands before the arrays, and what stands there and behind

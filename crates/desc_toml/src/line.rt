@@ -100,6 +100,10 @@ fn table_name(table: u8) -> &'static str
         14 => "override",
         15 => "nmi",
         16 => "numa",
+        17 => "bridge",
+        18 => "window",
+        19 => "route",
+        20 => "uart",
         _ => "",
     }
 }

@@ -1,13 +1,13 @@
 //! A machine from the values of its description, which are taken out one after the other.
 
 ghost use Rattle.std.specs.Prelude.{◌≡◌, IfOk};
-ghost use Rattle.desc_toml.specs.Values.{front_of, arrays_of, tables_of, entries_of, acpi_parts_of, rest_of, joined, machine_of};
+ghost use Rattle.desc_toml.specs.Values.{front_of, arrays_of, tables_of, entries_of, acpi_parts_of, devices_of, behind_of, rest_of, joined, machine_of};
 
 use crate::parts::{Part, list_of, part_of};
 use desc_schema::Values;
 use machine_desc::{
-    Acpi, Apic, Chassis, Cpu, Dimm, Firmware, Hpet, IoApic, Machine, MemRange, Nmi, Numa, Override,
-    Power, Slot, Socket, System,
+    Acpi, Apic, Bridge, Chassis, Cpu, Dimm, Firmware, Hpet, IoApic, Machine, MemRange, Nmi, Numa,
+    Override, Power, Slot, Socket, System, Uart,
 };
 use std::alloc::Global;
 use vt_outside::{List, OutOfMemory, Text};
@@ -50,18 +50,32 @@ struct Entries {
     numa: Option<Numa>,
 }
 
-// What a machine has that is about ACPI.
+// What a machine has that is about ACPI, without its devices.
 #[derive(Drop)]
 struct AcpiParts {
     tables: Tables,
     entries: Entries,
 }
 
+// The devices of a machine.
+#[derive(Drop)]
+struct Devices {
+    bridge: Option<Bridge>,
+    uarts: List<Uart>,
+}
+
+// What a machine has behind its arrays.
+#[derive(Drop)]
+struct Behind {
+    acpi_parts: AcpiParts,
+    devices: Devices,
+}
+
 // What a machine has from its arrays on.
 #[derive(Drop)]
 struct Rest {
     arrays: Arrays,
-    acpi_parts: AcpiParts,
+    behind: Behind,
 }
 
 // The machine of these values. It is made in parts, since the proof of a function grows steeply with the values that it owns at a `?`.
@@ -84,8 +98,8 @@ pub(crate) fn machine_of(alloc: Global, values: &mut Values) -> Result<Machine, 
 fn joined(front: Front, rest: Rest) -> Machine
     ensures { result ≡ joined front rest }
 {
-    let Rest { arrays, acpi_parts } = rest;
-    let AcpiParts { tables, entries } = acpi_parts;
+    let Rest { arrays, behind } = rest;
+    let AcpiParts { tables, entries } = behind.acpi_parts;
     Machine {
         top_mib: front.top_mib,
         oem_strings: front.oem_strings,
@@ -105,6 +119,8 @@ fn joined(front: Front, rest: Rest) -> Machine
         overrides: entries.overrides,
         nmis: entries.nmis,
         numa: entries.numa,
+        bridge: behind.devices.bridge,
+        uarts: behind.devices.uarts,
     }
 }
 
@@ -132,8 +148,8 @@ fn rest_of(alloc: Global, values: &mut Values) -> Result<Rest, OutOfMemory>
     ensures { IfOk result (λ rest. (rest, values.new) ≡ rest_of values.old) }
 {
     let arrays = arrays_of(alloc, values)?;
-    match acpi_parts_of(alloc, values) {
-        Ok(acpi_parts) => Ok(Rest { arrays, acpi_parts }),
+    match behind_of(alloc, values) {
+        Ok(behind) => Ok(Rest { arrays, behind }),
         Err(error) => {
             drop(arrays);
             Err(error)
@@ -141,7 +157,25 @@ fn rest_of(alloc: Global, values: &mut Values) -> Result<Rest, OutOfMemory>
     }
 }
 
-// What a machine has that is about ACPI.
+// What a machine has behind its arrays.
+#[tactic(auto, unfolding(crate::specs::Values::behind_of))]
+fn behind_of(alloc: Global, values: &mut Values) -> Result<Behind, OutOfMemory>
+    ensures { IfOk result (λ behind. (behind, values.new) ≡ behind_of values.old) }
+{
+    let acpi_parts = acpi_parts_of(alloc, values)?;
+    match devices_of(alloc, values) {
+        Ok(devices) => Ok(Behind {
+            acpi_parts,
+            devices,
+        }),
+        Err(error) => {
+            drop(acpi_parts);
+            Err(error)
+        }
+    }
+}
+
+// What a machine has that is about ACPI, without its devices.
 #[tactic(auto, unfolding(crate::specs::Values::acpi_parts_of))]
 fn acpi_parts_of(alloc: Global, values: &mut Values) -> Result<AcpiParts, OutOfMemory>
     ensures { IfOk result (λ parts. (parts, values.new) ≡ acpi_parts_of values.old) }
@@ -193,5 +227,16 @@ fn entries_of(alloc: Global, values: &mut Values) -> Result<Entries, OutOfMemory
         overrides: list_of(alloc, values)?,
         nmis: list_of(alloc, values)?,
         numa: part_of(alloc, values)?,
+    })
+}
+
+// The devices.
+#[tactic(auto, unfolding(crate::specs::Values::devices_of))]
+fn devices_of(alloc: Global, values: &mut Values) -> Result<Devices, OutOfMemory>
+    ensures { IfOk result (λ devices. (devices, values.new) ≡ devices_of values.old) }
+{
+    Ok(Devices {
+        bridge: part_of(alloc, values)?,
+        uarts: list_of(alloc, values)?,
     })
 }

@@ -4,12 +4,14 @@ ghost use Rattle.std.specs.Prelude.{◌≡◌, IfOk, OnOk, List as ListOf};
 ghost use Rattle.desc_schema.specs.declared.value.Value.{Value};
 ghost use Rattle.desc_schema.specs.Taken.{first, rest, number_if};
 ghost use Rattle.desc_toml.specs.Values.{text_taken, system_taken, firmware_taken, chassis_taken, socket_taken, dimm_taken, range_taken};
-ghost use Rattle.desc_toml.specs.Values.{slot_taken, acpi_taken, power_taken, hpet_taken, apic_taken, cpu_taken, io_apic_taken, override_taken, nmi_taken, byte_taken, numa_taken, part_of, list_of};
+ghost use Rattle.desc_toml.specs.Values.{slot_taken, acpi_taken, power_taken, hpet_taken, apic_taken, cpu_taken, io_apic_taken, override_taken};
+ghost use Rattle.desc_toml.specs.Values.{nmi_taken, byte_taken, numa_taken, kind_at, window_taken, route_taken, bridge_taken, uart_taken};
+ghost use Rattle.desc_toml.specs.Values.{part_of, list_of};
 
 use desc_schema::Values;
 use machine_desc::{
-    Acpi, Apic, Chassis, Cpu, Dimm, Firmware, Hpet, IoApic, MemRange, Nmi, Numa, Override, Power,
-    Slot, Socket, System,
+    Acpi, Apic, Bridge, Chassis, Cpu, Dimm, Firmware, Hpet, IoApic, MemRange, Nmi, Numa, Override,
+    Power, Route, Slot, Socket, System, Uart, Window, WindowKind,
 };
 use std::alloc::Global;
 use vt_outside::{List, OutOfMemory, Text};
@@ -191,6 +193,7 @@ impl Part for Power {
             reset: values.take_number(u16::MAX as u64) as u16,
             reset_value: values.take_number(u8::MAX as u64) as u8,
             century: values.take_number(u8::MAX as u64) as u8,
+            rtc: values.take_flag(),
             keyboard: values.take_flag(),
         })
     }
@@ -284,6 +287,68 @@ impl Part for Numa {
         Ok(Numa {
             nodes,
             distance: list_of(alloc, values)?,
+        })
+    }
+}
+
+impl Part for Window {
+    ghost taken = { window_taken };
+
+    fn take(_alloc: Global, values: &mut Values) -> Result<Window, OutOfMemory> {
+        Ok(Window {
+            kind: kind_at(values.take_word()),
+            base: values.take_number(u64::MAX),
+            size: values.take_number(u64::MAX),
+            prefetch: values.take_flag(),
+        })
+    }
+}
+
+// The kind of a window by its word's place.
+fn kind_at(place: usize) -> WindowKind
+    ensures { result ≡ kind_at place }
+{
+    match place {
+        0 => WindowKind::Io,
+        1 => WindowKind::Mem32,
+        _ => WindowKind::Mem64,
+    }
+}
+
+impl Part for Route {
+    ghost taken = { route_taken };
+
+    fn take(_alloc: Global, values: &mut Values) -> Result<Route, OutOfMemory> {
+        Ok(Route {
+            device: values.take_number(u8::MAX as u64) as u8,
+            pin: values.take_number(u8::MAX as u64) as u8,
+            gsi: values.take_number(u32::MAX as u64) as u32,
+        })
+    }
+}
+
+impl Part for Bridge {
+    ghost taken = { bridge_taken };
+
+    fn take(alloc: Global, values: &mut Values) -> Result<Bridge, OutOfMemory> {
+        let ecam = values.take_number(u64::MAX);
+        let last_bus = values.take_number(u8::MAX as u64) as u8;
+        Ok(Bridge {
+            ecam,
+            last_bus,
+            windows: list_of(alloc, values)?,
+            routes: list_of(alloc, values)?,
+        })
+    }
+}
+
+impl Part for Uart {
+    ghost taken = { uart_taken };
+
+    fn take(_alloc: Global, values: &mut Values) -> Result<Uart, OutOfMemory> {
+        Ok(Uart {
+            port: values.take_number(u16::MAX as u64) as u16,
+            irq: values.take_number(u8::MAX as u64) as u8,
         })
     }
 }

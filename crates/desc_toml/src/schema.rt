@@ -79,6 +79,8 @@ const BYTES: Kind = Kind::Values(Scalar::Number(0, 0xFF));
 
 const TEXTS: Kind = Kind::Values(Scalar::Text);
 
+const WINDOW_KIND: Kind = Kind::One(Scalar::Word(&["io", "mem32", "mem64"]));
+
 // A line for each key, which begins with its number. Numbers that no line has are those of keys that are still to come.
 const ROOT: &[Key] = &[
     key!(0, "version", VERSION, Otherwise::Required),
@@ -100,6 +102,8 @@ const ROOT: &[Key] = &[
     parts!(17, "override", 14),
     parts!(18, "nmi", 15),
     part!(19, "numa", 16),
+    part!(20, "bridge", 17),
+    parts!(21, "uart", 20),
 ];
 
 const SYSTEM: &[Key] = &[
@@ -185,6 +189,7 @@ const POWER: &[Key] = &[
     number!(7, "reset", 0xFFFF, 0),
     number!(8, "reset_value", 0xFF, 0),
     number!(9, "century", 0xFF, 0),
+    flag!(10, "rtc", true),
     flag!(11, "keyboard", true),
 ];
 
@@ -229,6 +234,28 @@ const NUMA: &[Key] = &[
     key!(1, "distance", BYTES, Otherwise::Required),
 ];
 
+const BRIDGE: &[Key] = &[
+    number!(0, "ecam", 0xFFFF_FFFF_FFFF_FFFF, 0),
+    number!(1, "last_bus", 0xFF, 255),
+    parts!(2, "window", 18),
+    parts!(3, "route", 19),
+];
+
+const WINDOW: &[Key] = &[
+    key!(0, "kind", WINDOW_KIND, Otherwise::Required),
+    number!(1, "base", 0xFFFF_FFFF_FFFF_FFFF),
+    number!(2, "size", 0xFFFF_FFFF_FFFF_FFFF),
+    flag!(3, "prefetch", false),
+];
+
+const ROUTE: &[Key] = &[
+    number!(0, "device", 0xFF),
+    number!(1, "pin", 0xFF),
+    number!(2, "gsi", 0xFFFF_FFFF),
+];
+
+const UART: &[Key] = &[number!(0, "port", 0xFFFF), number!(1, "irq", 0xFF)];
+
 // A table's number is its place here.
 pub(crate) const SCHEMA: &[TableSchema] = &[
     TableSchema { keys: ROOT },
@@ -248,4 +275,8 @@ pub(crate) const SCHEMA: &[TableSchema] = &[
     TableSchema { keys: OVERRIDE },
     TableSchema { keys: NMI },
     TableSchema { keys: NUMA },
+    TableSchema { keys: BRIDGE },
+    TableSchema { keys: WINDOW },
+    TableSchema { keys: ROUTE },
+    TableSchema { keys: UART },
 ];

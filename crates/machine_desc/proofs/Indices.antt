@@ -11,8 +11,9 @@ use Rattle.machine_desc.specs.declared.machine.Acpi.{Acpi}
 use Rattle.machine_desc.specs.declared.machine.Broken.{Broken}
 use Rattle.machine_desc.proofs.Kept.{each_is_kept}
 use Rattle.machine_desc.proofs.Passing.{failing_within, all_pass, passing_at, ◌⨾◌}
-use Rattle.machine_desc.specs.Rules.{first_broken, only_at, first_failing, is_padded_text, breach_of_acpi, breaches_of_sizes, breaches_of_parts, breaches_of_acpi_parts, counts, is_within, with_ends, end_of, is_some_text, is_lawful_socket, is_lawful_dimm, is_lawful_range, is_lawful_slot, is_met, parts_on_acpi, lists_on_apic}
+use Rattle.machine_desc.specs.Rules.{first_broken, only_at, first_failing, is_padded_text, breach_of_acpi, breaches_of_sizes, breaches_of_parts, breaches_of_acpi_parts, breaches_of_devices, counts, is_within, with_ends, end_of, is_some_text, is_lawful_socket, is_lawful_dimm, is_lawful_range, is_lawful_slot, is_met, parts_on_acpi, parts_on_power, lists_on_apic}
 use Rattle.machine_desc.specs.Rules.{is_new, first_refused, is_lawful_cpu, apic_id, is_lawful_io_apic, io_apic_id, is_lawful_override, irq_of, is_lawful_nmi, is_node, node_count, nodes_of}
+use Rattle.machine_desc.specs.Rules.{windows_of, routes_of, is_lawful_window, is_lawful_route, pair_of, is_lawful_uart}
 
 -- the rule at a place is the first broken one of those that are left
 pub broken_here : (rules : List (ℕ × Option ℕ)) (i index : ℕ) (d : ℕ × Option ℕ) → i < length rules → (get_or rules i d).1 ≡ Some index
@@ -109,6 +110,7 @@ parts_below m short =
 acpi_parts_below : (m : Machine) → first_failing is_within (counts m) ≡ None → AreBelow 8192 (breaches_of_acpi_parts m)
 acpi_parts_below m short =
     failing_below 8192 (is_met (is_some m.acpi)) (parts_on_acpi m) (omega arith)
+    ⨾ failing_below 8192 (is_met (is_some m.power)) (parts_on_power m) (omega arith)
     ⨾ failing_below 8192 (is_met (is_some m.apic)) (lists_on_apic m) (omega arith)
     ⨾ acpi_below m.acpi
     ⨾ only_first _
@@ -119,6 +121,14 @@ acpi_parts_below m short =
     ⨾ failing_below 8192 (is_lawful_nmi (length m.cpus)) m.nmis (omega (arith, within m 8 short))
     ⨾ only_first _
     ⨾ failing_below 8192 (is_node (node_count m.numa)) (nodes_of m) (nodes_few m (within m 5 short) (within m 3 short))
+    ⨾ tt
+
+devices_below : (m : Machine) → first_failing is_within (counts m) ≡ None → AreBelow 8192 (breaches_of_devices m)
+devices_below m short =
+    only_first _
+    ⨾ failing_below 8192 is_lawful_window (windows_of m.bridge) (omega (arith, within m 10 short))
+    ⨾ refused_below 8192 is_lawful_route pair_of (routes_of m.bridge) (omega (arith, within m 11 short))
+    ⨾ failing_below 8192 is_lawful_uart m.uarts (omega (arith, within m 9 short))
     ⨾ tt
 
 -- the index at which a rule of each list is broken first
@@ -136,3 +146,8 @@ pub index_of_acpi_part : (m : Machine) (broken : Broken) → first_broken (breac
     → first_broken (breaches_of_acpi_parts m) ≡ Some broken → broken.index < 8192
 index_of_acpi_part m broken none is =
     some_below 8192 (breaches_of_acpi_parts m) broken (acpi_parts_below m (each_is_kept 2 (breaches_of_sizes m) none)) is
+
+pub index_of_device : (m : Machine) (broken : Broken) → first_broken (breaches_of_sizes m) ≡ None → first_broken (breaches_of_devices m) ≡ Some broken
+    → broken.index < 8192
+index_of_device m broken none is =
+    some_below 8192 (breaches_of_devices m) broken (devices_below m (each_is_kept 2 (breaches_of_sizes m) none)) is

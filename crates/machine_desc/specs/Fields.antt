@@ -10,6 +10,8 @@ use Rattle.machine_desc.specs.declared.acpi_parts.IoApic.{IoApic}
 use Rattle.machine_desc.specs.declared.acpi_parts.Override.{Override}
 use Rattle.machine_desc.specs.declared.acpi_parts.Nmi.{Nmi}
 use Rattle.machine_desc.specs.declared.acpi_parts.Numa.{Numa}
+use Rattle.machine_desc.specs.declared.device_parts.Bridge.{Bridge}
+use Rattle.machine_desc.specs.declared.device_parts.Route.{Route}
 use Rattle.machine_desc.specs.declared.smbios_parts.Firmware.{Firmware}
 use Rattle.machine_desc.specs.declared.smbios_parts.Socket.{Socket}
 use Rattle.machine_desc.specs.declared.smbios_parts.Slot.{Slot}
@@ -84,6 +86,15 @@ IsFittingNmi nmi = IfSome nmi.cpu (λ cpu. cpu < 2 ^ 32)
 abbrev pub IsFittingNuma : Numa → Type 0
 IsFittingNuma n = AllByRecursion (λ distance. distance < 2 ^ 8) n.distance
 
+-- the interrupt of a route has 32 bits
+abbrev pub IsFittingRoute : Route → Type 0
+IsFittingRoute r = r.gsi < 2 ^ 32
+
+-- the number of a bridge's last bus has 8 bits
+pub record IsFittingBridge (b : Bridge) : Type 0 where
+  pub last_bus : b.last_bus < 2 ^ 8
+  pub routes : AllByRecursion IsFittingRoute b.routes
+
 pub record HasFittingFields (m : Machine) : Type 0 where
   pub uuid : HasFittingUuid m
   pub firmware : IfSome m.firmware IsFittingFirmware
@@ -97,6 +108,7 @@ pub record HasFittingFields (m : Machine) : Type 0 where
   pub overrides : AllByRecursion IsFittingOverride m.overrides
   pub nmis : AllByRecursion IsFittingNmi m.nmis
   pub numa : IfSome m.numa IsFittingNuma
+  pub bridge : IfSome m.bridge IsFittingBridge
 
 -- what a number is told as that has so many bits: 0 where it doesn't fit them
 abbrev pub fitted : ℕ → ℕ → ℕ

@@ -14,6 +14,12 @@ use Rattle.machine_desc.specs.declared.acpi_parts.IoApic.{IoApic}
 use Rattle.machine_desc.specs.declared.acpi_parts.Override.{Override}
 use Rattle.machine_desc.specs.declared.acpi_parts.Nmi.{Nmi}
 use Rattle.machine_desc.specs.declared.acpi_parts.Numa.{Numa}
+use Rattle.machine_desc.specs.declared.device_parts.Bridge.{Bridge}
+use Rattle.machine_desc.specs.declared.device_parts.Window.{Window}
+use Rattle.machine_desc.specs.declared.device_parts.WindowKind.{WindowKind}
+use Rattle.machine_desc.specs.declared.device_parts.WindowKind.TheVariants.{Io, Mem32, Mem64}
+use Rattle.machine_desc.specs.declared.device_parts.Route.{Route}
+use Rattle.machine_desc.specs.declared.device_parts.Uart.{Uart}
 use Rattle.machine_desc.specs.declared.machine.Broken.{Broken}
 use Rattle.machine_desc.specs.declared.smbios_parts.Firmware.{Firmware}
 use Rattle.machine_desc.specs.declared.smbios_parts.Chassis.{Chassis}
@@ -70,12 +76,20 @@ text_parts m =
 abbrev pub texts_of : Machine → List (List ℕ)
 texts_of m = flat_map (λ texts. texts) (text_parts m)
 
+-- the windows and the routes of a bridge; none where there is no bridge
+abbrev pub windows_of : Option Bridge → List Window
+windows_of bridge = option_map_or (λ (b : Bridge). b.windows) bridge []
+
+abbrev pub routes_of : Option Bridge → List Route
+routes_of bridge = option_map_or (λ (b : Bridge). b.routes) bridge []
+
 -- How many elements each list of a machine has, and how many it may have at most: texts of the maker, sockets, modules, ranges, slots,
--- processors, I/O APICs, overrides and NMIs. A place here is the list's index in the rule.
+-- processors, I/O APICs, overrides, NMIs, serial ports, windows and routes. A place here is the list's index in the rule.
 abbrev pub counts : Machine → List (ℕ × ℕ)
 counts m =
     (length m.oem_strings, 32) ∷ (length m.sockets, 256) ∷ (length m.dimms, 256) ∷ (length m.ranges, 64) ∷ (length m.slots, 64)
-    ∷ (length m.cpus, 4096) ∷ (length m.io_apics, 16) ∷ (length m.overrides, 16) ∷ (length m.nmis, 16) ∷ []
+    ∷ (length m.cpus, 4096) ∷ (length m.io_apics, 16) ∷ (length m.overrides, 16) ∷ (length m.nmis, 16)
+    ∷ (length m.uarts, 4) ∷ (length (windows_of m.bridge), 32) ∷ (length (routes_of m.bridge), 128) ∷ []
 
 abbrev pub is_within : ℕ × ℕ → Bool
 is_within count = nat_le count.0 count.1
@@ -179,6 +193,10 @@ first_unmet needed parts = first_failing (is_met needed) parts
 abbrev pub parts_on_acpi : Machine → List Bool
 parts_on_acpi m = is_some m.power ∷ is_some m.hpet ∷ is_some m.apic ∷ is_some m.numa ∷ []
 
+-- the parts that need power management, and whether they are there, by their indices in the rule: the bridge and the serial ports
+abbrev pub parts_on_power : Machine → List Bool
+parts_on_power m = is_some m.bridge ∷ not (is_empty m.uarts) ∷ []
+
 -- the lists that need the interrupt controllers, and whether they have elements, by their indices in the rule
 abbrev pub lists_on_apic : Machine → List Bool
 lists_on_apic m = not (is_empty m.cpus) ∷ not (is_empty m.io_apics) ∷ not (is_empty m.overrides) ∷ not (is_empty m.nmis) ∷ []
@@ -237,6 +255,36 @@ is_lawful_numa n =
     nat_le 1 n.nodes && nat_le n.nodes 64 && (length n.distance == n.nodes * n.nodes)
     && list_all (is_lawful_distance n.nodes) (enumerate_from 0 n.distance)
 
+-- The configuration space of a bridge has 1 MiB for each bus (PCI Firmware Specification 3.3, 4.1.2), and an address has 52 bits.
+abbrev pub has_lawful_ecam : Bridge → Bool
+has_lawful_ecam b = (b.ecam % 0x100000 == 0) && nat_lt b.ecam (2 ^ 52)
+
+-- all addresses of a window are below one
+abbrev pub ends_within : ℕ → Window → Bool
+ends_within end w = nat_le (w.base + w.size) end
+
+-- The addresses of a window, by what they are addresses of. How many there are fits the item that tells them (ACPI 6.5, 6.4.3.5), and ports
+-- can't be read ahead.
+abbrev pub are_lawful_addresses : WindowKind → Window → Bool
+are_lawful_addresses Io w = ends_within 0x10000 w && nat_le w.size 0xFFFF && not w.prefetch
+are_lawful_addresses Mem32 w = ends_within (2 ^ 32) w && nat_lt w.size (2 ^ 32)
+are_lawful_addresses Mem64 w = ends_within (2 ^ 52) w
+
+abbrev pub is_lawful_window : Window → Bool
+is_lawful_window w = nat_le 1 w.size && are_lawful_addresses w.kind w
+
+-- a route's device and pin as one number, which no other pair is
+abbrev pub pair_of : Route → ℕ
+pair_of r = 256 * r.device + r.pin
+
+-- PCI has 32 devices on a bus, and each has four pins
+abbrev pub is_lawful_route : Route → Bool
+is_lawful_route r = nat_le r.device 31 && nat_le r.pin 3
+
+-- one of 16 ISA interrupts, and 8 ports within 64 Ki
+abbrev pub is_lawful_uart : Uart → Bool
+is_lawful_uart u = nat_le u.irq 15 && nat_le u.port 0xFFF8
+
 -- Each rule in its order: its number, and the least index at which the machine breaks it, if it does. Those on sizes stand apart, since where
 -- one of them is broken nothing else is worked out.
 --   1 the top is 64 MiB to 3 GiB
@@ -252,6 +300,7 @@ is_lawful_numa n =
 --  11 where ranges are given, those that begin below 4 GiB are all memory below the top
 --  12 the slot of this index has a kind and a width, and is a device and a function of a PCI bus
 --  13 power management (index 0), an HPET (index 1), interrupt controllers (index 2) and NUMA nodes (index 3) need ACPI tables
+--  14 a bridge (index 0) and serial ports (index 1) need power management
 --  15 processors (index 0), I/O APICs (index 1), overrides (index 2) and NMIs (index 3) need interrupt controllers
 --  16 the maker's id (index 0) has at most 6 bytes, its id of the tables (index 1) at most 8, and neither ends in a space
 --  17 the ports of power management that must be there aren't 0, and its block of events and its reset value are lawful
@@ -262,6 +311,10 @@ is_lawful_numa n =
 --  22 the NMI of this index is of a processor that is there, or of all, with four flags and one of two inputs
 --  23 there are 1 to 64 nodes, and a distance for each two: 10 from a node to itself, at least 10 to another
 --  24 the processor of this index, or the range that stands there behind the processors, is on a node that is there
+--  25 the address of the bridge's configuration space is a multiple of 1 MiB, and has 52 bits
+--  26 the window of this index isn't empty, and its addresses are lawful by their kind
+--  27 the route of this index is of a device and a pin that there may be, and of no earlier one's
+--  28 the serial port of this index has one of 16 ISA interrupts, and 8 ports
 abbrev pub breaches_of_sizes : Machine → List (ℕ × Option ℕ)
 breaches_of_sizes m =
     (1, only_at 0 (nat_le 64 m.top_mib && nat_le m.top_mib 3072)) ∷
@@ -283,6 +336,7 @@ breaches_of_parts m =
 abbrev pub breaches_of_acpi_parts : Machine → List (ℕ × Option ℕ)
 breaches_of_acpi_parts m =
     (13, first_unmet (is_some m.acpi) (parts_on_acpi m)) ∷
+    (14, first_unmet (is_some m.power) (parts_on_power m)) ∷
     (15, first_unmet (is_some m.apic) (lists_on_apic m)) ∷
     (16, breach_of_acpi m.acpi) ∷
     (17, only_at 0 (option_map_or is_lawful_power m.power true)) ∷
@@ -294,8 +348,15 @@ breaches_of_acpi_parts m =
     (23, only_at 0 (option_map_or is_lawful_numa m.numa true)) ∷
     (24, first_failing (is_node (node_count m.numa)) (nodes_of m)) ∷ []
 
+abbrev pub breaches_of_devices : Machine → List (ℕ × Option ℕ)
+breaches_of_devices m =
+    (25, only_at 0 (option_map_or has_lawful_ecam m.bridge true)) ∷
+    (26, first_failing is_lawful_window (windows_of m.bridge)) ∷
+    (27, first_refused is_lawful_route pair_of (routes_of m.bridge)) ∷
+    (28, first_failing is_lawful_uart m.uarts) ∷ []
+
 abbrev pub breaches_within_sizes : Machine → List (ℕ × Option ℕ)
-breaches_within_sizes m = breaches_of_parts m ++ breaches_of_acpi_parts m
+breaches_within_sizes m = breaches_of_parts m ++ breaches_of_acpi_parts m ++ breaches_of_devices m
 
 abbrev pub breaches : Machine → List (ℕ × Option ℕ)
 breaches m = breaches_of_sizes m ++ breaches_within_sizes m

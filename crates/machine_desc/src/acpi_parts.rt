@@ -23,6 +23,8 @@ pub struct Power {
     pub reset_value: u8,
     /// The index of the century in the memory of the real-time clock; 0 where it isn't kept there.
     pub century: u8,
+    /// Whether the machine has a real-time clock at ports 0x70 and 0x71.
+    pub rtc: bool,
     /// Whether the machine has a keyboard controller at ports 0x60 and 0x64, and devices on an LPC or ISA bus.
     pub keyboard: bool,
 }

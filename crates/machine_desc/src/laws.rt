@@ -1,4 +1,4 @@
-//! Laws over the definitions, each the contract of a function that does nothing.
+//! Laws over the definitions, each the contract of a function that does nothing, and one on types, which reads numbers.
 
 ghost use Rattle.std.specs.Prelude.{◌≡◌, ◌↔◌, ◌<◌, ℕ, List, None, true};
 ghost use Rattle.std.specs.List.{AllByRecursion};
@@ -6,8 +6,11 @@ ghost use Rattle.machine_desc.specs.declared.machine.Machine.{Machine};
 ghost use Rattle.machine_desc.specs.declared.smbios_parts.MemRange.{MemRange};
 ghost use Rattle.machine_desc.specs.Rules.{IsAccepted, breach_of, is_memory, apic_id, io_apic_id, irq_of};
 ghost use Rattle.machine_desc.specs.Numbers.{AreDistinct};
-ghost use Rattle.machine_desc.specs.Fields.{IsFittingRange};
+ghost use Rattle.machine_desc.specs.Fields.{HasFittingFields, IsFittingRange};
 ghost use Rattle.machine_desc.specs.Memory.{AreInOrder, IsLowMemory};
+
+use crate::fitting::{read_numbers_if, read_numbers_of_each};
+use crate::machine::Machine;
 
 /// States that an accepted machine keeps the rule of each number.
 pub fn accepted_machine_keeps_each_rule()
@@ -32,3 +35,23 @@ pub fn numbers_in_an_accepted_machine_differ()
     ensures io_apics { (machine : Machine) → IsAccepted machine → AreDistinct io_apic_id machine.io_apics }
     ensures overrides { (machine : Machine) → IsAccepted machine → AreDistinct irq_of machine.overrides }
 {}
+
+/// States that the numbers of `machine` fit their fields, as the types of its fields say. It reads each of them once, and does nothing
+/// else.
+pub fn numbers_of_a_machine_fit(machine: &Machine)
+    ensures { HasFittingFields machine.now }
+{
+    machine.read_uuid();
+    read_numbers_if(&machine.firmware);
+    read_numbers_of_each(machine.sockets.as_slice());
+    read_numbers_of_each(machine.slots.as_slice());
+    read_numbers_if(&machine.power);
+    read_numbers_if(&machine.hpet);
+    read_numbers_if(&machine.apic);
+    read_numbers_of_each(machine.cpus.as_slice());
+    read_numbers_of_each(machine.io_apics.as_slice());
+    read_numbers_of_each(machine.overrides.as_slice());
+    read_numbers_of_each(machine.nmis.as_slice());
+    read_numbers_if(&machine.numa);
+    read_numbers_if(&machine.bridge);
+}

@@ -3,10 +3,13 @@
 //! The contract is exact: `Machine::check` gives the first broken rule with the least index at which it is
 //! broken, and a machine is accepted exactly where there is none. The laws say that an accepted machine keeps the rule of each
 //! number, what the rule on its memory means for each address, that the numbers of its ranges fit 32 bits, and that no two of
-//! its processors, I/O APICs or overrides have one id.
+//! its processors, I/O APICs or overrides have one id; and that the numbers of every machine fit the types of their fields.
 #![tactic(auto)]
 
 mod acpi_parts;
+mod device_parts;
+mod devices;
+mod fitting;
 pub mod laws;
 mod machine;
 mod nodes;
@@ -18,5 +21,6 @@ mod smbios_parts;
 mod texts;
 
 pub use acpi_parts::{Apic, Cpu, IoApic, Nmi, Numa, Override, Power};
+pub use device_parts::{Bridge, Route, Uart, Window, WindowKind};
 pub use machine::{Acpi, Broken, Hpet, Machine, System};
 pub use smbios_parts::{Chassis, Dimm, Firmware, MemRange, Slot, Socket};

@@ -1,4 +1,5 @@
 use crate::acpi_parts::{Apic, Cpu, IoApic, Nmi, Numa, Override, Power};
+use crate::device_parts::{Bridge, Uart};
 use crate::smbios_parts::{Chassis, Dimm, Firmware, MemRange, Slot, Socket};
 use vt_outside::{List, Text};
 
@@ -43,6 +44,10 @@ pub struct Machine {
     pub nmis: List<Nmi>,
     /// Its NUMA nodes, where they are described. An accepted machine with them has ACPI tables.
     pub numa: Option<Numa>,
+    /// Its bridge to PCI, where it has one. An accepted machine with a bridge has power management.
+    pub bridge: Option<Bridge>,
+    /// Its serial ports, at most 4 in an accepted machine. An accepted machine with one has power management.
+    pub uarts: List<Uart>,
 }
 
 /// What identifies the machine as a product (System Information, DSP0134 7.2). An empty text stands for none.
@@ -89,7 +94,7 @@ pub struct Hpet {
 /// The first rule that a machine breaks, as `Machine::check` finds it.
 #[derive(Clone, Copy, Debug, PartialEq, Eq)]
 pub struct Broken {
-    /// The rule's number: 1 to 13 or 15 to 24.
+    /// The rule's number: 1 to 28.
     pub rule: u16,
     /// The least index at which it is broken. `Machine::check` says what the index means for each rule.
     pub index: u32,

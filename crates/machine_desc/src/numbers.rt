@@ -2,9 +2,10 @@
 
 ghost use Rattle.std.specs.Prelude.{◌≡◌, ◌<◌, ◌≤◌, ◌==◌, ℕ, Bool, true, not, nat_lt};
 ghost use Rattle.std.specs.List.{list_all, list_any};
-ghost use Rattle.machine_desc.specs.Rules.{first_refused, is_lawful_cpu, apic_id, is_lawful_io_apic, io_apic_id, is_lawful_override, irq_of};
+ghost use Rattle.machine_desc.specs.Rules.{first_refused, is_lawful_cpu, apic_id, is_lawful_io_apic, io_apic_id, is_lawful_override, irq_of, is_lawful_route, pair_of};
 
 use crate::acpi_parts::{Cpu, IoApic, Override};
+use crate::device_parts::Route;
 
 // An element of a list in which each one has a number of its own.
 pub(crate) trait Numbered: Copy {
@@ -101,5 +102,19 @@ impl Numbered for Override {
 
     fn is_lawful(&self) -> bool {
         self.irq <= 15 && self.flags <= 15
+    }
+}
+
+impl Numbered for Route {
+    ghost number = { pair_of };
+
+    ghost is_lawful = { is_lawful_route };
+
+    fn number(&self) -> u32 {
+        256 * self.device as u32 + self.pin as u32
+    }
+
+    fn is_lawful(&self) -> bool {
+        self.device <= 31 && self.pin <= 3
     }
 }

@@ -27,6 +27,9 @@ impl Machine {
             (self.io_apics.len(), 16),
             (self.overrides.len(), 16),
             (self.nmis.len(), 16),
+            (self.uarts.len(), 4),
+            (self.count_of_windows(), 32),
+            (self.count_of_routes(), 128),
         ];
         counts.iter().position(|count| count.0 > count.1)
     }
@@ -74,7 +77,7 @@ impl Machine {
 }
 
 // The place of the first part that is there although what it needs isn't.
-fn first_unmet(needed: bool, parts: &[bool]) -> Option<usize>
+pub(crate) fn first_unmet(needed: bool, parts: &[bool]) -> Option<usize>
     ensures { result ≡ first_unmet needed parts.now }
 {
     parts.iter().position(|there| !is_met(needed, *there))

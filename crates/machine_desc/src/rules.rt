@@ -1,7 +1,8 @@
-ghost use Rattle.std.specs.Prelude.{◌≡◌, ◌<◌, ◌^◌, None, Some, MatchResult};
+ghost use Rattle.std.specs.Prelude.{◌≡◌, ◌<◌, ◌^◌, ◌++◌, None, Some, MatchResult};
 ghost use Rattle.machine_desc.specs.declared.machine.Broken.{Broken as ABroken};
-ghost use Rattle.machine_desc.specs.Rules.{broken_rule, breaches_of_sizes, breaches_within_sizes, breaches_of_parts, breaches_of_acpi_parts, first_broken, only_at};
+ghost use Rattle.machine_desc.specs.Rules.{broken_rule, breaches_of_sizes, breaches_within_sizes, breaches_of_parts, breaches_of_acpi_parts, breaches_of_devices, first_broken, only_at};
 
+use crate::devices::{has_lawful_ecam, unlawful_route, unlawful_uart, unlawful_window};
 use crate::machine::{Broken, Machine};
 use crate::nodes::has_lawful_numa;
 use crate::numbers::first_refused;
@@ -18,7 +19,8 @@ impl Machine {
     /// - Rule 1, index 0: `top_mib` is 64 to 3072.
     /// - Rule 2: `oem_strings` (index 0) has at most 32 texts, `sockets` (index 1) and `dimms` (index 2) at most 256 elements,
     ///   `ranges` (index 3) and `slots` (index 4) at most 64, `cpus` (index 5) at most 4,096, `io_apics` (index 6), `overrides` (index 7)
-    ///   and `nmis` (index 8) at most 16.
+    ///   and `nmis` (index 8) at most 16, `uarts` (index 9) at most 4, and of `bridge` `windows` (index 10) at most 32 and `routes`
+    ///   (index 11) at most 128.
     /// - Rule 3, index 0: each text has at most 64 bytes, each 0x20 to 0x7E.
     /// - Rule 4, index 0: the UUID, where given, is neither all zeros nor all ones (RFC 9562).
     /// - Rule 5, index of the text: no text of `oem_strings` is empty.
@@ -31,6 +33,7 @@ impl Machine {
     /// - Rule 11, index 0: where ranges are given, those that begin below 4096 MiB are all memory below `top_mib`.
     /// - Rule 12, index of the slot: `kind` and `width` are at least 1, `device` is at most 31, and `function` at most 7.
     /// - Rule 13: a machine with `power` (index 0), `hpet` (index 1), `apic` (index 2) or `numa` (index 3) has ACPI tables.
+    /// - Rule 14: a machine with `bridge` (index 0) or `uarts` (index 1) has `power`.
     /// - Rule 15: a machine with `cpus` (index 0), `io_apics` (index 1), `overrides` (index 2) or `nmis` (index 3) has `apic`.
     /// - Rule 16: `oem_id` (index 0) has at most 6 bytes, `oem_table_id` (index 1) at most 8, and neither ends in a space.
     /// - Rule 17, index 0: of `power` the ports `event`, `control` and `timer` aren't 0; `gpe_len` is even, at most 30, and 0 exactly where
@@ -45,6 +48,11 @@ impl Machine {
     ///   least 10 elsewhere.
     /// - Rule 24, index of the processor, or the number of processors and the index of the range: its `node` is below the number of
     ///   nodes, or 0 where `numa` isn't given.
+    /// - Rule 25, index 0: the `ecam` of the bridge is a multiple of 1 MiB, and below 2^52.
+    /// - Rule 26, index of the window: `size` is at least 1. Of ports `base` and `size` together are at most 65,536, `size` is at most
+    ///   65,535, and there is no `prefetch`; of `mem32` they are at most 2^32, and `size` is less; of `mem64` they are at most 2^52.
+    /// - Rule 27, index of the route: `device` is at most 31, `pin` at most 3, and no earlier route has both.
+    /// - Rule 28, index of the serial port: its `irq` is at most 15, and its `port` at most 0xFFF8.
     pub fn check(&self) -> Result<(), Broken>
         ensures { MatchResult result (λ _. broken_rule self.now ≡ None) (λ broken. broken_rule self.now ≡ Some broken) }
     {
@@ -70,7 +78,17 @@ impl Machine {
         ensures { result ≡ first_broken (breaches_within_sizes self.now) }
     {
         match first_broken(&self.breaches_of_parts()) {
-            None => first_broken(&self.breaches_of_acpi_parts()),
+            None => self.broken_behind_parts(),
+            Some(broken) => Some(broken),
+        }
+    }
+
+    fn broken_behind_parts(&self) -> Option<Broken>
+        requires { first_broken (breaches_of_sizes self.now) ≡ None }
+        ensures { result ≡ first_broken (breaches_of_acpi_parts self.now ++ breaches_of_devices self.now) }
+    {
+        match first_broken(&self.breaches_of_acpi_parts()) {
+            None => first_broken(&self.breaches_of_devices()),
             Some(broken) => Some(broken),
         }
     }
@@ -104,11 +122,12 @@ impl Machine {
     }
 
     // The same of the rules on parts that ACPI tables tell.
-    fn breaches_of_acpi_parts(&self) -> [(u16, Option<usize>); 11]
+    fn breaches_of_acpi_parts(&self) -> [(u16, Option<usize>); 12]
         ensures { result ≡ breaches_of_acpi_parts self.now }
     {
         [
             (13, self.part_without_acpi()),
+            (14, self.part_without_power()),
             (15, self.list_without_apic()),
             (16, breach_of_acpi(&self.acpi)),
             (17, only_at(0, has_lawful_power(self.power))),
@@ -119,6 +138,18 @@ impl Machine {
             (22, self.unlawful_nmi()),
             (23, only_at(0, has_lawful_numa(&self.numa))),
             (24, self.missing_node()),
+        ]
+    }
+
+    // The same of the rules on devices.
+    fn breaches_of_devices(&self) -> [(u16, Option<usize>); 4]
+        ensures { result ≡ breaches_of_devices self.now }
+    {
+        [
+            (25, only_at(0, has_lawful_ecam(&self.bridge))),
+            (26, unlawful_window(&self.bridge)),
+            (27, unlawful_route(&self.bridge)),
+            (28, unlawful_uart(self.uarts.as_slice())),
         ]
     }
 }

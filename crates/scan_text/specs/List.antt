@@ -6,7 +6,7 @@ use Rattle.hex.specs.Hex.{encode_lower}
 use Rattle.acpi_model.specs.declared.acpi.AcpiTables.{AcpiTables}
 use Rattle.acpi_model.specs.declared.acpi.OtherTable.{OtherTable}
 use Rattle.acpi_model.specs.declared.dsdt.Dsdt.{Dsdt}
-use Rattle.acpi_model.specs.declared.dsdt.Dsdt.TheVariants.{Foreign}
+use Rattle.acpi_model.specs.declared.dsdt.Dsdt.TheVariants.{Terms, Foreign}
 use Rattle.smbios_model.specs.declared.smbios.Structure.{Structure}
 use Rattle.smbios_model.specs.declared.smbios.SmbiosTable.{SmbiosTable}
 use Rattle.smbios_model.specs.Structures.{number_of}
@@ -49,7 +49,7 @@ abbrev pub known_tables : AcpiTables → List (List ℕ × Bool)
 known_tables t =
     (codes "XSDT", true) ∷ (codes "FACP", is_some t.fadt) ∷ (codes "FACS", is_some t.facs) ∷ (codes "DSDT", is_some t.dsdt)
     ∷ (codes "APIC", is_some t.madt) ∷ (codes "SRAT", is_some t.srat) ∷ (codes "SLIT", is_some t.slit)
-    ∷ (codes "HPET", is_some t.hpet) ∷ []
+    ∷ (codes "MCFG", is_some t.mcfg) ∷ (codes "HPET", is_some t.hpet) ∷ []
 
 abbrev pub line_if_there : List ℕ × Bool → List ℕ
 line_if_there known = if known.1 then table_line known.0 else []
@@ -57,9 +57,10 @@ line_if_there known = if known.1 then table_line known.0 else []
 unfoldable pub known_lines : List (List ℕ × Bool) → List ℕ
 known_lines tables = flat_map line_if_there tables
 
--- a DSDT whose definition block isn't read, as a table of which only its length is told
+-- a DSDT whose definition block spells no terms, as a table of which only its length is told
 abbrev pub foreign_dsdt : Option Dsdt → List OtherTable
 foreign_dsdt None = []
+foreign_dsdt (Some (Terms head terms)) = []
 foreign_dsdt (Some (Foreign head length)) = record { signature = codes "DSDT"; length = length } ∷ []
 
 unfoldable pub length_lines : List OtherTable → List ℕ

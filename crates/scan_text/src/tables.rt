@@ -35,7 +35,7 @@ fn oem_line(oem_id: &[u8; 6]) -> Line
 }
 
 // The signatures that are known, in the order of the list, and whether a table of each is there.
-fn known_tables(tables: &AcpiTables) -> [([u8; 4], bool); 8]
+fn known_tables(tables: &AcpiTables) -> [([u8; 4], bool); 9]
     ensures { result ≡ known_tables tables.now }
 {
     [
@@ -46,6 +46,7 @@ fn known_tables(tables: &AcpiTables) -> [([u8; 4], bool); 8]
         (*b"APIC", tables.madt.is_some()),
         (*b"SRAT", tables.srat.is_some()),
         (*b"SLIT", tables.slit.is_some()),
+        (*b"MCFG", tables.mcfg.is_some()),
         (*b"HPET", tables.hpet.is_some()),
     ]
 }
@@ -82,7 +83,7 @@ fn table_line(signature: &[u8; 4]) -> Line
     line
 }
 
-// Writes the lines of the tables of which only the length is told: of a DSDT whose definition block isn't read, and of the others.
+// Writes the lines of the tables of which only the length is told: of a DSDT whose definition block spells no terms, and of the others.
 fn write_unread<K: Sink>(tables: &AcpiTables, out: &mut K) -> Result<(), Failed>
     ensures ok { OnOk result (Took (unread_lines tables.now) (K.seen out.old) (K.seen out.new)) }
     ensures front { OnErr result (TookFront (unread_lines tables.now) (K.seen out.old) (K.seen out.new)) }
@@ -106,6 +107,7 @@ fn write_foreign<K: Sink>(dsdt: &Option<Dsdt>, out: &mut K) -> Result<(), Failed
                 out,
             )
         }
+        Some(Dsdt::Terms { .. }) => Ok(()),
         None => Ok(()),
     }
 }

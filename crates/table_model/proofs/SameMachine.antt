@@ -2,6 +2,8 @@
 use Rattle.std.proofs.Common.{◌≡◌, ◌*◌, Option, Some, arith, ap, sym, ◌∙◌}
 use Rattle.machine_desc.specs.declared.machine.Machine.{Machine}
 use Rattle.machine_desc.specs.Rules.{IsAccepted, HasFittingUuid}
+use Rattle.dsdt_terms.specs.Dsdt.{HasFittingLastBus}
+use Rattle.dsdt_terms.proofs.SameDevices.{same_devices}
 use Rattle.acpi_model.proofs.SameAcpi.{same_acpi}
 use Rattle.smbios_model.specs.declared.smbios.SmbiosTable.{SmbiosTable}
 use Rattle.smbios_model.specs.MachineStructures.{structures_of}
@@ -18,12 +20,14 @@ structures_in a b same =
     ap (λ (t : SmbiosTable). t.structures) tables
 
 -- each is got back from its top, its structures, and its ACPI tables
-pub same_machine : (a b : Machine) → HasFittingUuid a → HasFittingUuid b → IsAccepted a → IsAccepted b → inventory_of a ≡ inventory_of b → a ≡ b
-same_machine a b a_fits b_fits a_accepted b_accepted same =
+pub same_machine : (a b : Machine) → HasFittingUuid a → HasFittingUuid b → HasFittingLastBus a → HasFittingLastBus b → IsAccepted a → IsAccepted b
+    → inventory_of a ≡ inventory_of b → a ≡ b
+same_machine a b a_fits b_fits a_buses b_buses a_accepted b_accepted same =
     let tops : a.top_mib * 0x100000 ≡ b.top_mib * 0x100000 = ap (λ (i : Inventory). i.top) same in
     let top : a.top_mib ≡ b.top_mib = omega arith in
     let structures = structures_in a b same in
-    let tables = same_acpi a b a_accepted b_accepted (ap (λ (i : Inventory). i.acpi) same) in
+    let tables = same_acpi a b a_accepted b_accepted (same_devices a b a_accepted b_accepted a_buses b_buses)
+    (ap (λ (i : Inventory). i.acpi) same) in
     let nodes = tables.range_nodes (as_many_ranges a b a_accepted b_accepted structures) in
     let told : machine_in a (structures_of a) ≡ machine_in b (structures_of b) =
     cc (
@@ -39,5 +43,7 @@ same_machine a b a_fits b_fits a_accepted b_accepted same =
       tables.overrides,
       tables.nmis,
       tables.numa,
+      tables.bridge,
+      tables.uarts,
     ) in
     sym (machine_back a a_accepted a_fits) ∙ told ∙ machine_back b b_accepted b_fits

@@ -12,6 +12,7 @@ pub use Rattle.acpi_records.specs.MadtEntries
 pub use Rattle.acpi_records.specs.Srat
 pub use Rattle.acpi_records.specs.SratEntries
 pub use Rattle.acpi_records.specs.Slit
+pub use Rattle.acpi_records.specs.Mcfg
 pub use Rattle.acpi_records.specs.Hpet
 pub use Rattle.acpi_model.specs.Links
 pub use Rattle.acpi_model.specs.Found
@@ -23,7 +24,12 @@ pub use Rattle.acpi_model.specs.SratKind
 pub use Rattle.acpi_model.specs.MachineSrat
 pub use Rattle.acpi_model.specs.SlitKind
 pub use Rattle.acpi_model.specs.MachineSlit
+pub use Rattle.acpi_model.specs.McfgKind
+pub use Rattle.acpi_model.specs.MachineMcfg
 pub use Rattle.acpi_model.specs.HpetKind
+pub use Rattle.aml_terms.specs.Trees
+pub use Rattle.aml_terms.specs.Grammar
+pub use Rattle.dsdt_terms.specs.Dsdt
 pub use Rattle.acpi_model.specs.Xsdt
 pub use Rattle.acpi_model.specs.Rsdp
 pub use Rattle.acpi_model.specs.Acpi

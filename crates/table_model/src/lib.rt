@@ -9,12 +9,12 @@ mod inventory;
 pub mod laws;
 
 pub use acpi_model::{
-    AcpiTables, ApicAffinity, Dsdt, FACS_PLACE, FACS_SIZE, Facs, Fadt, FadtLinks, FadtTargets,
-    GenericAddress, HEADER_SIZE, Head, HpetTable, IoApicEntry, Link, LocalApicEntry, LocalNmiEntry,
-    Madt, MadtEntry, MadtFront, MemoryAffinity, OtherTable, OverrideEntry, Slit, SlitFront, Srat,
-    SratEntry, SratFront, Table, X2ApicAffinity, X2ApicEntry, X2ApicNmiEntry, fadt_links, fadt_of,
-    head_of, hpet_of, initial_facs, madt_of_machine, rsdp_rows, slit_of_machine, srat_of_machine,
-    tables_of,
+    AcpiTables, ApicAffinity, DSDT_PLACE, Dsdt, FACS_PLACE, FACS_SIZE, Facs, Fadt, FadtLinks,
+    FadtTargets, GenericAddress, HEADER_SIZE, Head, HpetTable, IoApicEntry, Link, LocalApicEntry,
+    LocalNmiEntry, Madt, MadtEntry, MadtFront, Mcfg, McfgAllocation, McfgFront, MemoryAffinity,
+    OtherTable, OverrideEntry, Slit, SlitFront, Srat, SratEntry, SratFront, Table, X2ApicAffinity,
+    X2ApicEntry, X2ApicNmiEntry, fadt_links, fadt_of, head_of, hpet_of, initial_facs,
+    madt_of_machine, mcfg_of_bridge, rsdp_rows, slit_of_machine, srat_of_machine, tables_of,
 };
 pub use inventory::{Inventory, inventory_of};
 pub use smbios_model::{

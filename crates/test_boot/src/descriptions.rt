@@ -354,8 +354,16 @@ timer = 0x608
 event = 0x600
 control = 0x604
 timer = 0x608
-rtc = true
-=> description: unknown key power 0 rtc
+rtc = 1
+=> description: wrong kind power 0 rtc
+---
+[acpi]
+[power]
+event = 0x600
+control = 0x604
+timer = 0x608
+clock = true
+=> description: unknown key power 0 clock
 ---
 [acpi]
 [power]
@@ -591,6 +599,140 @@ node = 2
 nodes = 2
 distance = [10, 20, 20, 10]
 => description: rule 24 index 1
+--- the bridge and the serial ports
+[acpi]
+[bridge]
+=> description: rule 14 index 0
+---
+[acpi]
+[[uart]]
+port = 0x3F8
+irq = 4
+=> description: rule 14 index 1
+---
+[acpi]
+[power]
+event = 0x600
+control = 0x604
+timer = 0x608
+[[bridge]]
+=> description: wrong kind root 0 bridge
+---
+[acpi]
+[power]
+event = 0x600
+control = 0x604
+timer = 0x608
+[bridge]
+segment = 0
+=> description: unknown key bridge 0 segment
+---
+[acpi]
+[power]
+event = 0x600
+control = 0x604
+timer = 0x608
+[bridge]
+last_bus = 256
+=> description: out of range bridge 0 last_bus
+---
+[acpi]
+[power]
+event = 0x600
+control = 0x604
+timer = 0x608
+[bridge]
+window = 5
+=> description: wrong kind bridge 0 window
+---
+[acpi]
+[power]
+event = 0x600
+control = 0x604
+timer = 0x608
+[[bridge.window]]
+base = 0
+size = 1
+=> description: missing key window 0 kind
+---
+[acpi]
+[power]
+event = 0x600
+control = 0x604
+timer = 0x608
+[[bridge.window]]
+kind = "mem16"
+base = 0
+size = 1
+=> description: out of range window 0 kind
+---
+[acpi]
+[power]
+event = 0x600
+control = 0x604
+timer = 0x608
+[[bridge.route]]
+device = 0
+pin = 0
+gsi = 0
+[[bridge.route]]
+device = 0
+gsi = 0
+=> description: missing key route 1 pin
+---
+[acpi]
+[power]
+event = 0x600
+control = 0x604
+timer = 0x608
+[bridge]
+ecam = 0xE0080000
+=> description: rule 25 index 0
+---
+[acpi]
+[power]
+event = 0x600
+control = 0x604
+timer = 0x608
+[[bridge.window]]
+kind = "io"
+base = 0
+size = 65535
+[[bridge.window]]
+kind = "io"
+base = 0
+size = 65536
+=> description: rule 26 index 1
+---
+[acpi]
+[power]
+event = 0x600
+control = 0x604
+timer = 0x608
+[[bridge.route]]
+device = 32
+pin = 0
+gsi = 0
+=> description: rule 27 index 0
+---
+[acpi]
+[power]
+event = 0x600
+control = 0x604
+timer = 0x608
+[[uart]]
+port = 0xFFF9
+irq = 4
+=> description: rule 28 index 0
+---
+[acpi]
+[power]
+event = 0x600
+control = 0x604
+timer = 0x608
+[[uart]]
+irq = 4
+=> description: missing key uart 0 port
 --- the table `hpet`
 [hpet]
 => description: rule 13 index 1
@@ -677,7 +819,7 @@ static KEYS: [&str; 6] = [
 ];
 
 // Descriptions that are accepted.
-static ACCEPTED: [&str; 17] = [
+static ACCEPTED: [&str; 19] = [
     "version = 1\ntop_mib = 64\nsystem = {}\n",
     "version = 1\ntop_mib = 3072\nsystem = {}\n",
     "version = 1\ntop_mib = 65\nsystem = { product = \" ~\" }\n",
@@ -695,6 +837,8 @@ static ACCEPTED: [&str; 17] = [
     "version = 1\ntop_mib = 64\nsystem = {}\nacpi = {}\napic = { local = 4294967295 }\ncpu = [{ apic = 4294967294 }]\nioapic = [{ id = 255, address = 4294967295, gsi = 4294967295 }]\n",
     "version = 1\ntop_mib = 64\nsystem = {}\nacpi = {}\napic = {}\ncpu = []\noverride = [{ irq = 15, gsi = 4294967295, flags = 15 }]\nnmi = [{}, {}]\n",
     "version = 1\ntop_mib = 64\nsystem = {}\nacpi = {}\nnuma = { nodes = 2, distance = [10, 255, 254, 10] }\n",
+    "version = 1\ntop_mib = 64\nsystem = {}\nacpi = {}\npower = { event = 1, control = 1, timer = 1, rtc = false }\nbridge = {}\nuart = []\n",
+    "version = 1\ntop_mib = 64\nsystem = {}\nacpi = {}\npower = { event = 1, control = 1, timer = 1 }\nuart = [{ port = 0xFFF8, irq = 15 }]\nbridge.ecam = 0xFFFFFFFF00000\nbridge.last_bus = 0\nbridge.window = [{ kind = 'io', base = 1, size = 65535 }, { kind = 'mem64', base = 0, size = 4503599627370496, prefetch = true }]\nbridge.route = [{ device = 31, pin = 3, gsi = 4294967295 }]\n",
 ];
 
 // What stands above the header of `system`, and that header.

@@ -1,12 +1,13 @@
-//! The machine with as much of everything as a description may have: it is built and booted, and its files have as many bytes as was worked
-//! out by hand.
+//! The machine with as much of everything as a description may have. Where its parts have no texts, it is built and booted, and its files have
+//! as many bytes as was worked out by hand; where each has the longest, its image is too large.
 
 use crate::containers::is_file;
+use crate::endings::build;
 use cfg_directory::{Item, read_image};
-use fixtures::{BOOTED, ROOM, Run, boot, ends, is_same, put_text, sink, source, status_of};
+use fixtures::{BOOTED, Ending, ROOM, Run, boot, ends, is_same, put_text, sink, source, status_of};
 use std::alloc::Global;
 use std::test::Fail;
-use vmtables::{Status, World};
+use vmtables::{State, Status, World};
 use vt_outside::{Bytes, ListSink, ListSource, SureSink};
 
 // More bytes than its container, and than its dump.
@@ -18,7 +19,8 @@ const HEAD: &str = "version = 1\ntop_mib = 3072\n";
 const ACPI: &str =
     "[acpi]\n[power]\nevent = 0x600\ncontrol = 0x604\ntimer = 0x608\n[hpet]\n[apic]\n[numa]\nnodes = 64\n";
 
-const SYSTEM_TEXTS: &[&str] = &[
+// The texts of a system.
+pub(crate) const SYSTEM_TEXTS: &[&str] = &[
     "manufacturer",
     "product",
     "version",
@@ -42,35 +44,71 @@ const SOCKET_TEXTS: &[&str] = &[
 
 const DIMM_TEXTS: &[&str] = &["locator", "bank", "manufacturer", "serial", "asset", "part"];
 
-// The longest text.
-const TEXT: [u8; 64] = [b'x'; 64];
+const BRIDGE: &str = "[bridge]\necam = 0xE0000000\n";
 
-// Its files, with their bytes. The tables: a FACS of 64 bytes at 0, an FADT of 276 at 64, a MADT of 44 + 4,096 * 16 + 16 * (12 + 10 + 12) at
-// 352, an SRAT of 48 + 4,096 * 24 + 64 * 40 at 66,480, a SLIT of 44 + 4,096 at 167,392, an HPET table of 56 at 171,536 and an XSDT of
-// 36 + 5 * 8 at 171,600. The structures: 24 + 3 * 65 + 1 of the firmware, 27 + 6 * 65 + 1 of the system, 22 + 5 * 65 + 1 of the chassis,
-// 256 * (48 + 6 * 65 + 1) of sockets, 64 * (17 + 65 + 1) of slots, 5 + 32 * 65 + 1 of the maker's texts, 25 of the array,
-// 256 * (40 + 6 * 65 + 1) of modules, 64 * 33 of ranges, 13 of the boot and 6 of the end. The script has 21 commands: four files are
-// placed, eight pointers filled and nine sums.
+// The beginning of a route, by its pin.
+static ROUTES: [&str; 4] = [
+    "[[bridge.route]]\ngsi = 4294967295\npin = 0\ndevice = ",
+    "[[bridge.route]]\ngsi = 4294967295\npin = 1\ndevice = ",
+    "[[bridge.route]]\ngsi = 4294967295\npin = 2\ndevice = ",
+    "[[bridge.route]]\ngsi = 4294967295\npin = 3\ndevice = ",
+];
+
+// The longest text.
+pub(crate) const TEXT: [u8; 64] = [b'x'; 64];
+
+// Its files, with their bytes. The tables: a FACS of 64 bytes at 0; a DSDT of 36 + 9 + 3,526 of the bridge + 45 + 3 * 46 of serial ports +
+// 39 of the clock + 47 of the keyboard + 40 of the timer + 2 * 28 + 254 * 29 + 3,840 * 30 of processors at 64; an FADT of 276 at 126,576; a
+// MADT of 44 + 4,096 * 16 + 16 * (12 + 10 + 12) at 126,864; an SRAT of 48 + 4,096 * 24 + 64 * 40 at 192,992; a SLIT of 44 + 4,096 at 293,904;
+// an MCFG of 60 at 298,048; an HPET table of 56 at 298,112; and an XSDT of 36 + 6 * 8 at 298,176. The structures: 24 + 2 of the firmware,
+// 27 + 2 of the system, 22 + 2 of the chassis, 256 * (48 + 2) of sockets, 64 * (17 + 2) of slots, 5 + 32 * 65 + 1 of the maker's texts, 25
+// of the array, 256 * (40 + 2) of modules, 64 * 33 of ranges, 13 of the boot and 6 of the end. The script has 26 commands: four files are
+// placed, eleven pointers filled and eleven sums.
 static FILES: [(&str, usize); 5] = [
     ("etc/acpi/rsdp", 36),
-    ("etc/acpi/tables", 171_676),
+    ("etc/acpi/tables", 298_260),
     ("etc/smbios/smbios-anchor", 24),
-    ("etc/smbios/smbios-tables", 233_260),
-    ("etc/table-loader", 2_688),
+    ("etc/smbios/smbios-tables", 29_089),
+    ("etc/table-loader", 3_328),
 ];
 
 #[test]
 fn the_greatest_machine(rt: HostRuntime) -> Result<(), Fail> {
-    let description = greatest(rt.alloc())?;
-    let told = is_whole(rt.alloc(), description.as_slice());
+    let description = greatest(rt.alloc(), b"")?;
+    let told = is_whole(rt.alloc(), description.as_slice(), &FILES);
     drop(description);
     told
 }
 
-fn is_whole(alloc: Global, description: &[u8]) -> Result<(), Fail> {
+#[test]
+fn the_greatest_machine_with_the_longest_texts(rt: HostRuntime) -> Result<(), Fail> {
+    let description = greatest(rt.alloc(), &TEXT)?;
+    let told = is_too_large(rt.alloc(), description.as_slice());
+    drop(description);
+    told
+}
+
+// Tells where the image of the machine that a text describes isn't refused as too large, by `build` and by `boot`.
+pub(crate) fn is_too_large(alloc: Global, description: &[u8]) -> Result<(), Fail> {
+    let ending = Ending {
+        status: Status::ImageTooLarge,
+        out: Some(b""),
+        say: b"image too large\n",
+        state: State::Idle,
+    };
+    ends(alloc, &build("built", description), &ending)?;
+    ends(alloc, &boot("booted", description), &ending)
+}
+
+// Tells where the machine that a text describes isn't built, as a container of these files, or isn't booted.
+pub(crate) fn is_whole(
+    alloc: Global,
+    description: &[u8],
+    files: &[(&str, usize)],
+) -> Result<(), Fail> {
     is_booted(alloc, description)?;
     let mut container = sink(alloc, MUCH_ROOM, &[])?;
-    let told = is_built_into(alloc, description, &mut container);
+    let told = is_built_into(alloc, description, &mut container, files);
     drop(container);
     told
 }
@@ -78,21 +116,26 @@ fn is_whole(alloc: Global, description: &[u8]) -> Result<(), Fail> {
 fn is_booted(alloc: Global, description: &[u8]) -> Result<(), Fail> {
     let run = Run {
         room: MUCH_ROOM,
-        ..boot("the greatest machine", description)
+        ..boot("a large machine", description)
     };
     ends(alloc, &run, &BOOTED)
 }
 
-fn is_built_into(alloc: Global, description: &[u8], container: &mut ListSink) -> Result<(), Fail> {
+fn is_built_into(
+    alloc: Global,
+    description: &[u8],
+    container: &mut ListSink,
+    files: &[(&str, usize)],
+) -> Result<(), Fail> {
     build_into(alloc, description, container)?;
-    has_the_files(alloc, container.taken())
+    has_files(alloc, container.taken(), files)
 }
 
 fn build_into(alloc: Global, description: &[u8], container: &mut ListSink) -> Result<(), Fail> {
     let mut source = source(alloc, description, ROOM, &[])?;
     let status = status_of_build(alloc, &mut source, container);
     drop(source);
-    is_same("the greatest machine", "status", &status?, &Status::Ok)
+    is_same("a large machine", "status", &status?, &Status::Ok)
 }
 
 fn status_of_build(
@@ -113,36 +156,42 @@ fn status_of_build(
     Ok(status?)
 }
 
-fn has_the_files(alloc: Global, container: &[u8]) -> Result<(), Fail> {
+fn has_files(alloc: Global, container: &[u8], files: &[(&str, usize)]) -> Result<(), Fail> {
     match read_image(alloc, container) {
-        Ok(items) => are_the_files(items.all()),
+        Ok(items) => are_files(items.all(), files),
         Err(_) => Err(Fail::new("no container")),
     }
 }
 
-// They have 407,684 bytes in all.
-fn are_the_files(items: &[Item]) -> Result<(), Fail> {
-    is_same("the greatest machine", "number of files", &items.len(), &5)?;
-    for (item, (name, size)) in items.iter().zip(&FILES) {
+fn are_files(items: &[Item], files: &[(&str, usize)]) -> Result<(), Fail> {
+    is_same(
+        "a large machine",
+        "number of files",
+        &items.len(),
+        &files.len(),
+    )?;
+    for (item, (name, size)) in items.iter().zip(files) {
         is_file(item, name, *size)?;
     }
     Ok(())
 }
 
-fn greatest(alloc: Global) -> Result<Bytes, Fail> {
+// Each text but the maker's is `value`.
+fn greatest(alloc: Global, value: &[u8]) -> Result<Bytes, Fail> {
     let mut text = Bytes::new(alloc);
-    put_single_parts(&mut text)?;
-    put_smbios_lists(alloc, &mut text)?;
+    put_single_parts(&mut text, value)?;
+    put_smbios_lists(alloc, &mut text, value)?;
     put_acpi_lists(alloc, &mut text)?;
+    put_devices(alloc, &mut text)?;
     Ok(text)
 }
 
-fn put_single_parts(text: &mut Bytes) -> Result<(), Fail> {
+fn put_single_parts(text: &mut Bytes, value: &[u8]) -> Result<(), Fail> {
     text.extend(HEAD.as_bytes())?;
     put_oem_strings(text)?;
-    put_part(text, "[system]\n", SYSTEM_TEXTS, "")?;
-    put_part(text, "[firmware]\n", FIRMWARE_TEXTS, "")?;
-    put_part(text, "[chassis]\n", CHASSIS_TEXTS, "")?;
+    put_part(text, "[system]\n", SYSTEM_TEXTS, value, "")?;
+    put_part(text, "[firmware]\n", FIRMWARE_TEXTS, value, "")?;
+    put_part(text, "[chassis]\n", CHASSIS_TEXTS, value, "")?;
     text.extend(ACPI.as_bytes())?;
     put_distances(text)
 }
@@ -180,12 +229,27 @@ fn put_row(text: &mut Bytes, node: u32) -> Result<(), Fail> {
     Ok(())
 }
 
-fn put_smbios_lists(alloc: Global, text: &mut Bytes) -> Result<(), Fail> {
-    let threads = "cores = 1\nthreads = 1\n";
-    put_parts(text, "[[socket]]\n", SOCKET_TEXTS, threads, 256)?;
-    put_parts(text, "[[dimm]]\n", DIMM_TEXTS, "size_mib = 1\n", 256)?;
-    put_parts(text, "[[slot]]\n", &["designation"], "", 64)?;
+fn put_smbios_lists(alloc: Global, text: &mut Bytes, value: &[u8]) -> Result<(), Fail> {
+    put_sockets_and_modules(text, value)?;
+    for _slot in 0..64_u32 {
+        put_part(text, "[[slot]]\n", &["designation"], value, "")?;
+    }
     put_ranges(alloc, text)
+}
+
+// Adds 256 sockets and 256 memory modules, each of whose texts is `value`.
+pub(crate) fn put_sockets_and_modules(text: &mut Bytes, value: &[u8]) -> Result<(), Fail> {
+    for _place in 0..256_u32 {
+        put_part(
+            text,
+            "[[socket]]\n",
+            SOCKET_TEXTS,
+            value,
+            "cores = 1\nthreads = 1\n",
+        )?;
+        put_part(text, "[[dimm]]\n", DIMM_TEXTS, value, "size_mib = 1\n")?;
+    }
+    Ok(())
 }
 
 // All memory below the top, and 63 ranges from 4 GiB on.
@@ -208,31 +272,35 @@ fn put_acpi_lists(alloc: Global, text: &mut Bytes) -> Result<(), Fail> {
     put_numbered(alloc, text, "[[nmi]]\ncpu = ", 4080, 16)
 }
 
-// Adds so many tables of an array, each with its header, these texts and these numbers.
-fn put_parts(
+// A bridge with its windows and routes, and serial ports.
+fn put_devices(alloc: Global, text: &mut Bytes) -> Result<(), Fail> {
+    text.extend(BRIDGE.as_bytes())?;
+    let window = "[[bridge.window]]\nkind = 'mem64'\nsize = 1\nbase = ";
+    put_numbered(alloc, text, window, 0, 32)?;
+    for route in &ROUTES {
+        put_numbered(alloc, text, route, 0, 32)?;
+    }
+    put_numbered(alloc, text, "[[uart]]\nirq = 15\nport = ", 0xFFF0, 4)
+}
+
+// Adds a table with its header, these keys, each with the text `value`, and these numbers.
+pub(crate) fn put_part(
     text: &mut Bytes,
     header: &str,
     keys: &[&str],
+    value: &[u8],
     numbers: &str,
-    count: u32,
 ) -> Result<(), Fail> {
-    for _part in 0..count {
-        put_part(text, header, keys, numbers)?;
-    }
-    Ok(())
-}
-
-fn put_part(text: &mut Bytes, header: &str, keys: &[&str], numbers: &str) -> Result<(), Fail> {
     text.extend(header.as_bytes())?;
     for key in keys {
-        put_text(text, key, &TEXT)?;
+        put_text(text, key, value)?;
     }
     text.extend(numbers.as_bytes())?;
     Ok(())
 }
 
 // Adds so many tables, each of this text and a number behind it: `first`, and then the next ones.
-fn put_numbered(
+pub(crate) fn put_numbered(
     alloc: Global,
     text: &mut Bytes,
     part: &str,

@@ -9,6 +9,8 @@ mod endings;
 #[cfg(test)]
 mod greatest;
 #[cfg(test)]
+mod large;
+#[cfg(test)]
 mod statuses;
 #[cfg(test)]
 mod words;

@@ -4,7 +4,8 @@
 use fixtures::{
     EMPTY_DUMP, LONG_TEXTS_DUMP, MINIMAL_DUMP, ON_THE_BORDER_DUMP, QUOTES_DUMP,
     WITH_ACPI_AND_HPET_DUMP, WITH_ACPI_DUMP, WITH_ALL_OF_POWER_DUMP, WITH_APIC_DUMP,
-    WITH_INTERRUPTS_DUMP, WITH_NODES_DUMP, WITH_POWER_DUMP, decode, ends, listed,
+    WITH_DEVICES_DUMP, WITH_INTERRUPTS_DUMP, WITH_NODES_DUMP, WITH_POWER_DUMP, decode, ends,
+    listed,
 };
 use std::alloc::Global;
 use std::test::Fail;
@@ -19,7 +20,7 @@ type 127 handle 7f00
 acpi none
 ";
 
-static MACHINES: [Row; 12] = [
+static MACHINES: [Row; 13] = [
     (MINIMAL_DUMP, NO_ACPI),
     (EMPTY_DUMP, NO_ACPI),
     (QUOTES_DUMP, NO_ACPI),
@@ -59,6 +60,7 @@ type 127 handle 7f00
 acpi BOCHS \ntable XSDT
 table FACP
 table FACS
+table DSDT
 ",
     ),
     (
@@ -69,6 +71,7 @@ type 127 handle 7f00
 acpi BOCHS \ntable XSDT
 table FACP
 table FACS
+table DSDT
 table HPET
 ",
     ),
@@ -89,6 +92,7 @@ type 127 handle 7f00
 acpi BOCHS \ntable XSDT
 table FACP
 table FACS
+table DSDT
 table APIC
 table HPET
 ",
@@ -102,6 +106,20 @@ acpi BOCHS \ntable XSDT
 table APIC
 table SRAT
 table SLIT
+",
+    ),
+    (
+        WITH_DEVICES_DUMP,
+        "smbios 3.0.0 structures 2
+type 1 handle 0100
+type 127 handle 7f00
+acpi BOCHS \ntable XSDT
+table FACP
+table FACS
+table DSDT
+table APIC
+table MCFG
+table HPET
 ",
     ),
 ];
@@ -127,7 +145,7 @@ type 127 handle bc0a
 acpi none
 ",
     ),
-    // bytes that don't show in an identifier and in signatures, a DSDT, and tables of other signatures before and behind known ones
+    // bytes that don't show in an identifier and in signatures, a DSDT that spells no terms, and tables of other signatures before and behind known ones
     (
         "top 04000000 fill 00
 000e0010 5253442050545220e21f417e7f802002
@@ -135,9 +153,9 @@ acpi none
 000e0030 57000000000000000000000000000000
 03000000 46414353400000000000000000000000
 03000020 02000000000000000000000000000000
-03000040 44534454240000000234424f43485320
+03000040 4453445425000000021f424f43485320
 03000050 425850432020202001000000564d5442
-03000060 01000000000000000000000000000000
+03000060 01000000140000000000000000000000
 03000080 417f421f240000000143424f43485320
 03000090 425850432020202001000000564d5442
 030000a0 01000000000000000000000000000000
@@ -164,7 +182,7 @@ table FACP
 table FACS
 table DSDT
 table HPET
-table DSDT length 36
+table DSDT length 37
 table A?B? length 36
 table zz z length 40
 ",

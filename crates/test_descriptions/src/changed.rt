@@ -5,10 +5,10 @@ use crate::machines::EVERY_KEY;
 use std::alloc::Global;
 use std::test::Fail;
 
-// Where a line stands: the table, and its place in its array.
+// Where a line stands: the path of the table, as its header has it, and the table's place in its array.
 #[derive(Clone, Copy)]
 struct Place<'a> {
-    table: &'a str,
+    path: &'a str,
     index: u32,
 }
 
@@ -21,7 +21,7 @@ pub(crate) fn changed(alloc: Global, key: &Key<'_>, value: &str) -> Result<Strin
 
 fn push_changed(text: &mut String, key: &Key<'_>, value: &str) -> Result<(), Fail> {
     let mut place = Place {
-        table: "root",
+        path: "root",
         index: 0,
     };
     if key.table == "root" {
@@ -69,7 +69,7 @@ fn push_line(text: &mut String, line: &str) -> Result<(), Fail> {
 
 // Whether a line gives the key its value: it is the key's, or one of the table or array that stands at the key.
 fn is_of(key: &Key<'_>, place: Place<'_>, line: &str) -> bool {
-    if key.table == "root" && place.table == key.name {
+    if is_below(key, place.path) {
         return true;
     }
     match line.split_once(" = ") {
@@ -78,24 +78,42 @@ fn is_of(key: &Key<'_>, place: Place<'_>, line: &str) -> bool {
     }
 }
 
+// Whether a path is that of the table or array at the key, or of a table in that.
+fn is_below(key: &Key<'_>, path: &str) -> bool {
+    match path.split_once(".") {
+        Some((outer, name)) => {
+            key.table == "root" && outer == key.name || key.table == outer && name == key.name
+        }
+        None => key.table == "root" && path == key.name,
+    }
+}
+
 fn is_in(key: &Key<'_>, place: Place<'_>) -> bool {
-    place.table == key.table && place.index == key.index
+    table_of(place.path) == key.table && place.index == key.index
+}
+
+// The table of a path, which is the last of its names.
+fn table_of(path: &str) -> &str {
+    match path.split_once(".") {
+        Some((_, name)) => name,
+        None => path,
+    }
 }
 
 // The place of a line that stands behind a line of this place.
 fn place_at<'a>(place: Place<'a>, line: &'a str) -> Place<'a> {
     match header(line) {
-        Some(table) if table == place.table => Place {
-            table,
+        Some(path) if path == place.path => Place {
+            path,
             index: place.index.saturating_add(1),
         },
-        Some(table) => Place { table, index: 0 },
+        Some(path) => Place { path, index: 0 },
         None => place,
     }
 }
 
-// The table that a header is of.
+// The path of the table that a header is of.
 fn header(line: &str) -> Option<&str> {
-    let (table, _) = line.strip_prefix("[")?.split_once("]")?;
-    Some(table.strip_prefix("[").unwrap_or(table))
+    let (path, _) = line.strip_prefix("[")?.split_once("]")?;
+    Some(path.strip_prefix("[").unwrap_or(path))
 }

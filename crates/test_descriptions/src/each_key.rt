@@ -2,31 +2,61 @@
 
 use crate::changed::changed;
 use crate::fields::fields;
-use crate::keys::{KEYS, Key, VALUES, Values, is_among};
+use crate::keys::{ELEMENTS, KEYS, Key, TABLES, VALUES, Values, is_among};
 use crate::told::{is_text, told};
 use std::alloc::Global;
 use std::process::Abort;
 use std::test::Fail;
 
 #[test]
-fn keys_of_tables(rt: HostRuntime) -> Result<(), Fail> {
-    are_read(&rt, rt.alloc(), false, 0)
+fn keys_of_the_root(rt: HostRuntime) -> Result<(), Fail> {
+    are_read(&rt, rt.alloc(), TABLES[0], 0)
 }
 
 #[test]
-fn keys_of_first_elements(rt: HostRuntime) -> Result<(), Fail> {
-    are_read(&rt, rt.alloc(), true, 0)
+fn keys_of_smbios_tables(rt: HostRuntime) -> Result<(), Fail> {
+    are_read(&rt, rt.alloc(), TABLES[1], 0)
 }
 
 #[test]
-fn keys_of_second_elements(rt: HostRuntime) -> Result<(), Fail> {
-    are_read(&rt, rt.alloc(), true, 1)
+fn keys_of_acpi_tables(rt: HostRuntime) -> Result<(), Fail> {
+    are_read(&rt, rt.alloc(), TABLES[2], 0)
 }
 
-// The keys of elements of arrays, or of other tables, are read as their lines say, in the table at this place.
-fn are_read(rt: &impl Abort, alloc: Global, in_array: bool, index: u32) -> Result<(), Fail> {
+#[test]
+fn keys_of_first_smbios_elements(rt: HostRuntime) -> Result<(), Fail> {
+    are_read(&rt, rt.alloc(), ELEMENTS[0], 0)
+}
+
+#[test]
+fn keys_of_first_interrupts(rt: HostRuntime) -> Result<(), Fail> {
+    are_read(&rt, rt.alloc(), ELEMENTS[1], 0)
+}
+
+#[test]
+fn keys_of_first_devices(rt: HostRuntime) -> Result<(), Fail> {
+    are_read(&rt, rt.alloc(), ELEMENTS[2], 0)
+}
+
+#[test]
+fn keys_of_second_smbios_elements(rt: HostRuntime) -> Result<(), Fail> {
+    are_read(&rt, rt.alloc(), ELEMENTS[0], 1)
+}
+
+#[test]
+fn keys_of_second_interrupts(rt: HostRuntime) -> Result<(), Fail> {
+    are_read(&rt, rt.alloc(), ELEMENTS[1], 1)
+}
+
+#[test]
+fn keys_of_second_devices(rt: HostRuntime) -> Result<(), Fail> {
+    are_read(&rt, rt.alloc(), ELEMENTS[2], 1)
+}
+
+// The keys of these tables are read as their lines say, in the table at this place of its array.
+fn are_read(rt: &impl Abort, alloc: Global, tables: &str, index: u32) -> Result<(), Fail> {
     for line in KEYS.split("\n") {
-        is_line_kept(rt, alloc, line, in_array, index)?;
+        is_line_kept(rt, alloc, line, tables, index)?;
     }
     Ok(())
 }
@@ -35,11 +65,11 @@ fn is_line_kept(
     rt: &impl Abort,
     alloc: Global,
     line: &str,
-    in_array: bool,
+    tables: &str,
     index: u32,
 ) -> Result<(), Fail> {
     match Key::of(line, index) {
-        Some(key) if key.is_in_array() == in_array => is_read(rt, alloc, &key),
+        Some(key) if is_among(tables, key.table) => is_read(rt, alloc, &key),
         Some(_) => Ok(()),
         None => Err(Fail::new("a line that has no key")),
     }

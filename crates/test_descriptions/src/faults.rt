@@ -253,9 +253,39 @@ numa = {nodes = 2, distance = [10, 256, 20, 10]}
 ---
 numa = {nodes = 256, distance = [10, 256]}
 => out of range numa 0 nodes
+---
+bridge = 1
+numa = {}
+=> missing key numa 0 nodes
+---
+uart = 1
+bridge.last_bus = 256
+=> out of range bridge 0 last_bus
+---
+bridge.window = 5
+uart = [{}]
+=> wrong kind bridge 0 window
+---
+bridge.window = [5]
+=> wrong kind bridge 0 window
+---
+bridge = {route = [{}], window = [{}]}
+=> missing key window 0 kind
+---
+bridge.window = [{kind = 'mem', base = 0, size = 1}]
+=> out of range window 0 kind
+---
+bridge.window = [{kind = 'io', base = 0, size = 1}, {zz = 1}]
+=> unknown key window 1 zz
+---
+bridge = {route = [{device = 0, pin = 0, gsi = 0}, {device = 0, pin = 256}]}
+=> out of range route 1 pin
+---
+uart = [{port = 0, irq = 0}, {irq = 0}]
+=> missing key uart 1 port
 --- in a table unknown keys come first, and then keys in their order
-power.rtc = true
-=> unknown key power 0 rtc
+power.clock = true
+=> unknown key power 0 clock
 ---
 power = {control = 0x604, timer = 0x608}
 => missing key power 0 event

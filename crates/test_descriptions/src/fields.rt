@@ -37,6 +37,9 @@ acpi.oem_table_id = 1
 power = {event = 1, control = 1, timer = 1, keyboard = ''}
 => 9 0 11
 ---
+power = {event = 1, control = 1, timer = 1, rtc = ''}
+=> 9 0 10
+---
 hpet.min_tick = ''
 => 10 0 3
 ---
@@ -57,6 +60,18 @@ nmi = [{}, {}, {lint = ''}]
 ---
 numa = {nodes = 1, distance = ['']}
 => 16 0 1
+---
+bridge.last_bus = ''
+=> 17 0 1
+---
+bridge.window = [{kind = 'io', base = 0, size = 1}, {kind = 'io', base = 0, size = 1, prefetch = 0}]
+=> 18 1 3
+---
+bridge.route = [{device = 0, pin = 0, gsi = ''}]
+=> 19 0 2
+---
+uart = [{port = 0, irq = 0}, {port = 0, irq = ''}]
+=> 20 1 1
 --- the bytes of an unknown key are all of them
 'é' = 1
 => 0 0 é
@@ -146,7 +161,7 @@ fn lines_of_other_numbers(rt: HostRuntime) {
     };
     has_line(&rt, &to_come, "description: missing key root 0 \n");
     let past = DescFault::MissingKey {
-        table: 17,
+        table: 21,
         index: 0,
         key: 255,
     };

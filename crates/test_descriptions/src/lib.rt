@@ -8,6 +8,10 @@ mod bytes;
 #[cfg(test)]
 mod changed;
 #[cfg(test)]
+mod device_rules;
+#[cfg(test)]
+mod device_words;
+#[cfg(test)]
 mod each_key;
 #[cfg(test)]
 mod faults;

@@ -1,6 +1,6 @@
 //! Descriptions that are read, and the machines in words.
 
-use crate::told::{FRONT, are_told, is_told};
+use crate::told::{FRONT, POWER_FRONT, are_told, is_told};
 use std::test::Fail;
 
 pub(crate) const EVERY_KEY: &str = "# A machine with every key that a description may have today.
@@ -83,6 +83,7 @@ gpe_len = 16
 reset = 0xCF9
 reset_value = 15
 century = 50
+rtc = true
 keyboard = false
 [hpet]
 address = 0xFED00400
@@ -120,6 +121,32 @@ lint = 0
 [numa]
 nodes = 3
 distance = [10, 20, 30, 40, 10, 50, 60, 255, 10]
+[bridge]
+ecam = 0xB0000000
+last_bus = 127
+[[bridge.window]]
+kind = \"mem64\"
+base = 0x8000000000
+size = 0x800000000
+prefetch = true
+[[bridge.window]]
+kind = \"mem32\"
+base = 0xC0000000
+size = 0x3C000000
+[[bridge.route]]
+device = 31
+pin = 3
+gsi = 4294967295
+[[bridge.route]]
+device = 1
+pin = 0
+gsi = 16
+[[uart]]
+port = 0xFFF8
+irq = 15
+[[uart]]
+port = 0x3F8
+irq = 4
 ";
 
 // Its machine in words.
@@ -131,9 +158,11 @@ const EVERY_VALUE: &str =
     |dimm|DIMM 0|BANK 0|Example Memory|M-0001|A-0003|EX-RAM-1| 16777216 65534|dimm||||||| 1 0\
     |range| 0 2048 1|range| 4294967295 1 0\
     |slot|SLOT 0| 255 254 1 65535 255 31 7|slot|| 1 1 0 0 0 0 0\
-    |acpi|EXMPL|EXSERVER|power| 65535 4 1536 1540 1544 1568 16 3321 15 50 0|hpet fed00400 ffffffff 255 65535\
+    |acpi|EXMPL|EXSERVER|power| 65535 4 1536 1540 1544 1568 16 3321 15 50 1 0|hpet fed00400 ffffffff 255 65535\
     |apic| 4276097024 0|cpu| 255 2 0|cpu| 4 0 1|ioapic| 9 4273995776 24|ioapic| 0 4294967295 0\
-    |override| 15 4294967295 15|override| 0 2 0|nmi 1| 15 0|nmi| 0 1|numa| 3 10 20 30 40 10 50 60 255 10";
+    |override| 15 4294967295 15|override| 0 2 0|nmi 1| 15 0|nmi| 0 1|numa| 3 10 20 30 40 10 50 60 255 10\
+    |bridge| 2952790016 127|window mem64| 549755813888 34359738368 1|window mem32| 3221225472 1006632960 0\
+    |route| 31 3 4294967295|route| 1 0 16|uart| 65528 15|uart| 1016 4";
 
 // Descriptions, and their machines.
 const MACHINES: &str = r#"---
@@ -292,7 +321,11 @@ oem_strings = ['o']
 ---
 acpi = {}
 power = {event = 1, control = 65535, timer = 3}
-=> top 64|||||||acpi|BOCHS|BXPC|power| 9 0 1 65535 3 0 0 0 0 0 1
+=> top 64|||||||acpi|BOCHS|BXPC|power| 9 0 1 65535 3 0 0 0 0 0 1 1
+---
+acpi = {}
+power = {event = 1, control = 1, timer = 1, rtc = false}
+=> top 64|||||||acpi|BOCHS|BXPC|power| 9 0 1 1 1 0 0 0 0 0 0 1
 ---
 acpi = {}
 apic = {}
@@ -349,14 +382,60 @@ oem_strings = ['0123456789012345678901234567890123456789012345678901234567890123
 ---
 acpi = {}
 power = {event = 1, control = 1, timer = 1, gpe = 65535, gpe_len = 30}
-=> top 64|||||||acpi|BOCHS|BXPC|power| 9 0 1 1 1 65535 30 0 0 0 1
+=> top 64|||||||acpi|BOCHS|BXPC|power| 9 0 1 1 1 65535 30 0 0 0 1 1
 ---
 acpi = {}
 power = {event = 1, control = 1, timer = 1, gpe = 1, gpe_len = 2, reset = 1, reset_value = 255}
-=> top 64|||||||acpi|BOCHS|BXPC|power| 9 0 1 1 1 1 2 1 255 0 1
+=> top 64|||||||acpi|BOCHS|BXPC|power| 9 0 1 1 1 1 2 1 255 0 1 1
 ---
 oem_strings = [' ', '~']
 => top 64|oem| |~||||||"#;
+
+// Devices of a machine behind the front of a description with power management, and the machine in words.
+const DEVICES: &str = r#"--- a bridge, and no serial port
+bridge = {}
+uart = []
+=> top 64|||||||acpi|BOCHS|BXPC|power| 9 0 1 1 1 0 0 0 0 0 1 1|bridge| 0 255
+---
+bridge = {last_bus = 0, route = [], window = []}
+=> top 64|||||||acpi|BOCHS|BXPC|power| 9 0 1 1 1 0 0 0 0 0 1 1|bridge| 0 0
+--- the least and the greatest address of a configuration space
+bridge.ecam = 0x100000
+=> top 64|||||||acpi|BOCHS|BXPC|power| 9 0 1 1 1 0 0 0 0 0 1 1|bridge| 1048576 255
+---
+bridge.ecam = 4503599626321920
+=> top 64|||||||acpi|BOCHS|BXPC|power| 9 0 1 1 1 0 0 0 0 0 1 1|bridge| 4503599626321920 255
+--- as many ports as there may be, and the last one
+bridge.window = [{kind = 'io', base = 1, size = 65535}, {kind = 'io', base = 65535, size = 1}]
+=> top 64|||||||acpi|BOCHS|BXPC|power| 9 0 1 1 1 0 0 0 0 0 1 1|bridge| 0 255|window io| 1 65535 0|window io| 65535 1 0
+--- as many addresses of 32 bits, and the last one
+[[bridge.window]]
+kind = 'mem32'
+base = 1
+size = 4294967295
+prefetch = true
+[[bridge.window]]
+kind = 'mem32'
+base = 4294967295
+size = 1
+=> top 64|||||||acpi|BOCHS|BXPC|power| 9 0 1 1 1 0 0 0 0 0 1 1|bridge| 0 255|window mem32| 1 4294967295 1|window mem32| 4294967295 1 0
+--- as many addresses of 64 bits, and the last one
+bridge.window = [{size = 4503599627370496, base = 0, kind = 'mem64'}, {kind = 'mem64', prefetch = true, base = 4503599627370495, size = 1}]
+=> top 64|||||||acpi|BOCHS|BXPC|power| 9 0 1 1 1 0 0 0 0 0 1 1|bridge| 0 255|window mem64| 0 4503599627370496 0|window mem64| 4503599627370495 1 1
+--- the last pin of the last device, and pins in any order
+bridge.route = [{device = 31, pin = 3, gsi = 4294967295}, {device = 3, pin = 1, gsi = 0}, {device = 1, pin = 3, gsi = 0}]
+=> top 64|||||||acpi|BOCHS|BXPC|power| 9 0 1 1 1 0 0 0 0 0 1 1|bridge| 0 255|route| 31 3 4294967295|route| 3 1 0|route| 1 3 0
+--- the first and the last ports, and serial ports that share theirs
+[[uart]]
+port = 0
+irq = 0
+[[uart]]
+port = 0xFFF8
+irq = 15
+[[uart]]
+port = 0xFFF8
+irq = 15
+=> top 64|||||||acpi|BOCHS|BXPC|power| 9 0 1 1 1 0 0 0 0 0 1 1|uart| 0 0|uart| 65528 15|uart| 65528 15"#;
 
 #[test]
 fn machines_are_read(rt: HostRuntime) -> Result<(), Fail> {
@@ -367,4 +446,9 @@ fn machines_are_read(rt: HostRuntime) -> Result<(), Fail> {
 #[test]
 fn parts_are_read(rt: HostRuntime) -> Result<(), Fail> {
     are_told(&rt, rt.alloc(), FRONT, PARTS)
+}
+
+#[test]
+fn devices_are_read(rt: HostRuntime) -> Result<(), Fail> {
+    are_told(&rt, rt.alloc(), POWER_FRONT, DEVICES)
 }

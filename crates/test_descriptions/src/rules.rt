@@ -295,6 +295,26 @@ numa = {nodes = 0, distance = []}
 apic = {}
 numa = {nodes = 0, distance = []}
 => rule 13 index 2
+--- a bridge and serial ports need the table `power`
+bridge = {}
+=> rule 14 index 0
+---
+uart = [{port = 0, irq = 0}]
+=> rule 14 index 1
+---
+acpi = {}
+uart = [{port = 65535, irq = 255}]
+bridge.ecam = 1
+cpu = [{apic = 0}]
+=> rule 14 index 0
+---
+hpet = {}
+bridge = {}
+=> rule 13 index 1
+---
+bridge = {}
+power = {event = 1, control = 1, timer = 1}
+=> rule 13 index 0
 --- processors and what else belongs to interrupt controllers need the table `apic`
 cpu = [{apic = 0}]
 => rule 15 index 0
@@ -409,7 +429,7 @@ struct Long {
 }
 
 // Lists that are longer than they may be, and lists of as many elements as they may have, whose descriptions break a later rule.
-static LISTS: [Long; 26] = [
+static LISTS: [Long; 33] = [
     Long {
         before: "oem_strings = [",
         element: "'a', ",
@@ -591,6 +611,55 @@ static LISTS: [Long; 26] = [
         times: 4225,
         behind: "]}",
         wanted: "rule 23 index 0",
+    },
+    Long {
+        before: "uart = [",
+        element: "{port = 0, irq = 0}, ",
+        times: 5,
+        behind: "]",
+        wanted: "rule 2 index 9",
+    },
+    Long {
+        before: "bridge.window = [",
+        element: "{kind = 'io', base = 0, size = 1}, ",
+        times: 33,
+        behind: "]",
+        wanted: "rule 2 index 10",
+    },
+    Long {
+        before: "bridge.route = [",
+        element: "{device = 0, pin = 0, gsi = 0}, ",
+        times: 129,
+        behind: "]",
+        wanted: "rule 2 index 11",
+    },
+    Long {
+        before: "bridge.route = [",
+        element: "{device = 0, pin = 0, gsi = 0}, ",
+        times: 3000,
+        behind: "]\noem_strings = ['']",
+        wanted: "rule 2 index 11",
+    },
+    Long {
+        before: "uart = [",
+        element: "{port = 0, irq = 0}, ",
+        times: 4,
+        behind: "]",
+        wanted: "rule 14 index 1",
+    },
+    Long {
+        before: "bridge.window = [",
+        element: "{kind = 'io', base = 0, size = 1}, ",
+        times: 32,
+        behind: "]",
+        wanted: "rule 14 index 0",
+    },
+    Long {
+        before: "bridge.route = [",
+        element: "{device = 0, pin = 0, gsi = 0}, ",
+        times: 128,
+        behind: "]",
+        wanted: "rule 14 index 0",
     },
 ];
 

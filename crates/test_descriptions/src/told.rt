@@ -13,6 +13,10 @@ pub(crate) const TOP: &str = "version = 1\ntop_mib = 64\n";
 /// The front of a description: what each one has, in one line for each key, so that others may follow.
 pub(crate) const FRONT: &str = "version = 1\ntop_mib = 64\nsystem = {}\n";
 
+/// A front with power management, which devices need.
+pub(crate) const POWER_FRONT: &str =
+    "version = 1\ntop_mib = 64\nsystem = {}\nacpi = {}\npower = {event = 1, control = 1, timer = 1}\n";
+
 /// What stands between the rows of a table. A row is the rest of this line, which may say what the row is about, the lines of a
 /// description, and behind an arrow the words for what it is read as. A table is one text, since a literal costs a proof next to nothing,
 /// and an array of them much.

@@ -1,5 +1,6 @@
 //! Machines in words.
 
+use crate::device_words::push_devices;
 use crate::interrupt_words::push_interrupts;
 use crate::part_words::{push_number, push_numbers, push_parts};
 use machine_desc::{Acpi, Hpet, Machine, Numa, Power, System};
@@ -23,7 +24,8 @@ fn push_machine(alloc: Global, told: &mut String, machine: &Machine) -> Result<(
     push_power(alloc, told, &machine.power)?;
     push_hpet(alloc, told, &machine.hpet)?;
     push_interrupts(alloc, told, machine)?;
-    push_numa(alloc, told, &machine.numa)
+    push_numa(alloc, told, &machine.numa)?;
+    push_devices(alloc, told, machine)
 }
 
 fn push_top(alloc: Global, told: &mut String, top_mib: u32) -> Result<(), Fail> {
@@ -103,6 +105,7 @@ fn push_power(alloc: Global, told: &mut String, power: &Option<Power>) -> Result
                 u64::from(power.reset),
                 u64::from(power.reset_value),
                 u64::from(power.century),
+                u64::from(power.rtc),
                 u64::from(power.keyboard),
             ],
         )?;

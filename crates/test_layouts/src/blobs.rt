@@ -3,7 +3,7 @@
 ghost use Rattle.std.specs.Prelude.{◌≡◌, []};
 
 use crate::rows::is;
-use blob_holes::{Blob, Parts, PointerHole, SumHole, append_layout, append_rows};
+use blob_holes::{Blob, Parts, PointerHole, SumHole, append_rows};
 use std::process::Abort;
 use std::test::Fail;
 use vt_layout::{Row, ShortBytes};
@@ -110,59 +110,7 @@ fn put_rows(blob: &mut Blob, target: Name) -> Result<(), OutOfMemory>
     )
 }
 
-#[test]
-fn a_layout(rt: HostRuntime) -> Result<(), Fail> {
-    let mut blob = Blob::new(rt.alloc());
-    put_layout(&rt, &mut blob)?;
-    are_parts(&rt, blob.finish(), &[7, 7, 7, 0, 2, 1, 0], &[], &[]);
-    Ok(())
-}
-
-// Three bytes, and a layout at the next multiple of 4.
-fn put_layout(rt: &impl Abort, blob: &mut Blob) -> Result<(), OutOfMemory>
-    requires { blob.old ≡ record { bytes = []; pointers = []; sums = [] } }
-{
-    blob.append(&[7, 7, 7])?;
-    let place = append_layout(blob, 4, &[Row::Number(2, 0x0102)], &[Row::Reserved(1)], &[])?;
-    is(rt, &place, &4);
-    Ok(())
-}
-
-#[test]
-fn a_layout_with_bytes(rt: HostRuntime) -> Result<(), Fail> {
-    let mut blob = Blob::new(rt.alloc());
-    put_layout_with_bytes(&mut blob)?;
-    let sum = SumHole {
-        at: 4,
-        start: 4,
-        length: 7,
-    };
-    are_parts(
-        &rt,
-        blob.finish(),
-        b"\x07\x07\x07\0\0\x02\x01\x05abc",
-        &[],
-        &[sum],
-    );
-    Ok(())
-}
-
-// Three bytes, and a layout at the next multiple of 4, whose sum covers its rows and the bytes behind them.
-fn put_layout_with_bytes(blob: &mut Blob) -> Result<(), OutOfMemory>
-    requires { blob.old ≡ record { bytes = []; pointers = []; sums = [] } }
-{
-    blob.append(&[7, 7, 7])?;
-    append_layout(
-        blob,
-        4,
-        &[Row::Sum(7), Row::Number(2, 0x0102)],
-        &[Row::Number(1, 5)],
-        b"abc",
-    )?;
-    Ok(())
-}
-
-fn are_parts(
+pub(crate) fn are_parts(
     rt: &impl Abort,
     parts: Parts,
     bytes: &[u8],
@@ -185,12 +133,10 @@ fn are_as_wanted(
     are_pointers(rt, parts.pointers.as_slice(), pointers);
 }
 
-// There is one pointer at most.
 fn are_pointers(rt: &impl Abort, pointers: &[PointerHole], wanted: &[PointerHole]) {
-    match (pointers, wanted) {
-        ([], []) => {}
-        ([pointer], [wanted]) => is_pointer(rt, pointer, wanted),
-        _ => panic!(rt; "{pointers:?} in place of {wanted:?}"),
+    is(rt, &pointers.len(), &wanted.len());
+    for (pointer, wanted) in pointers.iter().zip(wanted) {
+        is_pointer(rt, pointer, wanted);
     }
 }
 

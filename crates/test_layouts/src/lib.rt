@@ -8,6 +8,8 @@ mod blobs;
 mod numbers;
 pub mod parcel;
 #[cfg(test)]
+mod parts;
+#[cfg(test)]
 mod records;
 #[cfg(test)]
 mod rows;

@@ -4,7 +4,8 @@ use fixtures::{
     BOOTED, EMPTY, EMPTY_DUMP, Ending, LONG_TEXTS_DUMP, MINIMAL, MINIMAL_DUMP, ON_THE_BORDER,
     ON_THE_BORDER_DUMP, QUOTES, QUOTES_DUMP, ROOM, Run, SEEDED_ROOM, WITH_ACPI, WITH_ACPI_AND_HPET,
     WITH_ACPI_AND_HPET_DUMP, WITH_ACPI_DUMP, WITH_ALL_OF_POWER, WITH_ALL_OF_POWER_DUMP, WITH_APIC,
-    WITH_APIC_DUMP, WITH_INTERRUPTS, WITH_INTERRUPTS_DUMP, WITH_NODES, WITH_NODES_DUMP, WITH_POWER,
+    WITH_APIC_DUMP, WITH_DEVICES, WITH_DEVICES_DUMP, WITH_INTERRUPTS, WITH_INTERRUPTS_DUMP,
+    WITH_NODES, WITH_NODES_DUMP, WITH_POWER, WITH_POWER_AND_HPET, WITH_POWER_AND_HPET_DUMP,
     WITH_POWER_DUMP, booted, ends, is_same, load, long_texts_description, sink, source, status_of,
 };
 use std::alloc::Global;
@@ -13,7 +14,7 @@ use vmtables::{Status, World};
 use vt_outside::{ListSink, ListSource, OutOfMemory, SureSink};
 
 // A description, its top, and the dump of the memory that the guest finds.
-static MACHINES: [(&str, &str, &str); 11] = [
+static MACHINES: [(&str, &str, &str); 13] = [
     (MINIMAL, "64", MINIMAL_DUMP),
     (EMPTY, "64", EMPTY_DUMP),
     (QUOTES, "65", QUOTES_DUMP),
@@ -21,10 +22,12 @@ static MACHINES: [(&str, &str, &str); 11] = [
     (WITH_ACPI_AND_HPET, "64", WITH_ACPI_AND_HPET_DUMP),
     (ON_THE_BORDER, "2048", ON_THE_BORDER_DUMP),
     (WITH_POWER, "64", WITH_POWER_DUMP),
+    (WITH_POWER_AND_HPET, "64", WITH_POWER_AND_HPET_DUMP),
     (WITH_ALL_OF_POWER, "2048", WITH_ALL_OF_POWER_DUMP),
     (WITH_APIC, "64", WITH_APIC_DUMP),
     (WITH_INTERRUPTS, "2048", WITH_INTERRUPTS_DUMP),
     (WITH_NODES, "64", WITH_NODES_DUMP),
+    (WITH_DEVICES, "2048", WITH_DEVICES_DUMP),
 ];
 
 #[test]

@@ -14,7 +14,7 @@ static VALUES: [u8; 4] = [0, 2, 0x24, 0xFF];
 static BITS: [u8; 3] = [0x01, 0x03, 0x80];
 
 /// Where a memory is changed.
-#[derive(Clone, Copy)]
+#[derive(Clone, Copy, Debug)]
 pub struct Spot {
     /// The place of the change.
     pub place: usize,
@@ -119,17 +119,24 @@ pub fn agree_with(
     spot: Spot,
     part: &[u8],
 ) -> Result<(), Fail> {
+    drop(told_with(rt, alloc, bytes, spot, part)?);
+    Ok(())
+}
+
+/// Asserts the same, and returns what they tell.
+pub fn told_with(
+    rt: &impl Abort,
+    alloc: Global,
+    bytes: &Bytes,
+    spot: Spot,
+    part: &[u8],
+) -> Result<Bytes, Fail> {
     let mut changed = bytes.copy()?;
     put_at(&mut changed, spot.place, part);
     if let Some(table) = spot.mended {
         mend(&mut changed, table);
     }
-    let agreed = is_agreed(rt, alloc, &changed);
+    let told = agree(rt, alloc, &view_of(&changed), RSDP, &changed);
     drop(changed);
-    agreed
-}
-
-fn is_agreed(rt: &impl Abort, alloc: Global, bytes: &Bytes) -> Result<(), Fail> {
-    drop(agree(rt, alloc, &view_of(bytes), RSDP, bytes)?);
-    Ok(())
+    told
 }

@@ -220,7 +220,7 @@ fn push_leading_nowhere(alloc: Global, bytes: &mut Bytes, table: &Table) -> Resu
     let decoded = hex::decode(alloc, table.digits)?;
     bytes.extend(decoded.as_slice())?;
     if bytes.as_slice().starts_with(b"XSDT") {
-        put_at(bytes, 36, &[0; 56]);
+        put_at(bytes, 36, &[0; 64]);
     }
     if bytes.as_slice().starts_with(b"FACP") {
         put_at(bytes, 36, &[0; 8]);

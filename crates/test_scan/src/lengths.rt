@@ -10,7 +10,7 @@ use std::test::Fail;
 use vt_outside::Bytes;
 
 // Lengths around those of headers and of tables.
-static LENGTHS: [u32; 36] = [
+static LENGTHS: [u32; 42] = [
     0,
     1,
     8,
@@ -32,10 +32,15 @@ static LENGTHS: [u32; 36] = [
     55,
     56,
     57,
+    59,
     60,
+    61,
     63,
     64,
     65,
+    75,
+    76,
+    77,
     92,
     124,
     125,
@@ -43,7 +48,8 @@ static LENGTHS: [u32; 36] = [
     275,
     276,
     277,
-    933,
+    1109,
+    0x7FFF_FFEC,
     0x7FFF_FFFF,
     0x8000_0000,
     u32::MAX,
@@ -71,16 +77,16 @@ static COUNTS: [u64; 18] = [
     u64::MAX,
 ];
 
-const SLIT: usize = 813;
+const SLIT: usize = 913;
 
 const ROOM_FOR_1024: u32 = 44 + 1024 * 1024;
 
 // The places of entries in the MADT and in the SRAT.
-const SRAT: usize = 641;
+const SRAT: usize = 741;
 
-static MADT_ENTRIES: [usize; 8] = [560, 568, 580, 590, 598, 604, 620, 632];
+static MADT_ENTRIES: [usize; 8] = [660, 668, 680, 690, 698, 704, 720, 732];
 
-static SRAT_ENTRIES: [usize; 5] = [689, 705, 745, 769, 787];
+static SRAT_ENTRIES: [usize; 5] = [789, 805, 845, 869, 887];
 
 #[test]
 fn lengths_of_tables(rt: HostRuntime) -> Result<(), Fail> {

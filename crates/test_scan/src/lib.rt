@@ -6,7 +6,13 @@
 #[cfg(test)]
 mod agree;
 #[cfg(test)]
+mod blocks;
+#[cfg(test)]
 mod changes;
+#[cfg(test)]
+mod definitions;
+#[cfg(test)]
+mod dsdts;
 #[cfg(test)]
 mod edits;
 #[cfg(test)]
@@ -23,6 +29,8 @@ mod inputs;
 mod lengths;
 #[cfg(test)]
 mod long;
+#[cfg(test)]
+mod mcfgs;
 #[cfg(test)]
 mod memories;
 pub mod pieces;
@@ -42,6 +50,8 @@ mod rsdps;
 mod scans;
 #[cfg(test)]
 mod shown;
+#[cfg(test)]
+mod terms;
 #[cfg(test)]
 mod told;
 #[cfg(test)]

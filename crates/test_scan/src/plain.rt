@@ -1,7 +1,8 @@
 //! A second reader, plain and slow, which goes through the tests of tables in their order, byte by byte, and knows a table's numbers by
-//! their offsets in the standard (ACPI 6.5, 5.2; IA-PC HPET 1.0a, 3.2.4). Of the first reader it has the view and the type of the faults
-//! alone, and it tells what it reads in the same words.
+//! their offsets in the standard (ACPI 6.5, 5.2; PCI Firmware Specification 3.3, 4.1.2; IA-PC HPET 1.0a, 3.2.4). Of the first reader it has
+//! the view and the type of the faults, and what a definition block spells, and it tells what it reads in the same words.
 
+use crate::terms::push_block;
 use crate::words::{
     push_digits, push_entry, push_name, push_number, push_other_entry, push_text, told_fault,
 };
@@ -57,13 +58,21 @@ static HPET: Numbers = &[
     (53, 2),
 ];
 
+// Those of an allocation of an MCFG.
+static ALLOCATION: Numbers = &[(0, 8), (8, 2), (11, 1)];
+
 // Where the entries of the two tables begin that have some.
 const MADT_FRONT: u64 = 44;
 
 const SRAT_FRONT: u64 = 48;
 
+// Where the allocations of an MCFG begin, and how many bytes each has.
+const MCFG_FRONT: u64 = 44;
+
+const ALLOCATION_SIZE: u64 = 16;
+
 // The tables of which there may be one.
-static ONCE: [[u8; 4]; 5] = [*b"FACP", *b"APIC", *b"SRAT", *b"SLIT", *b"HPET"];
+static ONCE: [[u8; 4]; 6] = [*b"FACP", *b"APIC", *b"SRAT", *b"SLIT", *b"MCFG", *b"HPET"];
 
 // What is due at an address.
 #[derive(Clone, Copy, PartialEq, Eq)]
@@ -142,6 +151,7 @@ fn has_length<V: MemView>(view: &V, table: u64, due: Due) -> bool {
         Due::Xsdt => length >= 36 && length.saturating_sub(36) % 8 == 0 && length <= 36 + 8 * 256,
         Due::Dsdt => length >= 36,
         Due::Any if is_signed(view, table, b"SLIT") => has_distances(view, table, length),
+        Due::Any if is_signed(view, table, b"MCFG") => has_allocations(length),
         Due::Any => length >= least_length(view, table),
     }
 }
@@ -150,6 +160,11 @@ fn has_length<V: MemView>(view: &V, table: u64, due: Due) -> bool {
 fn has_distances<V: MemView>(view: &V, table: u64, length: u64) -> bool {
     let count = number(view, table, 36, 8);
     count <= 1024 && length >= count.saturating_mul(count).saturating_add(44)
+}
+
+// Whether an MCFG of so many bytes is filled by whole allocations behind its front.
+fn has_allocations(length: u64) -> bool {
+    length >= MCFG_FRONT && length.saturating_sub(MCFG_FRONT) % ALLOCATION_SIZE == 0
 }
 
 fn least_length<V: MemView>(view: &V, table: u64) -> u64 {
@@ -326,6 +341,8 @@ fn push_known<V: MemView>(told: &mut Bytes, view: &V, table: u64) -> Result<(), 
         push_entries(told, view, table, SRAT_FRONT, &SRAT_TYPES)
     } else if is_signed(view, table, b"SLIT") {
         push_slit(told, view, table)
+    } else if is_signed(view, table, b"MCFG") {
+        push_mcfg(told, view, table)
     } else {
         push_headed(told, view, b"hpet", table)?;
         push_numbers(told, view, table, 0, HPET)
@@ -343,9 +360,33 @@ fn push_fadt<V: MemView>(told: &mut Bytes, view: &V, fadt: u64) -> Result<(), Ou
     let dsdt = dsdt_of(view, fadt);
     if dsdt != 0 {
         push_headed(told, view, b"dsdt", dsdt)?;
-        push_number(told, length_of(view, dsdt))?;
+        push_definitions(told, view, dsdt)?;
     }
     Ok(())
+}
+
+// Appends what the bytes behind the header of a DSDT spell.
+fn push_definitions<V: MemView>(told: &mut Bytes, view: &V, dsdt: u64) -> Result<(), OutOfMemory> {
+    let length = length_of(view, dsdt);
+    let block = bytes_of(told.allocator(), view, dsdt, 36, length)?;
+    let pushed = push_block(told, block.as_slice(), length);
+    drop(block);
+    pushed
+}
+
+// The bytes of a table from one offset up to another.
+fn bytes_of<V: MemView>(
+    alloc: Global,
+    view: &V,
+    table: u64,
+    from: u64,
+    to: u64,
+) -> Result<Bytes, OutOfMemory> {
+    let mut bytes = Bytes::new(alloc);
+    for offset in from..to {
+        bytes.push(byte(view, table, offset).unwrap_or(0))?;
+    }
+    Ok(bytes)
 }
 
 fn push_slit<V: MemView>(told: &mut Bytes, view: &V, slit: u64) -> Result<(), OutOfMemory> {
@@ -353,6 +394,17 @@ fn push_slit<V: MemView>(told: &mut Bytes, view: &V, slit: u64) -> Result<(), Ou
     push_headed(told, view, b"slit", slit)?;
     push_number(told, count)?;
     push_bytes(told, view, slit, 44, count.saturating_mul(count))
+}
+
+fn push_mcfg<V: MemView>(told: &mut Bytes, view: &V, mcfg: u64) -> Result<(), OutOfMemory> {
+    push_headed(told, view, b"mcfg", mcfg)?;
+    let mut place = MCFG_FRONT;
+    for _ in 0..length_of(view, mcfg).saturating_sub(MCFG_FRONT) / ALLOCATION_SIZE {
+        push_name(told, b"allocation")?;
+        push_numbers(told, view, mcfg, place, ALLOCATION)?;
+        place = place.saturating_add(ALLOCATION_SIZE);
+    }
+    Ok(())
 }
 
 // Appends a table of another signature.

@@ -37,6 +37,15 @@ static MADT_ENTRIES: [(u8, u8); 8] = [
 
 static SRAT_ENTRIES: [(u8, u8); 5] = [(0, 16), (1, 40), (2, 24), (3, 18), (0x55, 2)];
 
+// Terms of AML, and one that isn't read.
+static TERMS: [&[u8]; 5] = [
+    b"\x08_UID\x01",
+    b"\x10\x13\x5c_SB_\x5b\x82\x0bPCI0\x08_UID\x00",
+    b"\x08_CRS\x11\x05\x0a\x02\x79\x00",
+    b"\x08_PRT\x12\x08\x02\x0b\x34\x12\x0d\x41\x00",
+    b"\x14\x06_INI\x00",
+];
+
 /// Returns the generator of a seed.
 pub fn generator_of(seed: u64) -> Pcg32 {
     Pcg32::seed_from_u64(seed)
@@ -135,12 +144,13 @@ fn push_named(random: &mut Pcg32, bytes: &mut Bytes, entry: usize) -> Result<(),
 }
 
 fn push_table(random: &mut Pcg32, bytes: &mut Bytes) -> Result<(), OutOfMemory> {
-    match below(random, 8) {
-        0 => push_fadt(random, bytes),
-        1 | 2 => push_madt(random, bytes),
-        3 | 4 => push_srat(random, bytes),
-        5 => push_slit(random, bytes),
-        6 => push_hpet(random, bytes),
+    match below(random, 10) {
+        0 | 1 => push_fadt(random, bytes),
+        2 | 3 => push_madt(random, bytes),
+        4 | 5 => push_srat(random, bytes),
+        6 => push_slit(random, bytes),
+        7 => push_mcfg(random, bytes),
+        8 => push_hpet(random, bytes),
         _ => push_other(random, bytes),
     }
 }
@@ -230,8 +240,13 @@ fn push_facs(random: &mut Pcg32, bytes: &mut Bytes) -> Result<(), OutOfMemory> {
 fn push_dsdt(random: &mut Pcg32, bytes: &mut Bytes) -> Result<(), OutOfMemory> {
     let dsdt = bytes.len();
     push_head(random, bytes, b"DSDT")?;
-    let size = below(random, 16);
-    push_any(random, bytes, size)?;
+    for _ in 0..below(random, 4) {
+        bytes.extend(TERMS[usize::from(below(random, 5))])?;
+    }
+    if below(random, 8) == 0 {
+        let size = below(random, 16);
+        push_any(random, bytes, size)?;
+    }
     finish(random, bytes, dsdt);
     Ok(())
 }
@@ -295,6 +310,22 @@ fn push_slit(random: &mut Pcg32, bytes: &mut Bytes) -> Result<(), OutOfMemory> {
         put_at(bytes, place, &[below(random, 6)]);
     }
     finish(random, bytes, slit);
+    Ok(())
+}
+
+// Appends an MCFG of up to 3 allocations, and seldom a few bytes more.
+fn push_mcfg(random: &mut Pcg32, bytes: &mut Bytes) -> Result<(), OutOfMemory> {
+    let mcfg = bytes.len();
+    push_head(random, bytes, b"MCFG")?;
+    push_any(random, bytes, 8)?;
+    for _ in 0..below(random, 4) {
+        push_any(random, bytes, 16)?;
+    }
+    if below(random, 16) == 0 {
+        let size = below(random, 16);
+        push_any(random, bytes, size)?;
+    }
+    finish(random, bytes, mcfg);
     Ok(())
 }
 

@@ -12,13 +12,13 @@ use std::test::Fail;
 
 const RSDP: u64 = 0xF_0000;
 
-// What is put into a memory, the tables whose sums are then set, and what is told.
-type Change<'a> = (&'a str, &'a [Put<'a>], &'a [u64], &'a str);
+/// A change of a memory: its name, what is put there, the tables whose sums are then set, and what is told.
+pub type Change<'a> = (&'a str, &'a [Put<'a>], &'a [u64], &'a str);
 
 // The tables of a machine with power management.
 const FACS: u64 = 0x300_0000;
 
-const FADT: u64 = 0x300_0040;
+const FADT: u64 = 0x300_00D0;
 
 const FADT_FACS: u64 = FADT + 36;
 
@@ -26,24 +26,46 @@ const FADT_X_FACS: u64 = FADT + 132;
 
 const FADT_X_DSDT: u64 = FADT + 140;
 
-const XSDT: u64 = 0x300_0160;
+const XSDT: u64 = 0x300_01F0;
 
 const POWER_TOLD: &str = "
 rsdp 424f43485320
 xsdt 01 424f43485320 4258504320202020 01 564d5442 01
 fadt 06 424f43485320 4258504320202020 01 564d5442 01 00 09 0608 01a5 05 0608 00
-facs 00 00 00 00 00 02 00";
+facs 00 00 00 00 00 02 00
+dsdt 02 424f43485320 4258504320202020 01 564d5442 01 terms
+scope \\_SB_
+device RTC_
+name _HID int 0bd041
+name _CRS buffer 47017000700001022200017900
+end
+device KBD_
+name _HID int 0303d041
+name _CRS buffer 470160006000010147016400640001012202007900
+end
+end";
 
 const NO_FACS_TOLD: &str = "
 rsdp 424f43485320
 xsdt 01 424f43485320 4258504320202020 01 564d5442 01
-fadt 06 424f43485320 4258504320202020 01 564d5442 01 00 09 0608 01a5 05 0608 00";
+fadt 06 424f43485320 4258504320202020 01 564d5442 01 00 09 0608 01a5 05 0608 00
+dsdt 02 424f43485320 4258504320202020 01 564d5442 01 terms
+scope \\_SB_
+device RTC_
+name _HID int 0bd041
+name _CRS buffer 47017000700001022200017900
+end
+device KBD_
+name _HID int 0303d041
+name _CRS buffer 470160006000010147016400640001012202007900
+end
+end";
 
 const XSDT_TOLD: &str = "
 rsdp 424f43485320
 xsdt 01 424f43485320 4258504320202020 01 564d5442 01";
 
-const TWO_ENTRIES: &[u8] = b"\x40\0\0\x03\0\0\0\0\x40\0\0\x03\0\0\0\0";
+const TWO_ENTRIES: &[u8] = b"\xd0\0\0\x03\0\0\0\0\xd0\0\0\x03\0\0\0\0";
 
 static POWER: [Change; 30] = [
     ("no change", &[], &[], POWER_TOLD),
@@ -70,13 +92,13 @@ static POWER: [Change; 30] = [
         "FADT, length 275",
         &[(FADT + 4, b"\x13")],
         &[FADT],
-        "bad length 03000040",
+        "bad length 030000d0",
     ),
     (
         "FADT, length 275 and sum",
         &[(FADT + 4, b"\x13")],
         &[],
-        "bad length 03000040",
+        "bad length 030000d0",
     ),
     (
         "FADT, length 277",
@@ -84,18 +106,18 @@ static POWER: [Change; 30] = [
         &[FADT],
         POWER_TOLD,
     ),
-    ("FADT, sum", &[(FADT + 9, b"\xdf")], &[], "bad sum 03000040"),
+    ("FADT, sum", &[(FADT + 9, b"\x59")], &[], "bad sum 030000d0"),
     (
         "FADT, sum, and FACS, length",
-        &[(FADT + 9, b"\xdf"), (FACS + 4, b"\x41")],
+        &[(FADT + 9, b"\x59"), (FACS + 4, b"\x41")],
         &[],
-        "bad sum 03000040",
+        "bad sum 030000d0",
     ),
     (
         "FADT twice",
         &[(XSDT + 4, b"\x34"), (XSDT + 36, TWO_ENTRIES)],
         &[XSDT],
-        "twice given 03000040",
+        "twice given 030000d0",
     ),
     (
         "X_FIRMWARE_CTRL past RAM",
@@ -157,18 +179,18 @@ static POWER: [Change; 30] = [
         &[],
         "outside ram fffffffffffffff0",
     ),
-    ("RSDT", &[(XSDT, b"R")], &[XSDT], "wrong signature 03000160"),
+    ("RSDT", &[(XSDT, b"R")], &[XSDT], "wrong signature 030001f0"),
     (
         "XSDT, length 43",
         &[(XSDT + 4, b"\x2b")],
         &[XSDT],
-        "bad length 03000160",
+        "bad length 030001f0",
     ),
     (
         "XSDT, length 35",
         &[(XSDT + 4, b"\x23")],
         &[XSDT],
-        "bad length 03000160",
+        "bad length 030001f0",
     ),
     (
         "XSDT, length 36",
@@ -176,7 +198,7 @@ static POWER: [Change; 30] = [
         &[XSDT],
         XSDT_TOLD,
     ),
-    ("XSDT, sum", &[(XSDT + 9, b"\xd7")], &[], "bad sum 03000160"),
+    ("XSDT, sum", &[(XSDT + 9, b"\x47")], &[], "bad sum 030001f0"),
     (
         "XSDT of 256 entries, all zero",
         &[(XSDT + 4, b"\x24\x08"), (XSDT + 36, &[0; 64])],
@@ -187,7 +209,7 @@ static POWER: [Change; 30] = [
         "XSDT of 257 entries, all zero",
         &[(XSDT + 4, b"\x2c\x08"), (XSDT + 36, &[0; 64])],
         &[XSDT],
-        "bad length 03000160",
+        "bad length 030001f0",
     ),
     (
         "XSDT that names the FACS",
@@ -480,7 +502,13 @@ fn changes_of_a_timer(rt: HostRuntime) -> Result<(), Fail> {
     are_told(&rt, rt.alloc(), WITH_ACPI_AND_HPET_DUMP, &TIMERS)
 }
 
-fn are_told(rt: &impl Abort, alloc: Global, dump: &str, changes: &[Change]) -> Result<(), Fail> {
+/// Asserts what is told of the memory of a dump with each of these changes. Its RSDP stands at 0xF0000, and has the right sums.
+pub fn are_told(
+    rt: &impl Abort,
+    alloc: Global,
+    dump: &str,
+    changes: &[Change],
+) -> Result<(), Fail> {
     for change in changes {
         is_told_with(rt, alloc, dump, change)?;
     }

@@ -21,9 +21,9 @@ const RSDP: u64 = 0xF_0000;
 
 const ANCHOR: u64 = 0xF_0030;
 
-const FADT: u64 = 0x300_0040;
+const FADT: u64 = 0x300_00D0;
 
-const STRUCTURES: u64 = 0x300_0190;
+const STRUCTURES: u64 = 0x300_0220;
 
 const BOTH_TOLD: &str = "
 top 04000000
@@ -31,6 +31,17 @@ rsdp 424f43485320
 xsdt 01 424f43485320 4258504320202020 01 564d5442 01
 fadt 06 424f43485320 4258504320202020 01 564d5442 01 00 09 0608 01a5 05 0608 00
 facs 00 00 00 00 00 02 00
+dsdt 02 424f43485320 4258504320202020 01 564d5442 01 terms
+scope \\_SB_
+device RTC_
+name _HID int 0bd041
+name _CRS buffer 47017000700001022200017900
+end
+device KBD_
+name _HID int 0303d041
+name _CRS buffer 470160006000010147016400640001012202007900
+end
+end
 smbios 03 00 00 02";
 
 const ACPI_TOLD: &str = "
@@ -38,7 +49,18 @@ top 04000000
 rsdp 424f43485320
 xsdt 01 424f43485320 4258504320202020 01 564d5442 01
 fadt 06 424f43485320 4258504320202020 01 564d5442 01 00 09 0608 01a5 05 0608 00
-facs 00 00 00 00 00 02 00";
+facs 00 00 00 00 00 02 00
+dsdt 02 424f43485320 4258504320202020 01 564d5442 01 terms
+scope \\_SB_
+device RTC_
+name _HID int 0bd041
+name _CRS buffer 47017000700001022200017900
+end
+device KBD_
+name _HID int 0303d041
+name _CRS buffer 470160006000010147016400640001012202007900
+end
+end";
 
 const SMBIOS_TOLD: &str = "
 top 04000000
@@ -67,7 +89,7 @@ static POWER: [Change; 8] = [
         "a FADT of 275 bytes",
         &[(FADT + 4, b"\x13")],
         &[FADT],
-        "acpi bad length 03000040",
+        "acpi bad length 030000d0",
     ),
     (
         "a structure of 3 bytes",
@@ -79,7 +101,7 @@ static POWER: [Change; 8] = [
         "a FADT of 275 bytes, and a structure of 3",
         &[(FADT + 4, b"\x13"), (STRUCTURES + 1, b"\x03")],
         &[FADT],
-        "acpi bad length 03000040",
+        "acpi bad length 030000d0",
     ),
 ];
 

@@ -1,13 +1,14 @@
 //! What a memory is walked as, in words.
 
 use crate::rsdp::has_rsdp;
+use crate::terms::push_block_terms;
 use crate::words::{
     push_entry, push_name, push_number, push_numbers, push_other_entry, push_text, told_fault,
 };
 use acpi_decode::{MemView, Walked, walk};
 use acpi_model::{
-    AcpiTables, ApicAffinity, Dsdt, Facs, Fadt, Head, HpetTable, Madt, MadtEntry, OtherTable, Slit,
-    Srat, SratEntry,
+    AcpiTables, ApicAffinity, Dsdt, Facs, Fadt, Head, HpetTable, Madt, MadtEntry, Mcfg,
+    McfgAllocation, OtherTable, Slit, Srat, SratEntry,
 };
 use std::alloc::Global;
 use std::fmt::Debug;
@@ -87,6 +88,9 @@ fn push_lists(told: &mut Bytes, tables: &AcpiTables) -> Result<(), OutOfMemory> 
     if let Some(slit) = &tables.slit {
         push_slit(told, slit)?;
     }
+    if let Some(mcfg) = &tables.mcfg {
+        push_mcfg(told, mcfg)?;
+    }
     if let Some(hpet) = &tables.hpet {
         push_hpet(told, hpet)?;
     }
@@ -138,9 +142,16 @@ fn push_facs(told: &mut Bytes, facs: &Facs) -> Result<(), OutOfMemory> {
 }
 
 fn push_dsdt(told: &mut Bytes, dsdt: &Dsdt) -> Result<(), OutOfMemory> {
-    let Dsdt::Foreign { head, length } = dsdt;
-    push_headed(told, b"dsdt", head)?;
-    push_number(told, u64::from(*length))
+    match dsdt {
+        Dsdt::Terms { head, terms } => {
+            push_headed(told, b"dsdt", head)?;
+            push_block_terms(told, terms.as_slice())
+        }
+        Dsdt::Foreign { head, length } => {
+            push_headed(told, b"dsdt", head)?;
+            push_number(told, u64::from(*length))
+        }
+    }
 }
 
 fn push_madt(told: &mut Bytes, madt: &Madt) -> Result<(), OutOfMemory> {
@@ -236,6 +247,26 @@ fn push_slit(told: &mut Bytes, slit: &Slit) -> Result<(), OutOfMemory> {
     push_headed(told, b"slit", &slit.head)?;
     push_number(told, slit.count)?;
     push_text(told, slit.distances.as_slice())
+}
+
+fn push_mcfg(told: &mut Bytes, mcfg: &Mcfg) -> Result<(), OutOfMemory> {
+    push_headed(told, b"mcfg", &mcfg.head)?;
+    for allocation in mcfg.allocations.as_slice() {
+        push_allocation(told, allocation)?;
+    }
+    Ok(())
+}
+
+fn push_allocation(told: &mut Bytes, allocation: &McfgAllocation) -> Result<(), OutOfMemory> {
+    push_name(told, b"allocation")?;
+    push_numbers(
+        told,
+        &[
+            allocation.base,
+            u64::from(allocation.segment),
+            u64::from(allocation.last_bus),
+        ],
+    )
 }
 
 fn push_hpet(told: &mut Bytes, hpet: &HpetTable) -> Result<(), OutOfMemory> {

@@ -7,11 +7,15 @@ mod borders;
 #[cfg(test)]
 mod built;
 #[cfg(test)]
+mod dsdt;
+#[cfg(test)]
 mod files;
 #[cfg(test)]
 mod interrupts;
 #[cfg(test)]
 mod longest;
+#[cfg(test)]
+mod mcfg;
 #[cfg(test)]
 mod nodes;
 #[cfg(test)]

@@ -134,12 +134,14 @@ const FIVE_BYTES: &[u8] = b"\x07\x07\x07\x07\x07\0\0\0\0\0\0\0\0\0\0\0";
 // The fields of a FACS that aren't zero, at their offsets: signature, length and version.
 static FACS_FIELDS: &[(usize, &[u8])] = &[(0, b"FACS"), (4, b"\x40\0\0\0"), (32, b"\x02")];
 
-// Those of that FADT, which leads to a FACS at 16.
+// Those of that FADT, which leads to a FACS at 16 and to a DSDT at 0x05060780.
 static FADT_FIELDS: &[(usize, &[u8])] = &[
     // signature, length and revision
     (0, b"FACP\x14\x01\0\0\x06"),
     // the maker, and the revisions
     (10, b"ACME  VMTABLE \x01\0\0\0VMTB\x01\0\0\0"),
+    // DSDT
+    (40, b"\x80\x07\x06\x05"),
     // the profile, and the interrupt
     (45, b"\x03\x02\x01"),
     // the ports of PM1a_EVT_BLK, PM1a_CNT_BLK, PM_TMR_BLK and GPE0_BLK
@@ -164,8 +166,9 @@ static FADT_FIELDS: &[(usize, &[u8])] = &[
     (128, b"\x0F"),
     // the minor version
     (131, b"\x05"),
-    // X_FIRMWARE_CTRL
+    // X_FIRMWARE_CTRL and X_DSDT
     (132, b"\x10\0\0\0\0\0\0\0"),
+    (140, b"\x80\x07\x06\x05\0\0\0\0"),
     // X_PM1a_EVT_BLK, X_PM1a_CNT_BLK, X_PM_TMR_BLK and X_GPE0_BLK
     (148, b"\x01\x20\0\x02\x04\x06\0\0\0\0\0\0"),
     (172, b"\x01\x10\0\x02\x08\x06\0\0\0\0\0\0"),
@@ -173,10 +176,12 @@ static FADT_FIELDS: &[(usize, &[u8])] = &[
     (220, b"\x01\x80\0\x01\x20\x06\0\0\0\0\0\0"),
 ];
 
-// Those of the FADT of a machine that has no more than it needs, with ports at the border, and which leads to a FACS at 0x01020340.
+// Those of the FADT of a machine that has no more than it needs, with ports at the border, and which leads to a FACS at 0x01020340 and to
+// a DSDT at 0x40000000.
 static LEAST_FIELDS: &[(usize, &[u8])] = &[
     (0, b"FACP\x14\x01\0\0\x06"),
     (10, b"BOCHS BXPC    \x01\0\0\0VMTB\x01\0\0\0"),
+    (40, b"\0\0\0\x40"),
     (56, b"\xFF\xFF\0\0"),
     (64, b"\x01\0\0\0"),
     (76, b"\0\x01\0\0"),
@@ -185,7 +190,7 @@ static LEAST_FIELDS: &[(usize, &[u8])] = &[
     (96, b"\xFF\x0F\xFF\x0F"),
     (112, b"\xA5\x01\0\0"),
     (131, b"\x05"),
-    (132, b"\x40\x03\x02\x01\0\0\0\0"),
+    (132, b"\x40\x03\x02\x01\0\0\0\0\0\0\0\x40\0\0\0\0"),
     (148, b"\x01\x20\0\x02\xFF\xFF\0\0\0\0\0\0"),
     (172, b"\x01\x10\0\x02\x01\0\0\0\0\0\0\0"),
     (208, b"\x01\x20\0\x03\0\x01\0\0\0\0\0\0"),
@@ -195,6 +200,7 @@ static LEAST_FIELDS: &[(usize, &[u8])] = &[
 static MOST_FIELDS: &[(usize, &[u8])] = &[
     (0, b"FACP\x14\x01\0\0\x06"),
     (10, b"BOCHS BXPC    \x01\0\0\0VMTB\x01\0\0\0"),
+    (40, b"\0\0\0\x40"),
     (45, b"\xFF\xFF\xFF"),
     (56, b"\xFF\xFF\0\0"),
     (64, b"\xFF\xFF\0\0"),
@@ -206,7 +212,7 @@ static MOST_FIELDS: &[(usize, &[u8])] = &[
     (112, b"\xA5\x05\0\0"),
     (116, b"\x01\x08\0\x01\xFF\xFF\0\0\0\0\0\0\xFF"),
     (131, b"\x05"),
-    (132, b"\x40\x03\x02\x01\0\0\0\0"),
+    (132, b"\x40\x03\x02\x01\0\0\0\0\0\0\0\x40\0\0\0\0"),
     (148, b"\x01\x20\0\x02\xFF\xFF\0\0\0\0\0\0"),
     (172, b"\x01\x10\0\x02\xFF\xFF\0\0\0\0\0\0"),
     (208, b"\x01\x20\0\x03\xFF\xFF\0\0\0\0\0\0"),
@@ -224,6 +230,7 @@ const LEAST: Power = Power {
     reset: 0,
     reset_value: 0,
     century: 0,
+    rtc: false,
     keyboard: false,
 };
 
@@ -238,6 +245,7 @@ const MOST: Power = Power {
     reset: 0xFFFF,
     reset_value: 0xFF,
     century: 0xFF,
+    rtc: true,
     keyboard: true,
 };
 
@@ -265,14 +273,14 @@ fn power_management_behind_five_bytes(rt: HostRuntime) -> Result<(), Fail> {
     told
 }
 
-// The FACS is at the next multiple of 16, and has no checksum; the FADT is behind it, and leads to it.
+// The FACS is at the next multiple of 16, and has no checksum; the FADT is behind it, and leads to it and to a DSDT.
 fn are_behind_five_bytes(
     rt: &impl Abort,
     alloc: Global,
     parts: &Parts,
     tables: &Name,
 ) -> Result<(), Fail> {
-    has_a_pointer(rt, parts.pointers.as_slice(), 212, tables);
+    has_pointers(rt, parts.pointers.as_slice(), 80, tables);
     has_a_sum(rt, parts.sums.as_slice(), 80);
     let bytes = parts.bytes.as_slice();
     if bytes.len() != 356 {
@@ -289,7 +297,7 @@ fn fadts_of_the_least_and_the_greatest_numbers(rt: HostRuntime) -> Result<(), Fa
     is_fadt(&rt, rt.alloc(), &MOST_MACHINE, MOST_FIELDS)
 }
 
-// The FADT of the machine, which leads to a FACS at 0x01020340, has these fields.
+// The FADT of the machine, which leads to a FACS at 0x01020340 and to a DSDT at 0x40000000, has these fields.
 fn is_fadt(
     rt: &impl Abort,
     alloc: Global,
@@ -300,23 +308,31 @@ fn is_fadt(
 {
     let tables = Name::of(TABLES_FILE)?;
     let parts = fadt_alone(alloc, sketch)?;
-    has_a_pointer(rt, parts.pointers.as_slice(), 132, &tables);
+    has_pointers(rt, parts.pointers.as_slice(), 0, &tables);
     has_a_sum(rt, parts.sums.as_slice(), 0);
     let told = are_fields(rt, alloc, parts.bytes.as_slice(), fields);
     drop(parts);
     told
 }
 
-// There is one pointer, of eight bytes at `place`, to a place in that file.
-fn has_a_pointer(rt: &impl Abort, pointers: &[PointerHole], place: u32, tables: &Name) {
+// There are three pointers to places in that file, of an FADT at `start`: DSDT, X_FIRMWARE_CTRL and X_DSDT.
+fn has_pointers(rt: &impl Abort, pointers: &[PointerHole], start: u32, tables: &Name) {
     match pointers {
-        [pointer] => is(
-            rt,
-            &(pointer.at, pointer.size, pointer.target),
-            &(place, 8, *tables),
-        ),
-        _ => panic!(rt; "another number of pointers than one"),
+        [dsdt, x_firmware_ctrl, x_dsdt] => {
+            is_pointer(rt, dsdt, start.saturating_add(40), 4, tables);
+            is_pointer(rt, x_firmware_ctrl, start.saturating_add(132), 8, tables);
+            is_pointer(rt, x_dsdt, start.saturating_add(140), 8, tables);
+        }
+        _ => panic!(rt; "another number of pointers than three"),
     }
+}
+
+fn is_pointer(rt: &impl Abort, pointer: &PointerHole, place: u32, size: u8, tables: &Name) {
+    is(
+        rt,
+        &(pointer.at, pointer.size, pointer.target),
+        &(place, size, *tables),
+    );
 }
 
 // There is one sum, over a table of 276 bytes at `start`.
@@ -388,7 +404,7 @@ fn append_both(blob: &mut Blob, machine: &Machine) -> Result<(), Fail>
         return Err(Fail::from("a machine that breaks a rule"));
     }
     let facs = append_facs(blob)?;
-    append_fadt(blob, machine, facs)?;
+    append_fadt(blob, machine, facs, 0x0506_0780)?;
     Ok(())
 }
 
@@ -417,7 +433,7 @@ fn append_to_facs(blob: &mut Blob, machine: &Machine) -> Result<(), Fail>
     if machine.check().is_err() {
         return Err(Fail::from("a machine that breaks a rule"));
     }
-    append_fadt(blob, machine, 0x0102_0340)?;
+    append_fadt(blob, machine, 0x0102_0340, 0x4000_0000)?;
     Ok(())
 }
 

@@ -3,7 +3,7 @@
 
 use crate::built::{inventory_of_sketch, is};
 use crate::power::{FACS, FADT};
-use acpi_model::{AcpiTables, GenericAddress, Head, HpetTable, head_of, hpet_of};
+use acpi_model::{AcpiTables, Dsdt, GenericAddress, Head, HpetTable, head_of, hpet_of};
 use fixtures::{FULL_MACHINE, HPET, Sketch, acpi};
 use machine_desc::Acpi;
 use smbios_model::{Body, SmbiosTable, Structure, SystemInfo, uuid_field};
@@ -130,7 +130,7 @@ fn are_the_acpi_tables(rt: &impl Abort, tables: &AcpiTables) {
     is(rt, &tables.xsdt, &HEAD);
     is(rt, &tables.fadt, &Some(FADT));
     is(rt, &tables.facs, &Some(FACS));
-    is(rt, &tables.dsdt, &None);
+    assert!(rt; matches!(tables.dsdt, Some(Dsdt::Terms { .. })));
     is(rt, &tables.hpet, &Some(HPET_TABLE));
     is(rt, &tables.others.len(), &0);
 }

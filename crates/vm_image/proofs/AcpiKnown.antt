@@ -125,4 +125,5 @@ pub acpi_known : (m : Machine) (maker : Option Acpi) → IsAccepted m → HasFit
 acpi_known m None accepted fit is = tt
 acpi_known m (Some acpi) accepted fit is =
     let fits : FitsHead acpi = accepted_fits m acpi accepted is in
-    known_image acpi (tables_begin m) (tables_of m acpi) fits (may_begin m) (machine_can m acpi fits fit accepted) (tables_few m acpi accepted)
+    known_image acpi (tables_begin m acpi) (tables_of m acpi) fits (may_begin m acpi accepted fits) (machine_can m acpi fits fit accepted)
+    (tables_few m acpi accepted fits)

@@ -1,21 +1,35 @@
 -- What the file of a machine's tables begins with.
-use Rattle.std.proofs.Common.{ℕ, ◌+◌, ◌≤◌, List, [], length, Option, Some, None, IsSome, arith, rules}
+use Rattle.std.proofs.Common.{◌≡◌, ℕ, ◌+◌, ◌^◌, ◌<◌, ◌≤◌, List, [], length, codes, Option, Some, None, IsSome, inl, arith, rules, refl, ap, sym, subst, append-nil}
+use Rattle.std.specs.Int.{next_multiple_of}
 use Rattle.std.specs.List.{AllByRecursion}
 use Rattle.vt_bytes.specs.View.{View}
+use Rattle.vt_layout.specs.Rows.{size}
 use Rattle.machine_desc.specs.declared.machine.Machine.{Machine}
+use Rattle.machine_desc.specs.declared.machine.Acpi.{Acpi}
 use Rattle.machine_desc.specs.declared.acpi_parts.Power.{Power}
+use Rattle.machine_desc.specs.Rules.{IsAccepted}
+use Rattle.machine_desc.specs.Fields.{HasFittingFields}
+use Rattle.aml_terms.specs.Trees.{views}
+use Rattle.aml_terms.specs.Grammar.{Aml}
+use Rattle.dsdt_terms.specs.Dsdt.{dsdt_terms, dsdt_bytes, dsdt_body}
+use Rattle.dsdt_terms.proofs.MachineTerms.{few_bytes, terms_spelled}
+use Rattle.acpi_records.specs.Header.{FitsHead, head_of}
 use Rattle.acpi_records.specs.Facs.{facs_rows, initial_facs, IsFacs}
 use Rattle.acpi_model.specs.Kinds.{tables_name}
-use Rattle.acpi_model.specs.Acpi.{facs_place}
-use Rattle.blob_holes.specs.Blob.{BlobState, IsBlob}
+use Rattle.acpi_model.specs.Found.{IsDsdt, dsdt_rows}
+use Rattle.acpi_model.specs.Acpi.{facs_place, dsdt_place, dsdt_of}
+use Rattle.acpi_model.proofs.Headers.{head_fits}
+use Rattle.blob_holes.specs.Blob.{BlobState, IsBlob, next_place}
 use Rattle.blob_holes.specs.Rows.{AreRows}
 use Rattle.blob_holes.specs.Grown.{Extends, IsLinkable}
 use Rattle.blob_holes.specs.Held.{HoldsFilled}
 use Rattle.blob_holes.proofs.RowsKept.{layout_kept}
 use Rattle.acpi_append.specs.FacsPut.{with_facs, IsFacsPut}
-use Rattle.acpi_append.proofs.FileTables.{facs_appended}
+use Rattle.acpi_append.specs.DsdtPut.{with_dsdt, IsDsdtPut}
+use Rattle.acpi_append.proofs.FileTables.{table_fits, facs_appended, dsdt_appended}
 use Rattle.image_files.specs.Files.{whole}
 use Rattle.vm_image.specs.Image.{begin_of, tables_begin}
+use Rattle.vm_image.proofs.Grown.{extends_twice}
 use Rattle.vm_image.proofs.Whole.{whole_kept, whole_linkable}
 use Rattle.vm_image.proofs.Targets.{HoleLeads}
 
@@ -37,25 +51,76 @@ facs_fits = record { each = search rules; sums = search rules }
 facs_begins : IsFacsPut (whole []) (with_facs (whole []) initial_facs) initial_facs
 facs_begins = facs_appended (whole []) (whole_kept [] (omega arith)) initial_facs facs_fits (omega arith)
 
-begin_may : (power : Option Power) → MayBegin (begin_of power)
-begin_may None = record { blob = whole_kept [] (omega arith); linkable = whole_linkable []; few = omega arith; leads = tt }
-begin_may (Some power) = record {
-  blob = layout_kept 16 (whole []) (facs_rows initial_facs) (whole_kept [] (omega arith)) facs_fits (omega arith);
-  linkable = facs_begins.appended.linkable (whole_linkable []);
-  few = omega (arith, facs_begins.appended.size_is);
-  leads = tt;
-}
+-- behind the FACS is room for the DSDT, which stands at once behind it
+facs_file : BlobState
+facs_file = with_facs (whole []) initial_facs
 
--- a machine's tables may stand behind what their file begins with
-pub may_begin : (m : Machine) → MayBegin (tables_begin m)
-may_begin m = begin_may m.power
+facs_kept : IsBlob facs_file
+unfolding facs_file
+facs_kept = layout_kept 16 (whole []) (facs_rows initial_facs) (whole_kept [] (omega arith)) facs_fits (omega arith)
 
--- where the machine has a FACS, it stands where the file begins
-facs_stands_with : (power : Option Power) (view : View) (place_of : List ℕ → ℕ) (file : BlobState) → Extends (begin_of power) file
-    → HoldsFilled view (place_of tables_name) file place_of → IsSome power → IsFacs view (place_of tables_name + facs_place) initial_facs
-facs_stands_with None view place_of file grown held some = absurd (cc)
-facs_stands_with (Some power) view place_of file grown held some = facs_begins.shown file view (place_of tables_name) place_of grown held
+behind_facs : next_place 16 facs_file ≡ dsdt_place
+unfolding facs_file
+behind_facs =
+    let size : length facs_file.bytes ≡ 64 = facs_begins.appended.size_is in
+    ap (λ n. next_multiple_of n 16) size
 
-pub facs_stands : (m : Machine) (view : View) (place_of : List ℕ → ℕ) (file : BlobState) → Extends (tables_begin m) file
-    → HoldsFilled view (place_of tables_name) file place_of → IsSome m.power → IsFacs view (place_of tables_name + facs_place) initial_facs
-facs_stands m = facs_stands_with m.power
+-- the DSDT of an accepted machine can be put there
+module _ (m : Machine) (acpi : Acpi) (accepted : IsAccepted m) (fits : FitsHead acpi) where
+  dsdt_file : BlobState
+  dsdt_file = with_dsdt facs_file (head_of acpi 2) (dsdt_body m)
+
+  dsdt_fits : AreRows (dsdt_rows (head_of acpi 2) (dsdt_body m))
+  dsdt_fits =
+      table_fits (codes "DSDT") (head_of acpi 2) (dsdt_body m) refl (omega (arith, few_bytes m accepted)) (head_fits acpi 2 fits (omega arith)) (refl, tt)
+      (tt, tt)
+
+  dsdt_short : next_place 16 facs_file + size (dsdt_rows (head_of acpi 2) (dsdt_body m)) < 2 ^ 32
+  dsdt_short = omega (arith, behind_facs, few_bytes m accepted)
+
+  dsdt_begins : IsDsdtPut facs_file dsdt_file (head_of acpi 2) (dsdt_body m)
+  unfolding dsdt_file
+  dsdt_begins = dsdt_appended facs_file facs_kept (head_of acpi 2) (dsdt_body m) dsdt_fits (tt, tt) dsdt_short
+
+  begin_with : MayBegin dsdt_file
+  unfolding facs_file dsdt_file
+  begin_with = record {
+    blob = layout_kept 16 facs_file (dsdt_rows (head_of acpi 2) (dsdt_body m)) facs_kept dsdt_fits dsdt_short;
+    linkable = dsdt_begins.appended.linkable (facs_begins.appended.linkable (whole_linkable []));
+    few = omega (arith, dsdt_begins.appended.size_is, behind_facs, few_bytes m accepted);
+    leads = tt;
+  }
+
+  begin_may : (power : Option Power) → MayBegin (begin_of m acpi power)
+  unfolding facs_file dsdt_file
+  begin_may None = record { blob = whole_kept [] (omega arith); linkable = whole_linkable []; few = omega arith; leads = tt }
+  begin_may (Some power) = begin_with
+
+  -- a machine's tables may stand behind what their file begins with
+  pub may_begin : MayBegin (tables_begin m acpi)
+  may_begin = begin_may m.power
+
+  -- where the machine has power management, its FACS stands where the file begins, and its DSDT behind it
+  module _ (view : View) (place_of : List ℕ → ℕ) (file : BlobState) (held : HoldsFilled view (place_of tables_name) file place_of) where
+    facs_stands_with : (power : Option Power) → Extends (begin_of m acpi power) file → IsSome power
+        → IsFacs view (place_of tables_name + facs_place) initial_facs
+    unfolding facs_file dsdt_file
+    facs_stands_with None grown some = absurd (cc)
+    facs_stands_with (Some power) grown some =
+        facs_begins.shown file view (place_of tables_name) place_of (extends_twice facs_file dsdt_file file dsdt_begins.appended.grown grown) held
+
+    dsdt_stands_with : (power : Option Power) → HasFittingFields m → Extends (begin_of m acpi power) file → IsSome power
+        → IsDsdt view (place_of tables_name + dsdt_place) (dsdt_of m acpi)
+    unfolding facs_file dsdt_file
+    dsdt_stands_with None fit grown some = absurd (cc)
+    dsdt_stands_with (Some power) fit grown some =
+        subst (λ place. IsDsdt view (place_of tables_name + place) (dsdt_of m acpi)) behind_facs
+        (dsdt_begins.shown file view (place_of tables_name) place_of grown held (dsdt_terms m) (inl (tt, tt))
+        (subst (Aml (views (dsdt_terms m))) (sym (append-nil (dsdt_bytes m))) (terms_spelled m accepted fit)))
+
+    pub facs_stands : Extends (tables_begin m acpi) file → IsSome m.power → IsFacs view (place_of tables_name + facs_place) initial_facs
+    facs_stands = facs_stands_with m.power
+
+    pub dsdt_stands : HasFittingFields m → Extends (tables_begin m acpi) file → IsSome m.power
+        → IsDsdt view (place_of tables_name + dsdt_place) (dsdt_of m acpi)
+    dsdt_stands = dsdt_stands_with m.power

@@ -6,6 +6,7 @@ use Rattle.loader_script.specs.declared.entry.Entry.{Entry}
 use Rattle.cfg_directory.specs.declared.item.Item.{Item}
 use Rattle.machine_desc.specs.declared.machine.Machine.{Machine}
 use Rattle.machine_desc.specs.Rules.{IsAccepted}
+use Rattle.machine_desc.specs.Fields.{HasFittingFields}
 use Rattle.smbios_model.specs.MachineStructures.{structures_of}
 use Rattle.smbios_model.specs.Smbios.{AreStructures}
 use Rattle.image_files.specs.declared.image.Image.{Image}
@@ -38,9 +39,9 @@ loaded_anywhere m accepted known places are =
     (links (image_files m) linkable) (begins_with (image_files m) [] (image_distinct m) (image_has_no_loader m)) are
 
 -- what is promised of the image holds
-pub built : (m : Machine) (items : List Item) (script : List Entry) → IsAccepted m → AreStructures (structures_file m) (structures_of m)
+pub built : (m : Machine) (items : List Item) (script : List Entry) → IsAccepted m → HasFittingFields m → AreStructures (structures_file m) (structures_of m)
     → AreAcpiKnown m m.acpi → items ≡ image_items m → script ≡ image_script m → IsBuilt m items script
-built m items script accepted read known items_are script_is =
+built m items script accepted fit read known items_are script_is =
     let bounds : Lawful m = lawful m accepted in
     let linkable = image_linkable m accepted known in
     record {
@@ -52,17 +53,17 @@ built m items script accepted read known items_are script_is =
       linkable = linkable;
       room = have_room (top_of m) (image_files m) (omega arith) (image_small m accepted known);
       loaded = loaded_anywhere m accepted known;
-      shown = image_shows m accepted read known;
+      shown = image_shows m accepted fit read known;
     }
 
 -- it is the image that was linked of its files, where one was
-pub image_built : (m : Machine) (files : List ImageFile) (r : Result Image ImageBuildFault) → IsAccepted m
+pub image_built : (m : Machine) (files : List ImageFile) (r : Result Image ImageBuildFault) → IsAccepted m → HasFittingFields m
     → AreStructures (structures_file m) (structures_of m) → AreAcpiKnown m m.acpi → files ≡ image_files m
     → IfOk r (λ image. image.items ≡ items_of files []) → IfOk r (λ image. image.script ≡ script_of files [])
     → IfOk r (λ image. IsBuilt m image.items image.script)
-image_built m files (Err fault) accepted read known files_are items_are script_is = tt
-image_built m files (Ok image) accepted read known files_are items_are script_is =
-    built m image.items image.script accepted read known (items_are ∙ ap (λ those. items_of those []) files_are)
+image_built m files (Err fault) accepted fit read known files_are items_are script_is = tt
+image_built m files (Ok image) accepted fit read known files_are items_are script_is =
+    built m image.items image.script accepted fit read known (items_are ∙ ap (λ those. items_of those []) files_are)
     (script_is ∙ ap (λ those. script_of those []) files_are)
 
 -- the files are those of a machine, once its ACPI tables and its structures were added

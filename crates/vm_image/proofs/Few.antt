@@ -4,6 +4,7 @@ use Rattle.vt_layout.specs.Rows.{size}
 use Rattle.machine_desc.specs.declared.machine.Machine.{Machine}
 use Rattle.machine_desc.specs.declared.machine.Acpi.{Acpi}
 use Rattle.machine_desc.specs.Rules.{IsAccepted}
+use Rattle.acpi_records.specs.Header.{FitsHead}
 use Rattle.acpi_model.specs.declared.acpi.Table.{Table}
 use Rattle.acpi_model.specs.Kinds.{rows_behind}
 use Rattle.acpi_model.specs.Xsdt.{most_entries}
@@ -28,8 +29,8 @@ pub few_by_sizes : (begin : BlobState) (tables : List Table) → length tables �
 few_by_sizes begin tables number bytes = record { number = number; bytes = omega (arith, bytes, most_by_sizes tables) }
 
 -- those of an accepted machine, which are as many as its parts at most
-pub tables_few : (m : Machine) (acpi : Acpi) → IsAccepted m → AreFew (tables_begin m) (tables_of m acpi)
-tables_few m acpi accepted =
+pub tables_few : (m : Machine) (acpi : Acpi) → IsAccepted m → FitsHead acpi → AreFew (tables_begin m acpi) (tables_of m acpi)
+tables_few m acpi accepted fits =
     let number = length-present (parts_of m acpi) in
-    few_by_sizes (tables_begin m) (tables_of m acpi) (omega (arith, number))
-    (omega (arith, number, (may_begin m).few, machine_bytes m acpi accepted))
+    few_by_sizes (tables_begin m acpi) (tables_of m acpi) (omega (arith, number))
+    (omega (arith, number, (may_begin m acpi accepted fits).few, machine_bytes m acpi accepted))

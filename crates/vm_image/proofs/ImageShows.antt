@@ -7,6 +7,7 @@ use Rattle.vt_bytes.specs.Memory.{seen}
 use Rattle.vt_bytes.proofs.Each.{each_append, each_front, each_back}
 use Rattle.machine_desc.specs.declared.machine.Machine.{Machine}
 use Rattle.machine_desc.specs.Rules.{IsAccepted}
+use Rattle.machine_desc.specs.Fields.{HasFittingFields}
 use Rattle.smbios_model.specs.MachineStructures.{structures_of}
 use Rattle.smbios_model.specs.Smbios.{AreStructures}
 use Rattle.loader_script.specs.Run.{place_of as place_in}
@@ -26,8 +27,8 @@ use Rattle.vm_image.proofs.SmbiosStands.{smbios_clear_of_rsdps, smbios_clear_of_
 use Rattle.vm_image.proofs.AcpiStands.{acpi_clear_of_anchors, acpi_shown}
 
 -- a memory that holds a machine's files shows the machine
-pub image_shows : (m : Machine) → IsAccepted m → AreStructures (structures_file m) (structures_of m) → AreAcpiKnown m m.acpi → IsShownAnywhere m
-image_shows m accepted read known places placed memory lawful_places linked top held =
+pub image_shows : (m : Machine) → IsAccepted m → HasFittingFields m → AreStructures (structures_file m) (structures_of m) → AreAcpiKnown m m.acpi → IsShownAnywhere m
+image_shows m accepted fit read known places placed memory lawful_places linked top held =
     let bounds : Lawful m = lawful m accepted in
     let few : length (structures_file m) ≤ 262144 = (structures_size m accepted).1 in
     let high : 0x4000000 ≤ memory.top = omega (arith, top) in
@@ -50,7 +51,7 @@ image_shows m accepted read known places placed memory lawful_places linked top 
           (acpi_clear_of_anchors memory (place_in placed) high m m.acpi (place_in placed anchor_name) (omega arith) known acpi_stand)
           (smbios_clear_of_anchors memory (place_in placed) high (structures_file m) smbios_stand) other (omega arith)
           (anchor_marked memory (place_in placed anchor_name) other below has));
-      acpi = acpi_shown memory (place_in placed) high m m.acpi refl accepted known acpi_stand
+      acpi = acpi_shown memory (place_in placed) high m m.acpi refl accepted fit known acpi_stand
           (λ limit within clear other below has. none (rsdp_mark limit) (λ same. absurd (omega (arith, same))) within clear
           (smbios_clear_of_rsdps memory (place_in placed) high (structures_file m) limit (omega arith) within smbios_stand) other has.2.from
           (rsdp_marked memory limit other below has));

@@ -17,6 +17,7 @@ use Rattle.vm_image.proofs.StructuresSize.{structures_size}
 use Rattle.vm_image.proofs.Whole.{whole_kept, whole_linkable}
 use Rattle.vm_image.proofs.Anchor.{anchor_kept, anchor_linkable}
 use Rattle.vm_image.proofs.DistinctNames.{image_distinct}
+use Rattle.acpi_model.proofs.AcceptedAcpi.{accepted_fits}
 use Rattle.acpi_model.proofs.MachineTables.{machine_writable}
 use Rattle.vm_image.proofs.Targets.{HoleLeads, tables_lead, rsdp_leads}
 use Rattle.vm_image.proofs.Begin.{may_begin}
@@ -77,15 +78,15 @@ smbios_lead : (structures : List ℕ) → AllByRecursion (LeadsAmong (smbios_pla
 smbios_lead structures = (tt, ((inl (refl, refl), tt), tt))
 
 -- each of the files of an accepted machine's ACPI tables leads to that of the tables
-acpi_lead : (m : Machine) (maker : Option Acpi) → IsAccepted m → AllByRecursion (LeadsAmong (acpi_part m maker)) (acpi_part m maker)
-acpi_lead m None accepted = tt
-acpi_lead m (Some acpi) accepted =
-    let files = acpi_files acpi (tables_begin m) (tables_of m acpi) in
+acpi_lead : (m : Machine) (maker : Option Acpi) → m.acpi ≡ maker → IsAccepted m → AllByRecursion (LeadsAmong (acpi_part m maker)) (acpi_part m maker)
+acpi_lead m None is accepted = tt
+acpi_lead m (Some acpi) is accepted =
+    let files = acpi_files acpi (tables_begin m acpi) (tables_of m acpi) in
     let Leads = λ (hole : PointerHole). IsPlacedName (acpi_placed files) hole.target in (
       each_weaker HoleLeads Leads (λ hole leads. inl (sym leads, refl)) files.tables.pointers
-          (tables_lead acpi (tables_begin m) (tables_of m acpi) (may_begin m).leads (machine_writable m acpi accepted)),
+          (tables_lead acpi (tables_begin m acpi) (tables_of m acpi) (may_begin m acpi accepted (accepted_fits m acpi accepted is)).leads (machine_writable m acpi accepted)),
       (
-        each_weaker HoleLeads Leads (λ hole leads. inl (sym leads, refl)) files.rsdp.pointers (rsdp_leads acpi (tables_begin m) (tables_of m acpi)),
+        each_weaker HoleLeads Leads (λ hole leads. inl (sym leads, refl)) files.rsdp.pointers (rsdp_leads acpi (tables_begin m acpi) (tables_of m acpi)),
         tt,
       ),
     )
@@ -98,5 +99,5 @@ image_linkable m accepted known =
       distinct = image_distinct m;
       each = each_append IsLinkableFile (acpi_part m m.acpi) (smbios_placed (structures_file m)) (acpi_each m m.acpi known)
           (smbios_each (structures_file m) size.0 (omega (arith, size.1)));
-      leads = lead_append (acpi_part m m.acpi) (smbios_placed (structures_file m)) (acpi_lead m m.acpi accepted) (smbios_lead (structures_file m));
+      leads = lead_append (acpi_part m m.acpi) (smbios_placed (structures_file m)) (acpi_lead m m.acpi refl accepted) (smbios_lead (structures_file m));
     }

@@ -14,7 +14,7 @@ use Rattle.vm_image.proofs.Built.{built}
 -- its items and its script are one
 pub has_image : (m : Machine) → IsAccepted m → HasFittingFields m → IsBuilt m (image_items m) (image_script m)
 has_image m accepted fit =
-    built m (image_items m) (image_script m) accepted (accepted_read m accepted fit) (acpi_known m m.acpi accepted fit refl) refl refl
+    built m (image_items m) (image_script m) accepted fit (accepted_read m accepted fit) (acpi_known m m.acpi accepted fit refl) refl refl
 
 -- and any is this one
 pub only_image : (m : Machine) (items : List Item) (script : List Entry) → IsBuilt m items script → (items ≡ image_items m) × (script ≡ image_script m)

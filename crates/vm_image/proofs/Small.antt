@@ -1,10 +1,11 @@
 -- The files of a machine are few and small.
-use Rattle.std.proofs.Common.{ℕ, ◌≤◌, List, length, Option, Some, None, arith}
+use Rattle.std.proofs.Common.{◌≡◌, ℕ, ◌≤◌, List, length, Option, Some, None, arith, refl}
 use Rattle.std.specs.List.{AllByRecursion}
 use Rattle.vt_bytes.proofs.Each.{each_append}
 use Rattle.machine_desc.specs.declared.machine.Machine.{Machine}
 use Rattle.machine_desc.specs.declared.machine.Acpi.{Acpi}
 use Rattle.machine_desc.specs.Rules.{IsAccepted}
+use Rattle.acpi_model.proofs.AcceptedAcpi.{accepted_fits}
 use Rattle.image_files.specs.Room.{IsSmall, AreSmall}
 use Rattle.vm_image.specs.Image.{acpi_part, smbios_placed, structures_file, image_files}
 use Rattle.vm_image.specs.AcpiHeld.{AreAcpiKnown}
@@ -13,10 +14,10 @@ use Rattle.vm_image.proofs.DistinctNames.{image_few}
 use Rattle.vm_image.proofs.StructuresSize.{structures_size}
 
 -- the files of an accepted machine's ACPI tables, where there are some, are small
-acpi_small : (m : Machine) (maker : Option Acpi) → IsAccepted m → AreAcpiKnown m maker → AllByRecursion IsSmall (acpi_part m maker)
-acpi_small m None accepted known = tt
-acpi_small m (Some acpi) accepted known = (
-  (omega arith, omega (arith, known.tables_file.few, (tables_few m acpi accepted).bytes)),
+acpi_small : (m : Machine) (maker : Option Acpi) → m.acpi ≡ maker → IsAccepted m → AreAcpiKnown m maker → AllByRecursion IsSmall (acpi_part m maker)
+acpi_small m None is accepted known = tt
+acpi_small m (Some acpi) is accepted known = (
+  (omega arith, omega (arith, known.tables_file.few, (tables_few m acpi accepted (accepted_fits m acpi accepted is)).bytes)),
   ((omega arith, omega (arith, known.rsdp_size)), tt),
 )
 
@@ -28,6 +29,6 @@ smbios_small structures few = ((omega arith, omega arith), ((omega arith, omega 
 pub image_small : (m : Machine) → IsAccepted m → AreAcpiKnown m m.acpi → AreSmall (image_files m)
 image_small m accepted known = record {
   few = image_few m;
-  each = each_append IsSmall (acpi_part m m.acpi) (smbios_placed (structures_file m)) (acpi_small m m.acpi accepted known)
+  each = each_append IsSmall (acpi_part m m.acpi) (smbios_placed (structures_file m)) (acpi_small m m.acpi refl accepted known)
       (smbios_small (structures_file m) (structures_size m accepted).1);
 }

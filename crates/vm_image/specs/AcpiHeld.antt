@@ -73,4 +73,4 @@ pub record IsAcpiImage (acpi : Acpi) (begin : BlobState) (tables : List Table) (
 -- all is known of the files of the ACPI tables, where there are some
 abbrev pub AreAcpiKnown : Machine → Option Acpi → Type 0
 AreAcpiKnown m maker =
-    IfSome maker (λ acpi. IsAcpiImage acpi (tables_begin m) (tables_of m acpi) (acpi_files acpi (tables_begin m) (tables_of m acpi)))
+    IfSome maker (λ acpi. IsAcpiImage acpi (tables_begin m acpi) (tables_of m acpi) (acpi_files acpi (tables_begin m acpi) (tables_of m acpi)))

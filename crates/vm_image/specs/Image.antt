@@ -10,6 +10,8 @@ use Rattle.blob_holes.specs.Rows.{with_rows}
 use Rattle.acpi_model.specs.Kinds.{tables_name as acpi_tables_name}
 use Rattle.acpi_records.specs.Facs.{initial_facs}
 use Rattle.acpi_append.specs.FacsPut.{with_facs}
+use Rattle.acpi_append.specs.DsdtPut.{with_dsdt}
+use Rattle.dsdt_terms.specs.Dsdt.{dsdt_body}
 use Rattle.acpi_append.specs.Tables.{with_table, with_xsdt, with_rsdp}
 use Rattle.smbios_build.specs.Spelling.{structures_bytes}
 use Rattle.acpi_model.specs.declared.acpi.Table.{Table}
@@ -63,13 +65,14 @@ acpi_files acpi begin tables = record {
   tables = with_xsdt (with_tables begin tables) (head_of acpi 1) (places_in begin tables);
 }
 
--- What a machine's file of tables begins with, in front of those that its XSDT names: with the FACS, where it has power management.
-abbrev pub begin_of : Option Power → BlobState
-begin_of None = whole []
-begin_of (Some power) = with_facs (whole []) initial_facs
+-- What a machine's file of tables begins with, in front of those that its XSDT names: with the FACS and the DSDT, where it has power
+-- management.
+abbrev pub begin_of : Machine → Acpi → Option Power → BlobState
+begin_of m acpi None = whole []
+begin_of m acpi (Some power) = with_dsdt (with_facs (whole []) initial_facs) (head_of acpi 2) (dsdt_body m)
 
-abbrev pub tables_begin : Machine → BlobState
-tables_begin m = begin_of m.power
+abbrev pub tables_begin : Machine → Acpi → BlobState
+tables_begin m acpi = begin_of m acpi m.power
 
 -- The tables of each kind go to high memory, and what leads to them to the F segment, where a guest looks for it (ACPI 6.5, 5.2.5.1;
 -- DSP0134, 5.2.2).
@@ -79,7 +82,7 @@ acpi_placed files = placed_file acpi_tables_name files.tables High 64 ∷ placed
 -- the files of a machine's ACPI tables, where it has some
 abbrev pub acpi_part : Machine → Option Acpi → List ImageFile
 acpi_part m None = []
-acpi_part m (Some acpi) = acpi_placed (acpi_files acpi (tables_begin m) (tables_of m acpi))
+acpi_part m (Some acpi) = acpi_placed (acpi_files acpi (tables_begin m acpi) (tables_of m acpi))
 
 -- the file of a machine's structures
 abbrev pub structures_file : Machine → List ℕ

@@ -1,6 +1,6 @@
 //! The files of a machine's ACPI tables.
 
-ghost use Rattle.std.specs.Prelude.{◌≡◌, ◌++◌, IfOk, OnOk};
+ghost use Rattle.std.specs.Prelude.{◌≡◌, ◌++◌, Some, IfOk, OnOk};
 ghost use Rattle.std.specs.List.{AllByRecursion};
 ghost use Rattle.machine_desc.specs.Rules.{IsAccepted};
 ghost use Rattle.acpi_model.specs.Header.{FitsHead, head_of};
@@ -14,6 +14,7 @@ use crate::names::{acpi_tables_name, rsdp_name};
 use crate::placed::placed_file;
 use acpi_append::{put_facs, put_rsdp, put_table, put_xsdt};
 use acpi_model::{Head, Table, head_of, initial_facs, tables_of};
+use aml_devices::append_dsdt;
 use blob_holes::{Blob, Parts};
 use image_files::ImageFile;
 use machine_desc::{Acpi, Machine};
@@ -53,7 +54,7 @@ pub(crate) fn push_acpi(
     match &machine.acpi {
         Some(acpi) => {
             let tables = tables_of(alloc, machine, acpi)?;
-            let begin = begin_tables(alloc, machine)?;
+            let begin = begin_tables(alloc, machine, acpi)?;
             push_placed(files, files_of(alloc, begin, acpi, tables.as_slice())?)
         }
         None => Ok(()),
@@ -71,13 +72,16 @@ fn push_placed(files: &mut Vec<ImageFile>, acpi: AcpiFiles) -> Result<(), OutOfM
     Ok(())
 }
 
-// What the file of the tables of `machine` begins with, in front of those that its XSDT names.
-fn begin_tables(alloc: Global, machine: &Machine) -> Result<Blob, OutOfMemory>
-    ensures { IfOk result (λ file. file ≡ tables_begin machine.now) }
+// What the file of the tables of `machine`, which is accepted, begins with, in front of those that its XSDT names. `acpi` is their maker.
+fn begin_tables(alloc: Global, machine: &Machine, acpi: &Acpi) -> Result<Blob, OutOfMemory>
+    requires accepted { IsAccepted machine.now }
+    requires maker { machine.now.acpi ≡ Some acpi.now }
+    ensures { IfOk result (λ file. file ≡ tables_begin machine.now acpi.now) }
 {
     let mut file = Blob::new(alloc);
     if machine.power.is_some() {
         put_facs(&mut file, &initial_facs())?;
+        append_dsdt(&mut file, machine)?;
     }
     Ok(file)
 }

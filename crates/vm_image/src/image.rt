@@ -10,6 +10,7 @@ use crate::acpi::push_acpi;
 use crate::smbios::push_smbios;
 use image_files::{Image, ImageBuildFault, link};
 use machine_desc::Machine;
+use machine_desc::laws::numbers_of_a_machine_fit;
 use std::alloc::Global;
 
 /// Builds the image of `machine`, which is accepted: its files, and the script that places and links them, in memory from
@@ -27,6 +28,7 @@ pub fn image_of(alloc: Global, machine: &Machine, order: u64) -> Result<Image, I
     ensures large { IfErr result (λ fault. fault ≡ ImageTooLarge → image_limit < total_size (image_items machine.now)) }
 {
     let _ = order;
+    numbers_of_a_machine_fit(machine);
     let mut files = Vec::new(alloc);
     push_acpi(alloc, &mut files, machine)?;
     push_smbios(alloc, &mut files, machine)?;

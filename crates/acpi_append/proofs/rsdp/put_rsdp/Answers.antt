@@ -1,4 +1,4 @@
-use Rattle.std.proofs.Common.{◌≡◌, ℕ, List, [], ◌∷◌, ◌++◌, arith, ap, subst, sym, ◌∙◌, append-nil}
+use Rattle.std.proofs.Common.{◌≡◌, ℕ, List, [], ◌++◌, arith, ap, subst, sym, ◌∙◌, append-nil, refl}
 use Rattle.std.specs.List.{AllByRecursion}
 use Rattle.vt_layout.specs.declared.row.Row.{Row}
 use Rattle.vt_layout.specs.Rows.{IsRow, size, linked}
@@ -6,9 +6,7 @@ use Rattle.vt_layout.specs.Shown.{LayoutShown}
 use Rattle.vt_layout.proofs.Shows.{shown_rows}
 use Rattle.acpi_model.specs.Rsdp.{rsdp_rows}
 use Rattle.blob_holes.specs.Rows.{SumsFit, AreRows}
-use Rattle.blob_holes.specs.Plain.{bytes_row}
 use Rattle.blob_holes.specs.Appended.{IsAppended}
-use Rattle.blob_holes.proofs.Spelled.{no_rows, without_bytes}
 use Rattle.acpi_append.specs.Tables.{IsRsdpPut, table_pointer}
 use Rattle.acpi_append.proofs.Tables.{sixteen}
 use Rattle.acpi_append.proofs.Puts.{put_where_held}
@@ -26,10 +24,11 @@ sums oem_id xsdt row rows are is =
 pub append_layout-requires-clause-rows : goal.append_layout-requires-clause-rows
 append_layout-requires-clause-rows c =
     let rows = c.rsdp_rows.result in
-    subst (λ all. AreRows (all ++ bytes_row [] ∷ [])) (sym (append-nil rows)) (without_bytes rows (record {
+    let are : rows ++ [] ++ [] ≡ rows = append-nil (rows ++ []) ∙ append-nil rows in
+    subst AreRows (sym are) (record {
       each = c.rsdp_rows.ensures.fit;
       sums = sums c.args.oem_id.now _ c.table_pointer.result rows c.rsdp_rows.ensures.rows c.table_pointer.ensures.row;
-    }))
+    })
 
 pub returns : goal.returns
 returns c =
@@ -40,6 +39,6 @@ returns c =
     let put : IsRsdpPut before after c.args.oem_id.now c.args.xsdt =
     put_where_held before after rows (λ view at place_of. LayoutShown view at (linked place_of rows))
     (subst (IsAppended 16 before after) (append-nil (c.rsdp_rows.result ++ []) ∙ append-nil c.rsdp_rows.result ∙ rows_are)
-    (c.in_ok-append_layout.ensures.appended [] no_rows))
+    (c.in_ok-append_layout.ensures.appended [] refl))
     (λ view at place_of held. shown_rows view place_of at at rows (subst (AllByRecursion IsRow) rows_are c.rsdp_rows.ensures.fit) held) in
     put

@@ -1,4 +1,4 @@
-use Rattle.std.proofs.Common.{[], ◌++◌, map, drop, arith, ap, subst, sym, ◌∙◌}
+use Rattle.std.proofs.Common.{[], ◌++◌, map, drop, arith, refl, ap, subst, sym, ◌∙◌}
 use Rattle.std.proofs.lemmas.Result.{on_ok_weaker}
 use Rattle.std.specs.List.{AllByRecursion}
 use Rattle.vt_bytes.proofs.Each.{each_map}
@@ -9,7 +9,6 @@ use Rattle.acpi_model.proofs.Xsdt.{held_xsdt}
 use Rattle.blob_holes.specs.Rows.{IsUnsummed}
 use Rattle.acpi_model.specs.Kinds.{tables_name}
 use Rattle.acpi_append.specs.Tables.{AreRowsPut, table_pointer}
-use Rattle.blob_holes.proofs.Spelled.{no_rows}
 use Rattle.acpi_append.proofs.Tables.{xsdt_framed}
 use Rattle.acpi_append.proofs.Puts.{put_where_held}
 use Rattle.acpi_append.proofs.xsdt.put_xsdt.Goals as goal
@@ -36,14 +35,14 @@ returns-clause-size c =
     let rows_are = xsdt_framed c.args.head.now c.in_ok-rows.rows.rows c.as_slice.result.now _ c.in_ok-rows.ensures.rows
     (c.as_slice.ensures ∙ c.in_ok-entries.ensures) in
     on_ok_weaker c.append_table.result (λ put.
-    omega (arith, (put [] no_rows).appended.size_is, ap size rows_are, size-pointers 8 tables_name c.args.tables.now)) c.append_table.ensures.put
+    omega (arith, (put [] refl).appended.size_is, ap size rows_are, size-pointers 8 tables_name c.args.tables.now)) c.append_table.ensures.put
 
 pub returns-clause-put : goal.returns-clause-put
 returns-clause-put c =
     let rows_are = xsdt_framed c.args.head.now c.in_ok-rows.rows.rows c.as_slice.result.now _ c.in_ok-rows.ensures.rows
     (c.as_slice.ensures ∙ c.in_ok-entries.ensures) in
     on_ok_weaker c.append_table.result (λ put.
-    let those = subst (AreRowsPut c.args.blob.now c.append_table.new.blob) rows_are (put [] no_rows) in
+    let those = subst (AreRowsPut c.args.blob.now c.append_table.new.blob) rows_are (put [] refl) in
     put_where_held c.args.blob.now c.append_table.new.blob (xsdt_rows c.args.head.now (map table_pointer c.args.tables.now)) _ those.appended
     (λ view at place_of held. held_xsdt view place_of at c.args.head.now tables_name c.args.tables.now c.requires.few those.fit held))
     c.append_table.ensures.put

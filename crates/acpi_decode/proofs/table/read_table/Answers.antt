@@ -2,11 +2,12 @@ use Rattle.std.proofs.Common.{◌≡◌, true, refl, sym, subst}
 use Rattle.acpi_records.specs.MadtEntries.{madt_types}
 use Rattle.acpi_records.specs.SratEntries.{srat_types}
 use Rattle.acpi_model.specs.declared.acpi.Table.TheVariants.{Fadt as FadtVariant, Madt as MadtVariant, Srat as SratVariant}
-use Rattle.acpi_model.specs.declared.acpi.Table.TheVariants.{Slit as SlitVariant, Hpet as HpetVariant}
+use Rattle.acpi_model.specs.declared.acpi.Table.TheVariants.{Slit as SlitVariant, Mcfg as McfgVariant, Hpet as HpetVariant}
 use Rattle.acpi_model.specs.FadtKind.{fadt_kind}
 use Rattle.acpi_model.specs.MadtKind.{madt_kind}
 use Rattle.acpi_model.specs.SratKind.{srat_kind}
 use Rattle.acpi_model.specs.SlitKind.{slit_kind}
+use Rattle.acpi_model.specs.McfgKind.{mcfg_kind}
 use Rattle.acpi_model.specs.HpetKind.{hpet_kind}
 use Rattle.acpi_decode.specs.declared.kind.KnownKind.TheVariants.{Fadt, Hpet}
 use Rattle.acpi_decode.specs.KnownKinds.{kind_of}
@@ -15,13 +16,18 @@ use Rattle.acpi_decode.specs.Read.{IsRead}
 use Rattle.acpi_decode.proofs.ReadTables.{rows_ram, read_with_entries, read_alone}
 use Rattle.acpi_decode.proofs.table.read_table.Goals as goal
 use Rattle.acpi_decode.proofs.table.read_table.Goals.{in-Fadt+in_ok-found-in-Fadt, in-Madt+in_ok-read_madt-in-Madt}
-use Rattle.acpi_decode.proofs.table.read_table.Goals.{in-Srat+in_ok-read_srat-in-Srat, in-Slit+in_ok-read_slit-in-Slit, in-Hpet+in_ok-read_hpet-in-Hpet}
+use Rattle.acpi_decode.proofs.table.read_table.Goals.{in-Srat+in_ok-read_srat-in-Srat, in-Slit+in_ok-read_slit-in-Slit, in-Mcfg+in_ok-read_mcfg-in-Mcfg, in-Hpet+in_ok-read_hpet-in-Hpet}
 
 pub read_fadt-requires : goal.read_fadt-requires
 read_fadt-requires g c =
     let seen = g.V.MemView.seen c.args.view.now in
     rows_ram Fadt seen c.args.address c.args.length c.requires.told c.requires.ram
     (subst (λ k. has_room (kind_of k) seen c.args.address ≡ true) c.in-Fadt.is c.requires.room)
+
+pub read_mcfg-requires-clause-room : goal.read_mcfg-requires-clause-room
+read_mcfg-requires-clause-room g c =
+    let seen = g.V.MemView.seen c.args.view.now in
+    subst (λ k. has_room (kind_of k) seen c.args.address ≡ true) c.in-Mcfg.is c.requires.room
 
 pub read_hpet-requires : goal.read_hpet-requires
 read_hpet-requires g c =
@@ -56,6 +62,11 @@ returns-clause-read g c =
           subst (IsRead (kind_of c.args.kind) seen address) (sym w.result-is)
           (subst (λ k. IsRead (kind_of k) seen address t) (sym w.in-Slit.is)
           (read_alone slit_kind seen address t refl w.in_ok-read_slit-in-Slit.ensures))
+      | in-Mcfg+in_ok-read_mcfg-in-Mcfg w ↦
+          let t = McfgVariant w.in_ok-read_mcfg-in-Mcfg.field-0 in
+          subst (IsRead (kind_of c.args.kind) seen address) (sym w.result-is)
+          (subst (λ k. IsRead (kind_of k) seen address t) (sym w.in-Mcfg.is)
+          (read_alone mcfg_kind seen address t refl w.in_ok-read_mcfg-in-Mcfg.ensures))
       | in-Hpet+in_ok-read_hpet-in-Hpet w ↦
           let t = HpetVariant w.in_ok-read_hpet-in-Hpet.field-0 in
           subst (IsRead (kind_of c.args.kind) seen address) (sym w.result-is)

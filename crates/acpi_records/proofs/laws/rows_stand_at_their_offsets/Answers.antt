@@ -9,4 +9,6 @@ returns c = record {
   madt_size = λ f. refl;
   srat_size = λ f. refl;
   slit_size = λ f. refl;
+  mcfg_size = λ f. refl;
+  allocation_size = λ a. refl;
 }

@@ -30,20 +30,20 @@ files_of-requires-clause-writable c =
 
 pub files_of-requires-clause-linkable : goal.files_of-requires-clause-linkable
 files_of-requires-clause-linkable c =
-    subst IsLinkable (sym c.in_ok-begin-in-Some.ensures) (may_begin c.args.machine.now).linkable
+    subst IsLinkable (sym c.in_ok-begin-in-Some.ensures) (may_begin c.args.machine.now c.in-Some.acpi c.requires (accepted_fits c.args.machine.now c.in-Some.acpi c.requires c.in-Some.is)).linkable
 
 pub files_of-requires-clause-few : goal.files_of-requires-clause-few
 files_of-requires-clause-few c =
     subst (λ begin. AreFew begin c.as_slice.result.now) (sym c.in_ok-begin-in-Some.ensures)
-    (subst (AreFew (tables_begin c.args.machine.now)) (sym (c.as_slice.ensures ∙ c.in_ok-tables-in-Some.ensures))
-    (tables_few c.args.machine.now c.in-Some.acpi c.requires))
+    (subst (AreFew (tables_begin c.args.machine.now c.in-Some.acpi)) (sym (c.as_slice.ensures ∙ c.in_ok-tables-in-Some.ensures))
+    (tables_few c.args.machine.now c.in-Some.acpi c.requires (accepted_fits c.args.machine.now c.in-Some.acpi c.requires c.in-Some.is)))
 
 pub returns-in_ok-files_of-in-Some-clause-files : goal.returns-in_ok-files_of-in-Some-clause-files
 returns-in_ok-files_of-in-Some-clause-files c =
     subst (λ more. OnOk c.push_placed.result (c.push_placed.new.files.items ≡ c.args.files.now.items ++ more))
     (ap acpi_placed (c.in_ok-files_of-in-Some.ensures.files
     ∙ ap (λ begin. acpi_files c.in-Some.acpi begin c.as_slice.result.now) c.in_ok-begin-in-Some.ensures
-    ∙ ap (acpi_files c.in-Some.acpi (tables_begin c.args.machine.now)) (c.as_slice.ensures ∙ c.in_ok-tables-in-Some.ensures))
+    ∙ ap (acpi_files c.in-Some.acpi (tables_begin c.args.machine.now c.in-Some.acpi)) (c.as_slice.ensures ∙ c.in_ok-tables-in-Some.ensures))
     ∙ sym (ap (acpi_part c.args.machine.now) c.in-Some.is)) c.push_placed.ensures
 
 pub returns-in_ok-files_of-in-Some-clause-known : goal.returns-in_ok-files_of-in-Some-clause-known

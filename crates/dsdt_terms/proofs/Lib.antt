@@ -1,0 +1,16 @@
+pub mod Pushed
+pub mod Enumerated
+pub mod Limits
+pub mod AcceptedDevices
+pub mod Views
+pub mod Sizes
+pub mod WrittenParts
+pub mod NamedParts
+pub mod DeviceParts
+pub mod MachineParts
+pub mod Picked
+pub mod FittingItems
+pub mod PickedDevices
+pub mod ReadBack
+pub mod SameDevices
+pub mod MachineTerms

@@ -1,0 +1,10 @@
+pub mod Names
+pub mod Bridge
+pub mod Devices
+pub mod Dsdt
+pub mod WorkedDevices
+pub use Rattle.aml_terms.specs.Trees
+pub use Rattle.aml_terms.specs.Grammar
+pub use Rattle.aml_terms.specs.Written
+pub use Rattle.machine_desc.specs.Rules
+pub use Rattle.machine_desc.specs.Fields
