@@ -9,8 +9,9 @@
 # and of a machine what SeaBIOS leaves in its guest, as judge_guest.py compares them. What `vmtables decode --list` prints of the dumps of
 # the descriptions, of the memory of QEMU's machines, and of tables that others made is judged by what dmidecode and iasl tell of the same
 # bytes (judge_list.py), and what it tells of bad dumps and of memories with a fault by judge_bad_dumps.py. AML terms that iasl compiles must come
-# back as they are from `aml_again`, which reads terms and writes them again. Last, the commands that README.md shows must print what it
-# says. Nothing is proved here.
+# back as they are from `aml_again`, which reads terms and writes them again. Debian's kernel of Linux boots on the memory of two descriptions,
+# and what it finds there must be what is described (linux_guest.py). Last, the commands that README.md shows must print what it says. Nothing
+# is proved here.
 #
 # usage: judges/run.sh [PROGRAM]     PROGRAM stands for ./vmtables
 #
@@ -29,6 +30,8 @@ trap 'rm -rf "$work"' EXIT
 judges=(dmidecode iasl acpiexec qemu-system-x86_64)
 packages=(dmidecode acpica-tools acpica-tools qemu-system-x86) # the package of each judge in Debian
 firmware=SeaBIOS                                               # a judge that comes with QEMU
+guest=Linux                                                    # a judge whose kernel is unpacked, and not installed
+kernels=(linux-image-cloud-amd64 linux-image-amd64)            # the packages that depend on one with a kernel, the smaller one first
 asked=()                                                       # the judges that were asked
 checksum=9                                                     # the byte of an ACPI table that is its checksum
 machines=(pc q35)                                              # the machines of QEMU whose files are loaded
@@ -44,18 +47,22 @@ has() {
     command -v "$1" >/dev/null
 }
 
-# Installs the package of each judge that isn't there.
+# Installs the package of each judge that isn't there, and of each tool that a judge needs.
 install_packages() {
     local at
     for at in "${!judges[@]}"; do
-        has "${judges[at]}" || DEBIAN_FRONTEND=noninteractive timeout 300 \
-            apt-get install -y -qq --no-install-recommends "${packages[at]}" >/dev/null 2>&1 </dev/null
+        has "${judges[at]}" || install_package "${packages[at]}"
     done
+    has busybox || install_package busybox-static
+}
+
+install_package() {
+    DEBIAN_FRONTEND=noninteractive timeout 300 apt-get install -y -qq --no-install-recommends "$1" >/dev/null 2>&1 </dev/null
 }
 
 has_all_judges() {
     local judge
-    for judge in "${judges[@]}"; do
+    for judge in "${judges[@]}" busybox; do
         has "$judge" || return 1
     done
 }
@@ -455,6 +462,57 @@ judge_few_devices() {
     judge_more bare_bridge '[bridge]'
 }
 
+# Has the package of Debian's kernel fetched, and the kernel unpacked from it into a file: $work/kernel. Nothing is installed.
+fetch_kernel() {
+    local package
+    has apt-get && has dpkg-deb || return
+    package=$(apt-cache depends "${kernels[@]}" 2>/dev/null | sed -n 's/^ *Depends: \(linux-image-[0-9].*\)$/\1/p' | head -1)
+    [ -n "$package" ] || return
+    mkdir "$work/package"
+    (cd "$work/package" && timeout 300 apt-get download -qq "$package" >/dev/null 2>&1 </dev/null &&
+        dpkg-deb --fsys-tarfile ./*.deb | tar -xO --wildcards './boot/vmlinuz-*' >"$work/kernel") && [ -s "$work/kernel" ]
+}
+
+# linux_says WORD..: has linux_guest.py boot the kernel, and counts what it finds wrong.
+linux_says() {
+    local said
+    said=$(python3 "$here/linux_guest.py" "$@" 2>&1)
+    case $? in
+    0)
+        note_asked "$guest"
+        echo "  $guest: $said"
+        ;;
+    3) echo "  skipped: $said" ;;
+    *) fault linux_guest.py "the guest" "$said" ;;
+    esac
+}
+
+# Writes a description of 300 processors on two nodes, of which 45 have ids that only an x2APIC has.
+write_processors() {
+    local at
+    sed 's/^top_mib = .*/top_mib = 512/' examples/minimal.toml
+    printf '%s\n' '[acpi]' '[power]' 'event = 0x600' 'control = 0x604' 'timer = 0x608' '[hpet]' '[[uart]]' 'port = 0x3F8' 'irq = 4' \
+        '[[dimm]]' 'size_mib = 640' '[[range]]' 'base_mib = 0' 'size_mib = 512' '[[range]]' 'base_mib = 4096' 'size_mib = 128' 'node = 1' \
+        '[numa]' 'nodes = 2' 'distance = [10, 21, 31, 10]' '[apic]' '[[ioapic]]' 'id = 0' 'address = 0xFEC00000' \
+        '[[override]]' 'irq = 0' 'gsi = 2' '[[nmi]]' 'cpu = 254' 'flags = 5' '[[nmi]]' 'cpu = 299' 'lint = 0'
+    for at in {0..299}; do
+        printf '[[cpu]]\napic = %d\nnode = %d\n' "$at" $((at % 2))
+    done
+}
+
+# Has a kernel of Linux find what is described in the memory of a server, with two policies, and of many processors.
+judge_linux() {
+    description=$here/linux_server.toml
+    echo "a guest of Linux"
+    fetch_kernel || { echo "  skipped: Debian's kernel can't be had"; return; }
+    linux_says "$work/kernel" "$program" "$description"
+    linux_says --turn "$work/kernel" "$program" "$description"
+    linux_says "$work/kernel" "$program" "$description" --policy scatter --seed 1
+    description=$work/processors.toml
+    write_processors >"$description"
+    linux_says "$work/kernel" "$program" "$description"
+}
+
 # Has each command that a document shows print what the document says.
 judge_document() {
     local said
@@ -473,7 +531,10 @@ judge_all() {
     judge_templates
     judge_bad_dumps
     judge_terms
-    ! has qemu-system-x86_64 || judge_machines
+    if has qemu-system-x86_64; then
+        judge_machines
+        judge_linux
+    fi
     judge_document README.md
 }
 
@@ -485,7 +546,7 @@ listed() {
 
 report() {
     local judge skipped=()
-    for judge in "${judges[@]}" "$firmware"; do
+    for judge in "${judges[@]}" "$firmware" "$guest"; do
         was_asked "$judge" || skipped+=("$judge")
     done
     echo "judges: faults found: $faults"
