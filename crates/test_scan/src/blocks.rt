@@ -85,7 +85,7 @@ static SPELLINGS: [Row; 12] = [
 ];
 
 // No terms, and blocks that spell none.
-static BLOCKS: [Row; 19] = [
+static BLOCKS: [Row; 20] = [
     (b"", " terms"),
     (b"\x00", " 25"),
     (b"\x00\x00\x00\x00", " 28"),
@@ -101,7 +101,8 @@ static BLOCKS: [Row; 19] = [
     (b"\x10\x0d\x5c_SB_\x08_UID\x00", " 31"),
     (b"\x10\x06\x5c_SB_\x08_UID\x00\x10\xff", " 33"),
     (b"\x10\x13\x5c_SB_\x5b\x82\x0cPCI0\x08_UID\x00", " 38"),
-    // a length that is too short for its path
+    // a scope whose path has no segment, and one that is too short for its path
+    (b"\x10\x09\x5c\x00\x08_UID\x00", " 2e"),
     (b"\x10\x04\x5c_SB_", " 2b"),
     // a method, an operation region, an alias, a processor, a variable package and an addition
     (b"\x14\x06_INI\x00", " 2b"),

@@ -1,5 +1,5 @@
-//! Tables that other programs made. What is expected was taken from the text of iasl's templates, and from what `iasl -d` prints of QEMU's
-//! tables.
+//! Tables that other programs made. What is expected was taken from the texts that iasl made them of, and from what `iasl -d` prints of
+//! QEMU's tables.
 
 use crate::agree::both_tell;
 use crate::memories::{mend, put, put_digits};
@@ -35,9 +35,18 @@ const SLIT: u64 = 0x7F00_0800;
 
 const HPET: u64 = 0x7F00_0C00;
 
+const MCFG: u64 = 0x7F00_1000;
+
+const DSDT: u64 = 0x7F00_1400;
+
 static TEMPLATES: Tables = (
-    &[MADT, SRAT, HPET],
-    &[(MADT, iasl::MADT), (SRAT, iasl::SRAT), (HPET, iasl::HPET)],
+    &[MADT, SRAT, HPET, MCFG],
+    &[
+        (MADT, iasl::MADT),
+        (SRAT, iasl::SRAT),
+        (HPET, iasl::HPET),
+        (MCFG, iasl::MCFG),
+    ],
     "
 rsdp 414243444546
 xsdt 01 414243444546 4748494a4b4c4d4e 01 4f505152 01
@@ -65,6 +74,8 @@ entry 02 00 00 01
 other entry 03 12
 other entry 04 0c
 other entry 05 20
+mcfg 01 494e54454c20 54454d504c415445 01 494e544c 20200925
+allocation 00 00 00
 hpet 01 494e54454c20 54454d504c415445 01 494e544c 20200925 00 00 00 00 00 00 00 00",
 );
 
@@ -147,13 +158,47 @@ other 53534454 ca
 other 57414554 28",
 );
 
-// The template's FADT leads to QEMU's FACS and DSDT, whose definition block is zeros.
+// The template's FADT leads to a DSDT alone.
+static WITH_DSDT: Tables = (
+    &[FADT],
+    &[(FADT, iasl::FADT), (DSDT, iasl::DSDT)],
+    "
+rsdp 414243444546
+xsdt 01 414243444546 4748494a4b4c4d4e 01 4f505152 01
+fadt 06 494e54454c20 54656d706c617465 00 494e544c 20200925 00 00 01 00 01 01 00
+dsdt 02 494e54454c20 54454d504c415445 01 494e544c 20200925 terms
+scope _SB_
+device PCI0
+name _HID int 080ad041
+name _UID int 00
+name _PRT package [ package [ int 01ffff int 00 int 00 int 10 ] ]
+end
+device COM1
+name _HID text 504e5030353031
+name _CRS buffer 4701f803f80301082210007900
+end
+name PCI0._BBN int 00
+name ALL1 ones
+end",
+);
+
+static WITH_METHOD: Tables = (
+    &[FADT],
+    &[(FADT, iasl::FADT), (DSDT, iasl::DSDT_OF_A_METHOD)],
+    "
+rsdp 414243444546
+xsdt 01 414243444546 4748494a4b4c4d4e 01 4f505152 01
+fadt 06 494e54454c20 54656d706c617465 00 494e544c 20200925 00 00 01 00 01 01 00
+dsdt 02 494e54454c20 54454d504c415445 01 494e544c 20200925 9c",
+);
+
+// The template's FADT leads to QEMU's FACS and DSDT, whose definition block begins with a scope that has an operation region.
 static WITH_LONG_FADT: Tables = (
     &[FADT],
     &[
         (FADT, iasl::FADT),
         (qemu::FACS_AT, qemu::FACS),
-        (qemu::DSDT_AT, qemu::DSDT_HEAD),
+        (qemu::DSDT_AT, qemu::DSDT_FRONT),
     ],
     "
 rsdp 414243444546
@@ -174,7 +219,9 @@ fn templates_of_iasl(rt: HostRuntime) -> Result<(), Fail> {
 fn are_templates(rt: &impl Abort, alloc: Global, memory: &mut GuestMemory) -> Result<(), Fail> {
     are_told(rt, alloc, memory, &TEMPLATES, "")?;
     are_told(rt, alloc, memory, &SLIT_TEMPLATE, iasl::DISTANCES)?;
-    are_told(rt, alloc, memory, &FADT_TEMPLATE, "")
+    are_told(rt, alloc, memory, &FADT_TEMPLATE, "")?;
+    are_led_to(rt, alloc, memory, &WITH_DSDT, 0, DSDT)?;
+    are_led_to(rt, alloc, memory, &WITH_METHOD, 0, DSDT)
 }
 
 #[test]
@@ -192,11 +239,14 @@ fn are_tables_of_qemu(
 ) -> Result<(), Fail> {
     are_told(rt, alloc, memory, &WITHOUT_FADT, "")?;
     are_told(rt, alloc, memory, &WITH_SHORT_FADT, "")?;
-    put_tables(alloc, memory, &WITH_LONG_FADT)?;
-    put(memory, FADT + 132, &qemu::FACS_AT.to_le_bytes())?;
-    put(memory, FADT + 140, &qemu::DSDT_AT.to_le_bytes())?;
-    mend(memory, FADT)?;
-    is_memory_told(rt, alloc, memory, &WITH_LONG_FADT, "")
+    are_led_to(
+        rt,
+        alloc,
+        memory,
+        &WITH_LONG_FADT,
+        qemu::FACS_AT,
+        qemu::DSDT_AT,
+    )
 }
 
 // What is told of a memory with these tables, which ends in `end`.
@@ -209,6 +259,23 @@ fn are_told(
 ) -> Result<(), Fail> {
     put_tables(alloc, memory, tables)?;
     is_memory_told(rt, alloc, memory, tables, end)
+}
+
+// What is told of a memory with these tables, whose FADT leads to a FACS and to a DSDT, where their addresses aren't 0.
+fn are_led_to(
+    rt: &impl Abort,
+    alloc: Global,
+    memory: &mut GuestMemory,
+    tables: &Tables,
+    facs: u64,
+    dsdt: u64,
+) -> Result<(), Fail> {
+    put_tables(alloc, memory, tables)?;
+    put(memory, FADT + 36, &[0; 8])?;
+    put(memory, FADT + 132, &facs.to_le_bytes())?;
+    put(memory, FADT + 140, &dsdt.to_le_bytes())?;
+    mend(memory, FADT)?;
+    is_memory_told(rt, alloc, memory, tables, "")
 }
 
 fn put_tables(alloc: Global, memory: &mut GuestMemory, tables: &Tables) -> Result<(), Fail> {

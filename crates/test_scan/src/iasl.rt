@@ -1,5 +1,5 @@
-//! Tables that `iasl` makes of its own templates, in hexadecimal digits: `iasl -T` with each signature, and `iasl` of what it writes.
-//! They are of version 20200925.
+//! Tables that `iasl` makes, in hexadecimal digits: of its own templates, `iasl -T` with each signature, and `iasl` of what it writes; and of
+//! the devices that are told here. They are of version 20200925.
 
 /// The MADT, 346 bytes with 16 entries.
 pub const MADT: &str = "\
@@ -41,3 +41,22 @@ pub const FADT: &str = "\
     00000001010000000000000001000000000000000120000201000000000000000100000000000000000000000110000201000000000000000100000000000000\
     00000000010800000100000000000000012000030100000000000000014000010100000000000000010000000000000000000000010800010000000000000000\
     0108000100000000000000000000000000000000";
+
+/// The MCFG, 60 bytes with one allocation.
+pub const MCFG: &str =
+    "4d4346473c0000000108494e54454c2054454d504c41544501000000494e544c25092020000000000000000000000000000000000000000000000000";
+
+/// A DSDT of 146 bytes, of `Scope (\_SB)` with `Device (PCI0)`, which has `Name (_HID, EisaId ("PNP0A08"))`, `Name (_UID, 0)` and
+/// `Name (_PRT, Package () { Package () { 0x0001FFFF, 0, 0, 16 } })`, with `Device (COM1)`, which has `Name (_HID, "PNP0501")` and
+/// `Name (_CRS, ResourceTemplate () { IO (Decode16, 0x3F8, 0x3F8, 1, 8) IRQNoFlags () { 4 } })`, and with `Name (PCI0._BBN, 0)` and
+/// `Name (ALL1, Ones)`.
+pub const DSDT: &str = "\
+    4453445492000000024f494e54454c2054454d504c41544501000000494e544c25092020104d065f53425f5b822950434930085f4849440c41d00a08085f5549\
+    4400085f505254120e01120b040cffff010000000a105b8229434f4d31085f4849440d504e503035303100085f43525311100a0d4701f803f803010822100079\
+    00082e504349305f42424e0008414c4c31ff";
+
+/// The same, 156 bytes, with `Method (_STA) { Return (15) }` behind the `_UID`.
+pub const DSDT_OF_A_METHOD: &str = "\
+    445344549c000000021f494e54454c2054454d504c41544501000000494e544c250920201047075f53425f5b823350434930085f4849440c41d00a08085f5549\
+    440014095f53544100a40a0f085f505254120e01120b040cffff010000000a105b8229434f4d31085f4849440d504e503035303100085f43525311100a0d4701\
+    f803f80301082210007900082e504349305f42424e0008414c4c31ff";
