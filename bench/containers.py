@@ -5,9 +5,10 @@ usage: containers.py FOLDER
 
 `large.container` has one file of 16 MiB, all of high memory, which its script places and sums up. `random.container` has one of as many
 bytes at random, whose dump has a line for each 16 of them. `many.container` has 1,000 files of 4 KiB and a script of 8,192 commands, the
-most that one may have: each file is placed, and then pointers and sums follow, of one file after the other. `full.container` has as many
-bytes as an input may have, most of them in a file that no command names. `alone.container` has a script of no commands and no
-other file. All are spelled as docs/FORMATS.md says.
+most that one may have: each file is placed, and then pointers and sums follow, of one file after the other. `writes.container` has as many
+commands, all of which but the first, which places a file, write its place to another file of fw_cfg, and `pointers.container` as many that
+add its place to a number in memory. `full.container` has as many bytes as an input may have, most of them in a file that no command names.
+`alone.container` has a script of no commands and no other file. All are spelled as docs/FORMATS.md says.
 """
 
 import pathlib
@@ -41,10 +42,14 @@ def add_checksum(name, length):
     return command(3, name_field(name) + struct.pack("<III", 0, 0, length))
 
 
-def container(files):
-    """A container of named files, none of which a guest may write."""
+def write_pointer(dest, src):
+    return command(4, name_field(dest) + name_field(src) + struct.pack("<IIB", 0, 0, 8))
+
+
+def container(files, writable=()):
+    """A container of named files, of which a guest may write some."""
     entries = [struct.pack(">IHH", len(held), FIRST_SELECTOR + at, 0) + name_field(name) for at, (name, held) in enumerate(files)]
-    parts = [struct.pack(">I", len(files)), *entries, bytes(len(files)), *(held for _, held in files)]
+    parts = [struct.pack(">I", len(files)), *entries, bytes(name in writable for name, _ in files), *(held for _, held in files)]
     return b"".join(parts)
 
 
@@ -74,10 +79,22 @@ def many():
     return container([(name, bytes(4096)) for name in names] + [(SCRIPT, b"".join(commands))])
 
 
+def writes():
+    script = allocate("source") + (MOST_COMMANDS - 1) * write_pointer("place", "source")
+    return container([("source", bytes(4096)), ("place", bytes(8)), (SCRIPT, script)], writable=("place",))
+
+
+def pointers():
+    script = allocate("source") + (MOST_COMMANDS - 1) * command(2, name_field("source") + name_field("source") + struct.pack("<IB", 8, 8))
+    return container([("source", bytes(4096)), (SCRIPT, script)])
+
+
 if __name__ == "__main__":
     folder = pathlib.Path(sys.argv[1])
     (folder / "large.container").write_bytes(large())
     (folder / "random.container").write_bytes(at_random())
     (folder / "many.container").write_bytes(many())
+    (folder / "writes.container").write_bytes(writes())
+    (folder / "pointers.container").write_bytes(pointers())
     (folder / "full.container").write_bytes(full())
     (folder / "alone.container").write_bytes(container([(SCRIPT, b"")]))

@@ -130,6 +130,14 @@ add_container() {
     against "cat of as many bytes as guest memory has" "$work/memory" cat
 }
 
+# A script whose commands write places to fw_cfg, beside one of as many that add places to numbers in memory.
+add_writes() {
+    local name="load writes"
+    against "load" "$work/writes.container" "$program" load
+    against "load of as many commands that add a place" "$work/pointers.container" "$program" load
+    against "the program's --version" /dev/null "$program" --version
+}
+
 # What is compared beside that for the container whose dump is long.
 add_long_dump() {
     local name="load random"
@@ -188,7 +196,7 @@ compare_all_memory() {
         compare_memory "$input" boot
         compare_memory "$input" build
     done
-    for input in large many full random; do
+    for input in large many full random writes; do
         compare_memory "$work/$input.container" load
     done
     compare_memory "$work/server/dump" decode --list
@@ -247,6 +255,7 @@ for container in large many full random; do
     add_container "$work/$container.container"
 done
 add_long_dump
+add_writes
 add_machine
 for kind in "${terms[@]}"; do
     add_terms "$kind"

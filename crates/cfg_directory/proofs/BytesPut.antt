@@ -87,7 +87,7 @@ put_alike select offset piece = record {
 }
 
 -- bytes that fit leave the length
-length-put_at : (bytes piece : List ℕ) (offset : ℕ) → offset + length piece ≤ length bytes → length (put_at bytes offset piece) ≡ length bytes
+pub length-put_at : (bytes piece : List ℕ) (offset : ℕ) → offset + length piece ≤ length bytes → length (put_at bytes offset piece) ≡ length bytes
 length-put_at bytes piece offset fits =
     omega (
       arith,

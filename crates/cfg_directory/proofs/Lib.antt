@@ -13,3 +13,4 @@ pub mod Told
 pub mod Fronts
 pub mod Written
 pub mod Listings
+pub mod Shapes

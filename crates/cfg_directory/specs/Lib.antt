@@ -4,5 +4,6 @@ pub mod Container
 pub mod Parts
 pub mod Spared
 pub mod Listing
+pub mod Shapes
 pub use Rattle.vt_outside.specs.Name
 pub use Rattle.vt_bytes.specs.Numbers

@@ -1,13 +1,14 @@
 //! Laws over the definitions, each the contract of a function that does nothing.
 
-ghost use Rattle.std.specs.Prelude.{◌≡◌, ℕ, ◌*◌, ◌<◌, ◌++◌, List, length, Err};
+ghost use Rattle.std.specs.Prelude.{◌≡◌, ℕ, ◌+◌, ◌*◌, ◌<◌, ◌≤◌, ◌++◌, List, length, Err, IsSomeAnd};
 ghost use Rattle.std.specs.List.{AllByRecursion};
 ghost use Rattle.vt_outside.specs.Name.{IsName};
 ghost use Rattle.cfg_directory.specs.declared.item.Item.{Item};
 ghost use Rattle.cfg_directory.specs.declared.container.ImageFault.TheVariants.{Truncated};
 ghost use Rattle.vt_bytes.specs.Numbers.{be, be_bytes};
-ghost use Rattle.cfg_directory.specs.Items.{IsItems, directory_of};
+ghost use Rattle.cfg_directory.specs.Items.{IsItems, AreDistinct, directory_of, selected, with_bytes_at};
 ghost use Rattle.cfg_directory.specs.Listing.{listed_in, listed_of, entries_of};
+ghost use Rattle.cfg_directory.specs.Shapes.{HaveOneShape};
 ghost use Rattle.cfg_directory.specs.Container.{IsContainer, container_of, read_so};
 
 /// States that bytes are a container of one list of items at most.
@@ -33,4 +34,11 @@ pub fn a_directory_lists_its_items()
     ensures { (items : List Item) → IsItems items → AllByRecursion (λ item. IsName item.name) items
         → (length (entries_of items) ≡ 64 * length items) × (listed_in (length items) (entries_of items) ≡ listed_of items)
         × (directory_of items ≡ be_bytes 4 (length items) ++ entries_of items) × (be (be_bytes 4 (length items)) ≡ length items) }
+{}
+
+/// States that bytes that are put into a file, where they fit, leave each item's name, selector, size and mark.
+pub fn writes_keep_the_shape()
+    ensures { (items : List Item) (select offset : ℕ) (piece : List ℕ)
+        → IsSomeAnd (selected items select) (λ item. offset + length piece ≤ length item.bytes) → AreDistinct items
+        → HaveOneShape items (with_bytes_at items select offset piece) }
 {}

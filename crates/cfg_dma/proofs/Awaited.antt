@@ -1,23 +1,26 @@
--- A read that is awaited goes on, piece by piece, until it is over.
+-- What a piece of a transfer leaves. A read that is awaited goes on, piece by piece, until it is over.
 use Rattle.std.proofs.Common.{◌⊎◌, ◌≡◌, ℕ, ◌+◌, ◌-◌, ◌≤◌, ◌<◌, List, [], ◌∷◌, ◌++◌, length, take, drop, cond, Option, Some, None}
-use Rattle.std.proofs.Common.{inl, inr, arith, sym, refl, ap, ap₂, subst, ◌∙◌, length-append}
+use Rattle.std.proofs.Common.{◌==◌, min, inl, inr, arith, sym, refl, ap, ap₂, subst, ◌∙◌, length-append}
 use Rattle.std.specs.Prelude.{IfSome}
-use Rattle.std.proofs.lemmas.Bool.{cases_lt}
+use Rattle.std.proofs.lemmas.Bool.{cases_lt, cond_both, eqb-false}
 use Rattle.std.proofs.lemmas.List.{places, same_lists, take_all}
 use Rattle.vt_bytes.specs.Memory.{Memory, IsRam, IsRamRange, IsMemory, at, with_bytes, bytes_at}
 use Rattle.vt_bytes.specs.Numbers.{be, be_bytes}
-use Rattle.vt_bytes.proofs.Bytes.{bytes_at-parts, bytes_at-same}
+use Rattle.vt_bytes.proofs.Bytes.{length-bytes_at, bytes_at-parts, bytes_at-same}
 use Rattle.vt_bytes.proofs.Memories.{bytes_with, others_with, lawful_with}
 use Rattle.guest_memory.proofs.Runs.{take-pieces}
 use Rattle.cfg_directory.specs.declared.item.Item.{Item}
+use Rattle.cfg_directory.specs.Items.{IsItems}
 use Rattle.cfg_dma.specs.declared.transfer.Finished.{Finished}
 use Rattle.cfg_dma.specs.declared.transfer.Flight.{Flight}
 use Rattle.cfg_dma.specs.declared.transfer.Kind.{Kind}
-use Rattle.cfg_dma.specs.declared.transfer.Kind.TheVariants.{Read}
-use Rattle.cfg_dma.specs.Device.{IsDevice, IsInFlight, Moves, contents, holds}
-use Rattle.cfg_dma.specs.Transfers.{Attached, finish, move_as, move_next, piece}
+use Rattle.cfg_dma.specs.declared.transfer.Kind.TheVariants.{Read, Write, Skip, Nothing}
+use Rattle.cfg_dma.specs.Device.{DeviceState, IsDevice, IsInFlight, LieInFile, FitsIn, contents, holds}
+use Rattle.cfg_dma.specs.Transfers.{Attached, attached, left_of, finish, move_as, move_by, move_next, piece}
 use Rattle.cfg_dma.specs.Reads.{CanRead, IsMoving, IsOver, IsAwaited, GoesOn, IsBesideRead, moved_by, descriptor_bytes}
-use Rattle.cfg_dma.proofs.Moved.{next_of}
+use Rattle.cfg_dma.proofs.Written.{fits_less, length-contents, put_lawful}
+use Rattle.cfg_dma.proofs.Moved.{next_of, memory_fits, goes_on as flight_goes_on}
+use Rattle.cfg_dma.proofs.Kept.{Moved, move_keeps}
 use Rattle.cfg_dma.proofs.Pieces.{with_flight, length-next_of, ends, goes_on, beside}
 
 -- ---- memory that holds what was moved
@@ -97,41 +100,144 @@ moved_beside a transfer moved count address memory below other =
     elim other as (λ _. (address < start) ⊎ (start + count ≤ address)) [ inl l ↦ inl (omega arith) | inr l ↦ inr (omega arith) ] in
     beside Read a.device a.memory start count address memory away
 
--- ---- a read that goes on
+-- ---- all around a transfer
 
--- a read in flight of which so many bytes were moved
-abbrev flight_of : ℕ → Finished → ℕ → Flight
+-- What moving bytes keeps, whatever is in flight: the items and the offset of a device are lawful, and so is memory.
+pub record IsLawful (a : Attached) : Type 0 where
+  pub items : IsItems a.device.items
+  pub offset : a.device.offset ≤ length (holds a.device)
+  pub memory : IsMemory a.memory
+
+move_lawful : (kind : Kind) (d : DeviceState) (m : Memory) (address count left : ℕ) → IsLawful (attached d m) → (kind ≡ Write → LieInFile d left)
+    → count ≤ left → IsLawful (move_as kind address count (attached d m))
+move_lawful Skip d m address count left lawful fits below = lawful
+move_lawful Nothing d m address count left lawful fits below = lawful
+move_lawful Read d m address count left lawful fits below = record {
+  items = lawful.items;
+  offset = omega arith;
+  memory = lawful_with m address (next_of (holds d) d.offset count) lawful.memory;
+}
+move_lawful Write d m address count left lawful fits below =
+    let bytes = bytes_at m address count in
+    let size = length-bytes_at m address count in
+    let all : FitsIn d.items d.select (d.offset + left) = fits refl in
+    let fit = memory_fits d.items m d.select d.offset address count left lawful.items.distinct all below in
+    record {
+      items = put_lawful d.items d.select d.offset bytes lawful.items
+          (fits_less d.items d.select (d.offset + length bytes) (d.offset + left) (omega arith) all);
+      offset = omega (arith, length-contents d.items d.select d.offset d.select bytes fit);
+      memory = lawful.memory;
+    }
+
+-- the word that says how a transfer ended
+abbrev pub end_word : Finished → ℕ
+end_word transfer = cond transfer.error 1 0
+
+-- all around goes on once a transfer is over
+pub over_goes_on : (a b : Attached) (descriptor : ℕ) (transfer : Finished) → IsLawful b → Moved a b → 0 < a.device.spare
+    → GoesOn a (finish descriptor transfer b)
+over_goes_on a b descriptor transfer lawful moved room = record {
+  room = let same = moved.room in let spare = moved.spare in omega (arith, length-append b.device.finished (transfer ∷ []));
+  device = record { items = lawful.items; offset = lawful.offset; flight = tt };
+  memory = lawful_with b.memory descriptor (be_bytes 4 (end_word transfer)) lawful.memory;
+  top = moved.top;
+  fill = moved.fill;
+}
+
+-- and over any piece
+next_goes_on : (o : Option Flight) (bytes : ℕ) (a : Attached) → IsDevice a.device → IsMemory a.memory → IfSome o (IsInFlight a.device)
+    → GoesOn a (move_next o bytes a)
+next_goes_on None bytes a device memory is = record { room = refl; device = device; memory = memory; top = refl; fill = refl }
+next_goes_on (Some flight) bytes a device memory is =
+    let kind = flight.transfer.kind in
+    let start = flight.transfer.address + flight.moved in
+    let count = min bytes (left_of flight) in
+    let b = move_by flight count a in
+    let moved = move_keeps kind start count a in
+    let before : IsLawful a = record { items = device.items; offset = device.offset; memory = memory } in
+    let lawful = move_lawful kind a.device a.memory start count (left_of flight) before is.fits (omega arith) in
+    cond_both (flight.moved + count == flight.transfer.length) _ _ (GoesOn a)
+    (λ _. over_goes_on a b flight.descriptor flight.transfer lawful moved is.room) (λ unfinished.
+    let on = flight_goes_on a.device b.device a.memory b.memory flight start count device.items is (omega arith) refl
+    (eqb-false (flight.moved + count) flight.transfer.length unfinished) in
+    record {
+      room = moved.room;
+      device = record {
+        items = lawful.items;
+        offset = lawful.offset;
+        flight = record { moves = on.moves; left = on.left; fits = on.fits; room = on.room };
+      };
+      memory = lawful.memory;
+      top = moved.top;
+      fill = moved.fill;
+    })
+
+pub piece_goes_on : (bytes : ℕ) (a : Attached) → IsDevice a.device → IsMemory a.memory → GoesOn a (piece bytes a)
+piece_goes_on bytes a device memory = next_goes_on a.device.flight bytes a device memory device.flight
+
+-- ---- a transfer that goes on, and one that is over
+
+-- a transfer in flight of which so many bytes were moved
+abbrev pub flight_of : ℕ → Finished → ℕ → Flight
 flight_of descriptor transfer moved = record { descriptor = descriptor; transfer = transfer; moved = moved }
 
 -- bytes are moved, and some are left
-abbrev moved_on : ℕ → Finished → ℕ → ℕ → Attached → Attached
-moved_on descriptor transfer moved count a =
-    with_flight (move_as Read (transfer.address + moved) count a) (Some (flight_of descriptor transfer (moved + count)))
+abbrev pub moved_on : Kind → ℕ → Finished → ℕ → ℕ → Attached → Attached
+moved_on kind descriptor transfer moved count a =
+    with_flight (move_as kind (transfer.address + moved) count a) (Some (flight_of descriptor transfer (moved + count)))
 
--- what holds of a read, and of all around it, once a piece has moved
+-- all that is left is moved, and the transfer is over
+abbrev pub moved_whole : Kind → ℕ → Finished → ℕ → Attached → Attached
+moved_whole kind descriptor transfer moved a =
+    finish descriptor transfer (move_as kind (transfer.address + moved) (transfer.length - moved) a)
+
+-- a device without a transfer leaves all as it was
+pub piece_idle : (bytes : ℕ) (a : Attached) → a.device.flight ≡ None → piece bytes a ≡ a
+piece_idle bytes a idle = ap (λ (o : Option Flight). move_next o bytes a) idle
+
+-- what a piece is while fewer bytes are moved than are left
+pub piece_fewer : (kind : Kind) (a : Attached) (descriptor bytes : ℕ) (transfer : Finished) (moved : ℕ) → transfer.kind ≡ kind
+    → a.device.flight ≡ Some (flight_of descriptor transfer moved) → moved + bytes < transfer.length
+    → piece bytes a ≡ moved_on kind descriptor transfer moved bytes a
+piece_fewer kind a descriptor bytes transfer moved its is left =
+    ap (λ (o : Option Flight). move_next o bytes a) is ∙ goes_on (flight_of descriptor transfer moved) bytes a (omega arith)
+    ∙ ap (λ (kind : Kind). moved_on kind descriptor transfer moved bytes a) its
+
+-- and what it is where none are left
+pub piece_last : (kind : Kind) (a : Attached) (descriptor bytes : ℕ) (transfer : Finished) (moved : ℕ) → transfer.kind ≡ kind
+    → a.device.flight ≡ Some (flight_of descriptor transfer moved) → moved < transfer.length → transfer.length ≤ moved + bytes
+    → piece bytes a ≡ moved_whole kind descriptor transfer moved a
+piece_last kind a descriptor bytes transfer moved its is some enough =
+    ap (λ (o : Option Flight). move_next o bytes a) is ∙ ends (flight_of descriptor transfer moved) bytes a some (omega arith)
+    ∙ ap (λ (kind : Kind). moved_whole kind descriptor transfer moved a) its
+
+-- a control word of zero is written
+pub word_cleared : (m : Memory) (descriptor word : ℕ) → IsMemory m → IsRamRange m.top descriptor 16 → word ≡ 0
+    → be (bytes_at (with_bytes m descriptor (be_bytes 4 word)) descriptor 4) ≡ 0
+word_cleared m descriptor word memory ram none =
+    ap be (bytes_with m descriptor (be_bytes 4 word) memory (λ i below. ram i (omega arith))) ∙ ap (λ n. be (be_bytes 4 n)) none
+
+-- memory beside a descriptor stays as bytes are written into it
+pub beside_stays : (m : Memory) (descriptor : ℕ) (bytes : List ℕ) (address : ℕ) → IsMemory m → length bytes ≤ 16
+    → (address < descriptor) ⊎ (descriptor + 16 ≤ address) → at (with_bytes m descriptor bytes) address ≡ at m address
+beside_stays m descriptor bytes address memory few other =
+    others_with m descriptor bytes address memory
+    (elim other as (λ _. (address < descriptor) ⊎ (descriptor + length bytes ≤ address)) [ inl l ↦ inl l | inr l ↦ inr (omega arith) ])
+
+pub range_stays : (m : Memory) (descriptor : ℕ) (bytes : List ℕ) (address count : ℕ) → IsMemory m → length bytes ≤ 16
+    → (address + count ≤ descriptor) ⊎ (descriptor + 16 ≤ address) → bytes_at (with_bytes m descriptor bytes) address count ≡ bytes_at m address count
+range_stays m descriptor bytes address count memory few apart =
+    bytes_at-same (with_bytes m descriptor bytes) m address count (λ i below.
+    beside_stays m descriptor bytes (address + i) memory few
+    (elim apart as (λ _. (address + i < descriptor) ⊎ (descriptor + 16 ≤ address + i)) [ inl l ↦ inl (omega arith) | inr l ↦ inr (omega arith) ]))
+
+-- ---- a read that goes on
+
+-- what holds of a read, and of what it leaves, once a piece has moved
 abbrev MovesOn : List Finished → ℕ → ℕ → Finished → Attached → Attached → Type 0
 MovesOn before descriptor control transfer a b =
-    IsAwaited a.device.items before descriptor control transfer b × GoesOn a b
+    IsAwaited a.device.items before descriptor control transfer b × (b.device.items ≡ a.device.items)
     × ((address : ℕ) → IsBesideRead address descriptor transfer → at b.memory address ≡ at a.memory address)
-
--- there is room for the transfer that is in flight
-room_for : (a : Attached) (flight : Flight) → IsDevice a.device → a.device.flight ≡ Some flight → 0 < a.device.spare
-room_for a flight device is =
-    let in_flight : IsInFlight a.device flight = subst (λ (o : Option Flight). IfSome o (IsInFlight a.device)) is device.flight in in_flight.room
-
--- a device of which some bytes of a read are left is lawful
-moved_lawful : (a : Attached) (descriptor : ℕ) (transfer : Finished) (moved count : ℕ) → IsDevice a.device → transfer.kind ≡ Read → 0 < a.device.spare
-    → moved + count < transfer.length → IsDevice (moved_on descriptor transfer moved count a).device
-moved_lawful a descriptor transfer moved count device reads room left = record {
-  items = device.items;
-  offset = omega arith;
-  flight = record {
-    moves = subst Moves (sym reads) tt;
-    left = left;
-    fits = λ writes. absurd (cc);
-    room = room;
-  };
-}
 
 -- a descriptor of which the read moves no byte stays
 descriptor_kept : (a : Attached) (descriptor : ℕ) (transfer : Finished) (moved count : ℕ) → IsMemory a.memory
@@ -144,14 +250,13 @@ descriptor_kept a descriptor transfer moved count memory apart below =
     [ inl l ↦ inr (omega arith) | inr l ↦ inl (omega arith) ]))
 
 -- fewer bytes than are left are moved: it is awaited still
-goes_on_still : (a : Attached) (before : List Finished) (descriptor control count : ℕ) (transfer : Finished) (moved : ℕ) → IsDevice a.device
-    → IsMemory a.memory → CanRead a.device.items a.memory.top descriptor transfer → HasMoved a.device.items before transfer moved a
-    → bytes_at a.memory descriptor 16 ≡ descriptor_bytes control transfer.length transfer.address → 0 < a.device.spare
-    → moved + count < transfer.length → MovesOn before descriptor control transfer a (moved_on descriptor transfer moved count a)
-goes_on_still a before descriptor control count transfer moved device memory can has written room left =
+goes_on_still : (a : Attached) (before : List Finished) (descriptor control count : ℕ) (transfer : Finished) (moved : ℕ) → IsMemory a.memory
+    → CanRead a.device.items a.memory.top descriptor transfer → HasMoved a.device.items before transfer moved a
+    → bytes_at a.memory descriptor 16 ≡ descriptor_bytes control transfer.length transfer.address → moved + count < transfer.length
+    → MovesOn before descriptor control transfer a (moved_on Read descriptor transfer moved count a)
+goes_on_still a before descriptor control count transfer moved memory can has written left =
     let below : moved + count ≤ transfer.length = omega arith in
-    let more = moved_more a before descriptor transfer moved count memory can has below in
-    let bytes = next_of (holds a.device) a.device.offset count in (
+    let more = moved_more a before descriptor transfer moved count memory can has below in (
       inl (record {
         moved = moved + count;
         flight = refl;
@@ -162,47 +267,16 @@ goes_on_still a before descriptor control count transfer moved device memory can
         offset = more.offset;
         finished = more.finished;
       }),
-      record {
-        items = refl;
-        room = refl;
-        device = moved_lawful a descriptor transfer moved count device can.kind room left;
-        memory = lawful_with a.memory (transfer.address + moved) bytes memory;
-        top = refl;
-        fill = refl;
-      },
+      refl,
       λ address other. moved_beside a transfer moved count address memory below other.1,
     )
 
 -- ---- a read that is over
 
--- a control word of zero is written
-word_cleared : (m : Memory) (descriptor word : ℕ) → IsMemory m → IsRamRange m.top descriptor 16 → word ≡ 0
-    → be (bytes_at (with_bytes m descriptor (be_bytes 4 word)) descriptor 4) ≡ 0
-word_cleared m descriptor word memory ram none =
-    ap be (bytes_with m descriptor (be_bytes 4 word) memory (λ i below. ram i (omega arith))) ∙ ap (λ n. be (be_bytes 4 n)) none
-
--- what is apart from a descriptor stays once its control word is written
-held_apart : (m : Memory) (descriptor word address count : ℕ) → IsMemory m → (address + count ≤ descriptor) ⊎ (descriptor + 16 ≤ address)
-    → bytes_at (with_bytes m descriptor (be_bytes 4 word)) address count ≡ bytes_at m address count
-held_apart m descriptor word address count memory apart =
-    bytes_at-same (with_bytes m descriptor (be_bytes 4 word)) m address count (λ i below.
-    others_with m descriptor (be_bytes 4 word) (address + i) memory
-    (elim apart as (λ _. (address + i < descriptor) ⊎ (descriptor + length (be_bytes 4 word) ≤ address + i))
-    [ inl l ↦ inl (omega arith) | inr l ↦ inr (omega arith) ]))
-
--- all that is left is moved, and the transfer is over
-abbrev moved_whole : ℕ → Finished → ℕ → Attached → Attached
-moved_whole descriptor transfer moved a =
-    finish descriptor transfer (move_as Read (transfer.address + moved) (transfer.length - moved) a)
-
--- the word that says how a transfer ended
-abbrev end_word : Finished → ℕ
-end_word transfer = cond transfer.error 1 0
-
 -- the read is over
 is_over : (a : Attached) (before : List Finished) (descriptor : ℕ) (transfer : Finished) (moved : ℕ) → IsMemory a.memory
     → CanRead a.device.items a.memory.top descriptor transfer → HasMoved a.device.items before transfer moved a → moved < transfer.length
-    → IsOver a.device.items before descriptor transfer (moved_whole descriptor transfer moved a)
+    → IsOver a.device.items before descriptor transfer (moved_whole Read descriptor transfer moved a)
 is_over a before descriptor transfer moved memory can has some =
     let count = transfer.length - moved in
     let b = move_as Read (transfer.address + moved) count a in
@@ -216,63 +290,23 @@ is_over a before descriptor transfer moved memory can has some =
     subst (λ n. bytes_at b.memory transfer.address n ≡ take n bytes) all more.held ∙ take_all transfer.length bytes (omega arith) in
     record {
       idle = refl;
-      held = held_apart b.memory descriptor (end_word transfer) transfer.address transfer.length lawful can.beside ∙ held;
+      held = range_stays b.memory descriptor (be_bytes 4 (end_word transfer)) transfer.address transfer.length lawful (omega arith) can.beside ∙ held;
       control = word_cleared b.memory descriptor (end_word transfer) lawful can.descriptor_ram (ap (λ failed. cond failed 1 0) can.sound);
       selected = more.selected;
       offset = let place = more.offset in omega (arith, place, all);
       finished = ap (λ (transfers : List Finished). transfers ++ transfer ∷ []) has.finished;
     }
 
--- and all around it goes on
-over_goes_on : (a : Attached) (descriptor : ℕ) (transfer : Finished) (moved : ℕ) → IsDevice a.device → IsMemory a.memory → 0 < a.device.spare
-    → GoesOn a (moved_whole descriptor transfer moved a)
-over_goes_on a descriptor transfer moved device memory room =
-    let bytes = next_of (holds a.device) a.device.offset (transfer.length - moved) in
-    let lawful = lawful_with a.memory (transfer.address + moved) bytes memory in
-    record {
-      items = refl;
-      room = omega (arith, length-append a.device.finished (transfer ∷ []));
-      device = record { items = device.items; offset = omega arith; flight = tt };
-      memory = lawful_with (with_bytes a.memory (transfer.address + moved) bytes) descriptor (be_bytes 4 (end_word transfer)) lawful;
-      top = refl;
-      fill = refl;
-    }
-
 -- memory beside it stays
 over_beside : (a : Attached) (descriptor : ℕ) (transfer : Finished) (moved address : ℕ) → IsMemory a.memory → moved < transfer.length
-    → IsBesideRead address descriptor transfer → at (moved_whole descriptor transfer moved a).memory address ≡ at a.memory address
+    → IsBesideRead address descriptor transfer → at (moved_whole Read descriptor transfer moved a).memory address ≡ at a.memory address
 over_beside a descriptor transfer moved address memory some other =
     let count = transfer.length - moved in
-    let b = move_as Read (transfer.address + moved) count a in
     let lawful = lawful_with a.memory (transfer.address + moved) (next_of (holds a.device) a.device.offset count) memory in
-    others_with b.memory descriptor (be_bytes 4 (end_word transfer)) address lawful
-    (elim other.0 as (λ _. (address < descriptor) ⊎ (descriptor + length (be_bytes 4 (end_word transfer)) ≤ address))
-    [ inl l ↦ inl l | inr l ↦ inr (omega arith) ])
+    beside_stays (move_as Read (transfer.address + moved) count a).memory descriptor (be_bytes 4 (end_word transfer)) address lawful (omega arith) other.0
     ∙ moved_beside a transfer moved count address memory (omega arith) other.1
 
 -- ---- any piece
-
--- a device without a transfer leaves all as it was
-pub piece_idle : (bytes : ℕ) (a : Attached) → a.device.flight ≡ None → piece bytes a ≡ a
-piece_idle bytes a idle = ap (λ (o : Option Flight). move_next o bytes a) idle
-
--- what a piece is while fewer bytes are moved than are left
-piece_fewer : (a : Attached) (descriptor bytes : ℕ) (transfer : Finished) (moved : ℕ) → transfer.kind ≡ Read
-    → a.device.flight ≡ Some (flight_of descriptor transfer moved) → moved + bytes < transfer.length
-    → piece bytes a ≡ moved_on descriptor transfer moved bytes a
-piece_fewer a descriptor bytes transfer moved reads is left =
-    let flight = flight_of descriptor transfer moved in
-    ap (λ (o : Option Flight). move_next o bytes a) is ∙ goes_on flight bytes a (omega arith)
-    ∙ ap (λ (kind : Kind). with_flight (move_as kind (transfer.address + moved) bytes a) (Some (flight_of descriptor transfer (moved + bytes)))) reads
-
--- and what it is where none are left
-piece_last : (a : Attached) (descriptor bytes : ℕ) (transfer : Finished) (moved : ℕ) → transfer.kind ≡ Read
-    → a.device.flight ≡ Some (flight_of descriptor transfer moved) → moved < transfer.length → transfer.length ≤ moved + bytes
-    → piece bytes a ≡ moved_whole descriptor transfer moved a
-piece_last a descriptor bytes transfer moved reads is some enough =
-    let flight = flight_of descriptor transfer moved in
-    ap (λ (o : Option Flight). move_next o bytes a) is ∙ ends flight bytes a some (omega arith)
-    ∙ ap (λ (kind : Kind). finish descriptor transfer (move_as kind (transfer.address + moved) (transfer.length - moved) a)) reads
 
 -- what was moved of a read that isn't over
 moved_of : (items : List Item) (before : List Finished) (descriptor control : ℕ) (transfer : Finished) (a : Attached)
@@ -281,22 +315,21 @@ moved_of items before descriptor control transfer a moving =
     record { held = moving.held; selected = moving.selected; offset = moving.offset; finished = moving.finished }
 
 -- a read that isn't over, over a piece
-moving_moves_on : (a : Attached) (before : List Finished) (descriptor control bytes : ℕ) (transfer : Finished) → IsDevice a.device → IsMemory a.memory
+moving_moves_on : (a : Attached) (before : List Finished) (descriptor control bytes : ℕ) (transfer : Finished) → IsMemory a.memory
     → CanRead a.device.items a.memory.top descriptor transfer → IsMoving a.device.items before descriptor control transfer a
     → MovesOn before descriptor control transfer a (piece bytes a)
-moving_moves_on a before descriptor control bytes transfer device memory can moving =
+moving_moves_on a before descriptor control bytes transfer memory can moving =
     let moved = moving.moved in
     let has = moved_of a.device.items before descriptor control transfer a moving in
-    let room = room_for a (flight_of descriptor transfer moved) device moving.flight in
     elim (cases_lt (moved + bytes) transfer.length) as (λ _. MovesOn before descriptor control transfer a (piece bytes a)) [
       | inl left ↦
-          subst (MovesOn before descriptor control transfer a) (sym (piece_fewer a descriptor bytes transfer moved can.kind moving.flight left))
-          (goes_on_still a before descriptor control bytes transfer moved device memory can has moving.written room left)
+          subst (MovesOn before descriptor control transfer a) (sym (piece_fewer Read a descriptor bytes transfer moved can.kind moving.flight left))
+          (goes_on_still a before descriptor control bytes transfer moved memory can has moving.written left)
       | inr enough ↦
           subst (MovesOn before descriptor control transfer a)
-          (sym (piece_last a descriptor bytes transfer moved can.kind moving.flight moving.some_left enough)) (
+          (sym (piece_last Read a descriptor bytes transfer moved can.kind moving.flight moving.some_left enough)) (
             inr (is_over a before descriptor transfer moved memory can has moving.some_left),
-            over_goes_on a descriptor transfer moved device memory room,
+            refl,
             λ address other. over_beside a descriptor transfer moved address memory moving.some_left other,
           )
     ]
@@ -305,17 +338,16 @@ moving_moves_on a before descriptor control bytes transfer device memory can mov
 pub read_moves_on : (a : Attached) (before : List Finished) (descriptor control bytes : ℕ) (transfer : Finished) → IsDevice a.device → IsMemory a.memory
     → CanRead a.device.items a.memory.top descriptor transfer → IsAwaited a.device.items before descriptor control transfer a
     → IsAwaited a.device.items before descriptor control transfer (piece bytes a) × GoesOn a (piece bytes a)
+    × ((piece bytes a).device.items ≡ a.device.items)
     × ((address : ℕ) → IsBesideRead address descriptor transfer → at (piece bytes a).memory address ≡ at a.memory address)
 read_moves_on a before descriptor control bytes transfer device memory can awaited =
+    let moves : MovesOn before descriptor control transfer a (piece bytes a) =
     elim awaited as (λ _. MovesOn before descriptor control transfer a (piece bytes a)) [
-      | inl moving ↦ moving_moves_on a before descriptor control bytes transfer device memory can moving
+      | inl moving ↦ moving_moves_on a before descriptor control bytes transfer memory can moving
       | inr over ↦
-          subst (MovesOn before descriptor control transfer a) (sym (piece_idle bytes a over.idle)) (
-            inr over,
-            record { items = refl; room = refl; device = device; memory = memory; top = refl; fill = refl },
-            λ address other. refl,
-          )
-    ]
+          subst (MovesOn before descriptor control transfer a) (sym (piece_idle bytes a over.idle)) (inr over, refl, λ address other. refl)
+    ] in
+    (moves.0, piece_goes_on bytes a device memory, moves.1, moves.2)
 
 -- a piece of as many bytes as an awaited read asks for ends it
 pub whole_piece : (a : Attached) (before : List Finished) (descriptor control bytes : ℕ) (transfer : Finished) → IsDevice a.device → IsMemory a.memory
@@ -326,7 +358,7 @@ whole_piece a before descriptor control bytes transfer device memory can awaited
       | inl moving ↦
           let has = moved_of a.device.items before descriptor control transfer a moving in
           subst (IsOver a.device.items before descriptor transfer)
-          (sym (piece_last a descriptor bytes transfer moving.moved can.kind moving.flight moving.some_left (omega arith)))
+          (sym (piece_last Read a descriptor bytes transfer moving.moved can.kind moving.flight moving.some_left (omega arith)))
           (is_over a before descriptor transfer moving.moved memory can has moving.some_left)
       | inr over ↦ subst (IsOver a.device.items before descriptor transfer) (sym (piece_idle bytes a over.idle)) over
     ]

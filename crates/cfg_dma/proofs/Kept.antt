@@ -92,7 +92,7 @@ pub record Moved (a b : Attached) : Type 0 where
   pub top : b.memory.top ≡ a.memory.top
   pub fill : b.memory.fill ≡ a.memory.fill
 
-move_keeps : (kind : Kind) (address count : ℕ) (a : Attached) → Moved a (move_as kind address count a)
+pub move_keeps : (kind : Kind) (address count : ℕ) (a : Attached) → Moved a (move_as kind address count a)
 move_keeps Read address count a = record { room = refl; spare = refl; top = refl; fill = refl }
 move_keeps Write address count a = record { room = refl; spare = refl; top = refl; fill = refl }
 move_keeps Skip address count a = record { room = refl; spare = refl; top = refl; fill = refl }

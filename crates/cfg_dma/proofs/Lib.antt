@@ -6,3 +6,5 @@ pub mod Kept
 pub mod Pieces
 pub mod Started
 pub mod Awaited
+pub mod WriteStarted
+pub mod WriteAwaited

@@ -1,11 +1,10 @@
 -- What moving bytes leaves of a device and of memory.
-use Rattle.std.proofs.Common.{◌≡◌, ◌≢◌, ℕ, ◌+◌, ◌-◌, ◌≤◌, List, ◌++◌, length, take, drop, replicate, Option, None, true, min}
+use Rattle.std.proofs.Common.{◌≡◌, ◌≢◌, ℕ, ◌+◌, ◌-◌, ◌≤◌, List, ◌++◌, length, take, drop, replicate, Option, None, min}
 use Rattle.std.proofs.Common.{arith, sym, refl, ap, ap₂, subst, ◌∙◌}
 use Rattle.std.specs.Prelude.{IfSome}
 use Rattle.std.proofs.lemmas.List.{places, same_lists, length-replicate}
 use Rattle.vt_bytes.specs.Memory.{Memory, IsRamRange, IsMemory, with_bytes, bytes_at}
 use Rattle.vt_bytes.proofs.Bytes.{length-bytes_at}
-use Rattle.vt_bytes.proofs.Each.{each_weaker}
 use Rattle.cfg_directory.specs.declared.item.Item.{Item}
 use Rattle.cfg_directory.specs.Items.{IsItems, AreDistinct, with_bytes_at, directory_of}
 use Rattle.cfg_dma.specs.declared.transfer.Kind.{Kind}
@@ -14,7 +13,7 @@ use Rattle.cfg_dma.specs.declared.transfer.Finished.{Finished}
 use Rattle.cfg_dma.specs.declared.transfer.Flight.{Flight}
 use Rattle.cfg_dma.specs.Device.{DeviceState, IsDevice, IsInFlight, KeepsDirectory, LieInFile, FitsIn, holds, advanced}
 use Rattle.cfg_dma.specs.Transfers.{Attached, attached, move_as}
-use Rattle.cfg_dma.proofs.Written.{has, Fit, each_with, fits_less, fits_written, fits_held, directory_written}
+use Rattle.cfg_dma.proofs.Written.{Fit, fit_from, fits_less, fits_written, fits_held, directory_written}
 use Rattle.cfg_dma.proofs.Runs.{one_more}
 
 -- ---- bytes that are read
@@ -45,10 +44,7 @@ read_is m now after address offset count r bytes lawful ram is first second =
 pub memory_fits : (items : List Item) (m : Memory) (select offset address count left : ℕ) → AreDistinct items → FitsIn items select (offset + left)
     → count ≤ left → Fit items select offset (bytes_at m address count)
 memory_fits items m select offset address count left distinct fits below =
-    each_weaker (λ (item : Item). has select item ≡ true → offset + left ≤ length item.bytes)
-    (λ (item : Item). has select item ≡ true → offset + length (bytes_at m address count) ≤ length item.bytes)
-    (λ item fit its. omega (arith, fit its, length-bytes_at m address count)) items
-    (each_with (λ (item : Item). offset + left ≤ length item.bytes) items select distinct fits)
+    fit_from items select offset left (bytes_at m address count) distinct fits (omega (arith, length-bytes_at m address count))
 
 pub written_device : (items now : List Item) (directory : List ℕ) (select offset address count at spare : ℕ) (flight : Option Flight) (finished : List Finished)
     (m : Memory) → IsItems items → IsItems now → KeepsDirectory items directory → FitsIn items select (offset + count)

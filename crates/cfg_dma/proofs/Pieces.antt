@@ -67,8 +67,7 @@ move_twice Write d m address left k n flight is within =
     let more = bytes_at m (address + k) n in
     let items : with_bytes_at first d.select (min (d.offset + k) end) more ≡ with_bytes_at d.items d.select d.offset (bytes_at m address (k + n)) =
     ap (λ offset. with_bytes_at first d.select offset more) place
-    ∙ written_more d.items first (with_bytes_at first d.select (d.offset + k) more) m d.select d.offset address k n left more is.items.distinct fits within
-    refl refl refl in
+    ∙ written_more d.items first (with_bytes_at first d.select (d.offset + k) more) m d.select d.offset address k n more refl refl refl in
     let size = length-contents d.items d.select d.offset d.select (bytes_at m address k)
     (memory_fits d.items m d.select d.offset address k left is.items.distinct fits (omega arith)) in
     let offset = ap (min (min (d.offset + k) end + n)) size ∙ end_twice d.offset k n end in
@@ -87,6 +86,10 @@ move_none Write d m address within =
     ap₂ (λ (items : List Item) (offset : ℕ). attached (record d { items = items; offset = offset }) m) (written_none d.items d.select d.offset) offset
 
 -- ---- a transfer
+
+-- what holds of the transfer in flight
+pub in_flight : (a : Attached) (flight : Flight) → IsDevice a.device → a.device.flight ≡ Some flight → IsInFlight a.device flight
+in_flight a flight device is = subst (λ (o : Option Flight). IfSome o (IsInFlight a.device)) is device.flight
 
 -- all that are left are moved, and it is over
 pub ends : (flight : Flight) (bytes : ℕ) (a : Attached) → flight.moved < flight.transfer.length → left_of flight ≤ bytes
@@ -176,7 +179,7 @@ pieces_are_one a (bytes ∷ sizes) device memory can_move =
 pub transfer_ends : (a : Attached) (flight : Flight) (sizes : List ℕ) → IsDevice a.device → IsMemory a.memory → CanMove a → a.device.flight ≡ Some flight
     → left_of flight ≤ sum sizes → pieces sizes a ≡ finish flight.descriptor flight.transfer (move_by flight (left_of flight) a)
 transfer_ends a flight sizes device memory can_move is enough =
-    let some = subst (λ (o : Option Flight). IfSome o (IsInFlight a.device)) is device.flight in
+    let some = in_flight a flight device is in
     pieces_are_one a sizes device memory can_move ∙ ap (λ (o : Option Flight). move_next o (sum sizes) a) is ∙ ends flight (sum sizes) a some.left enough
 
 -- bytes beside those that are moved stay
@@ -195,11 +198,11 @@ pub keeps_to_range : (a : Attached) (flight : Flight) (bytes address : ℕ) → 
     → (address < flight.transfer.address) ⊎ (flight.transfer.address + flight.transfer.length ≤ address)
     → at (piece bytes a).memory address ≡ at a.memory address
 keeps_to_range a flight bytes address device memory is busy other =
-    let in_flight = subst (λ (o : Option Flight). IfSome o (IsInFlight a.device)) is device.flight in
+    let some = in_flight a flight device is in
     let moved : piece bytes a ≡ move_next (Some flight) bytes a = ap (λ (o : Option Flight). move_next o bytes a) is in
     elim (cases_lt bytes (left_of flight)) as (λ _. at (piece bytes a).memory address ≡ at a.memory address) [
       | inr enough ↦
-          let over = moved ∙ ends flight bytes a in_flight.left enough in
+          let over = moved ∙ ends flight bytes a some.left enough in
           absurd (false≢true (subst (λ (b : Attached). IsSome b.device.flight) over busy))
       | inl fewer ↦
           let on = moved ∙ goes_on flight bytes a fewer in

@@ -1,5 +1,5 @@
 -- Runs of bytes in memory, piece by piece.
-use Rattle.std.proofs.Common.{◌≡◌, ℕ, ◌+◌, ◌≤◌, ◌<◌, List, ◌++◌, length, replicate, true, arith, sym, ap, subst, ◌∙◌, length-append}
+use Rattle.std.proofs.Common.{◌≡◌, ℕ, ◌+◌, ◌≤◌, ◌<◌, List, ◌++◌, length, replicate, arith, sym, ap, subst, ◌∙◌, length-append}
 use Rattle.std.proofs.lemmas.List.{length-replicate, replicate-append-replicate}
 use Rattle.vt_bytes.specs.Memory.{Memory, IsTop, IsRam, IsRamRange, IsMemory, with_bytes, bytes_at}
 use Rattle.vt_bytes.proofs.Memories.{with_both}
@@ -7,8 +7,7 @@ use Rattle.vt_bytes.proofs.Bytes.{bytes_at-parts, length-bytes_at}
 use Rattle.cfg_directory.specs.declared.item.Item.{Item}
 use Rattle.cfg_directory.specs.Items.{AreDistinct, with_bytes_at}
 use Rattle.cfg_dma.specs.Device.{FitsIn}
-use Rattle.cfg_dma.proofs.Written.{has, each_with, written_twice, fits_written}
-use Rattle.vt_bytes.proofs.Each.{each_weaker}
+use Rattle.cfg_dma.proofs.Written.{fit_from, written_twice, fits_written}
 
 -- an address of RAM is below 4 GiB
 pub ram_below : (top address : ℕ) → IsRam top address → IsTop top → address < 0xC0000000
@@ -33,11 +32,10 @@ zeros_more m now after address k n count lawful ram within so_far more =
     ∙ ap (with_bytes m address) (replicate-append-replicate k n 0)
 
 -- a file into which bytes of memory were written, and more of them behind
-pub written_more : (items now after : List Item) (m : Memory) (select offset address k n count : ℕ) (part : List ℕ) → AreDistinct items
-    → FitsIn items select (offset + count) → k + n ≤ count → part ≡ bytes_at m (address + k) n
+pub written_more : (items now after : List Item) (m : Memory) (select offset address k n : ℕ) (part : List ℕ) → part ≡ bytes_at m (address + k) n
     → now ≡ with_bytes_at items select offset (bytes_at m address k) → after ≡ with_bytes_at now select (offset + k) part
     → after ≡ with_bytes_at items select offset (bytes_at m address (k + n))
-written_more items now after m select offset address k n count part distinct fits within read so_far more =
+written_more items now after m select offset address k n part read so_far more =
     let front = bytes_at m address k in
     let at : offset + k ≡ offset + length front = omega (arith, length-bytes_at m address k) in
     more
@@ -45,19 +43,13 @@ written_more items now after m select offset address k n count part distinct fit
     ∙ ap (λ place. with_bytes_at (with_bytes_at items select offset front) select place part) at
     ∙ ap (λ back. with_bytes_at (with_bytes_at items select offset front) select (offset + length front) back) read
     ∙ written_twice items select offset front (bytes_at m (address + k) n)
-    (each_weaker (λ (item : Item). has select item ≡ true → offset + count ≤ length item.bytes) (λ (item : Item). has select item ≡ true → offset ≤ length item.bytes)
-    (λ item fit its. omega (arith, fit its)) items
-    (each_with (λ (item : Item). offset + count ≤ length item.bytes) items select distinct fits))
     ∙ ap (with_bytes_at items select offset) (sym (bytes_at-parts m address k n))
 
 -- what is left to write fits still
 pub fits_left : (items now : List Item) (m : Memory) (select offset address k count : ℕ) → AreDistinct items → FitsIn items select (offset + count)
     → k ≤ count → now ≡ with_bytes_at items select offset (bytes_at m address k) → FitsIn now select (offset + count)
 fits_left items now m select offset address k count distinct fits within so_far =
-    let all = each_with (λ (item : Item). offset + count ≤ length item.bytes) items select distinct fits in
     let front = bytes_at m address k in
     subst (λ (is : List Item). FitsIn is select (offset + count)) (sym so_far)
     (fits_written items select offset (offset + count) front
-    (each_weaker (λ (item : Item). has select item ≡ true → offset + count ≤ length item.bytes)
-    (λ (item : Item). has select item ≡ true → offset + length front ≤ length item.bytes)
-    (λ item fit its. omega (arith, fit its, length-bytes_at m address k)) items all) fits)
+    (fit_from items select offset count front distinct fits (omega (arith, length-bytes_at m address k))) fits)

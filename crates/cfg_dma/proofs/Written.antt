@@ -3,14 +3,19 @@ use Rattle.std.proofs.Common.{◌≡◌, ℕ, ◌+◌, ◌≤◌, ◌==◌, Bool
 use Rattle.std.proofs.Common.{inl, inr, arith, sym, refl, ap, ap₂, subst, ◌∙◌}
 use Rattle.std.specs.Prelude.{IsSomeAnd}
 use Rattle.std.specs.Option.{option_map_or}
-use Rattle.std.specs.List.{flat_map, AllByRecursion}
+use Rattle.std.specs.List.{flat_map, AllByRecursion, position_or_len}
 use Rattle.std.proofs.lemmas.Bool.{cases_Bool, cond-true, cond-false, cond_both, eqb-true, false≢true}
 use Rattle.std.proofs.lemmas.List.{places, same_lists, length-map}
+use Rattle.std.proofs.lemmas.List.Folds.{find_at}
+use Rattle.std.proofs.lemmas.List.Sums.{passes_at_first}
+use Rattle.std.proofs.lemmas.Option.{slice_get_cases}
 use Rattle.vt_bytes.specs.Numbers.{be_bytes}
 use Rattle.vt_bytes.specs.Parts.{put_at}
+use Rattle.vt_bytes.proofs.Each.{each_weaker}
 use Rattle.vt_layout.specs.Rows.{spelled}
 use Rattle.cfg_directory.specs.declared.item.Item.{Item}
 use Rattle.cfg_directory.specs.Items.{IsItems, AreDistinct, HasNoSelect, selected, with_bytes_at, directory_of, entry_rows, entry_bytes}
+use Rattle.cfg_directory.proofs.BytesPut.{IsFound, one_put, fits_in, IsItems-put}
 use Rattle.cfg_dma.specs.Device.{contents, bytes_of, signature, features, FitsIn}
 use Rattle.cfg_dma.proofs.Holds.{bytes_small, contents-file}
 
@@ -44,7 +49,7 @@ found_later : (P : Item → Type 0) (first : Item) (items : List Item) (select :
 found_later P first items select other some =
     subst (λ (o : Option Item). IsSomeAnd o P) (cond-false (has select first) (Some first) (selected items select) other) some
 
-pub each_with : (P : Item → Type 0) (items : List Item) (select : ℕ) → AreDistinct items → IsSomeAnd (selected items select) P → EachWith select P items
+each_with : (P : Item → Type 0) (items : List Item) (select : ℕ) → AreDistinct items → IsSomeAnd (selected items select) P → EachWith select P items
 each_with P [] select distinct some = tt
 each_with P (first ∷ items) select distinct some =
     elim (cases_Bool (has select first)) as (λ _. EachWith select P (first ∷ items)) [
@@ -88,9 +93,9 @@ fits_small items select count lawful fits = omega (arith, fits_bytes items selec
 
 -- ---- one item
 
-put_twice : (bytes front back : List ℕ) (offset : ℕ) → offset ≤ length bytes
+put_twice : (bytes front back : List ℕ) (offset : ℕ)
     → put_at (put_at bytes offset front) (offset + length front) back ≡ put_at bytes offset (front ++ back)
-put_twice bytes front back offset within = same_lists _ _ (grind (arith, places)) (λ k d h. grind (arith, places))
+put_twice bytes front back offset = same_lists _ _ (grind (arith, places)) (λ k d h. grind (arith, places))
 
 put_none : (bytes : List ℕ) (offset : ℕ) → put_at bytes offset [] ≡ bytes
 put_none bytes offset = same_lists _ _ (grind (arith, places)) (λ k d h. grind (arith, places))
@@ -105,14 +110,14 @@ changed select offset piece item its = cond-true (has select item) (put_in offse
 kept : (select offset : ℕ) (piece : List ℕ) (item : Item) → has select item ≡ false → put_if select offset piece item ≡ item
 kept select offset piece item other = cond-false (has select item) (put_in offset piece item) item other
 
-item_twice : (select offset : ℕ) (front back : List ℕ) (item : Item) → (has select item ≡ true → offset ≤ length item.bytes)
+item_twice : (select offset : ℕ) (front back : List ℕ) (item : Item)
     → put_if select (offset + length front) back (put_if select offset front item) ≡ put_if select offset (front ++ back) item
-item_twice select offset front back item within =
+item_twice select offset front back item =
     let again = put_if select (offset + length front) back in
     elim (cases_Bool (has select item)) as (λ _. again (put_if select offset front item) ≡ put_if select offset (front ++ back) item) [
       | inl its ↦
           ap again (changed select offset front item its) ∙ changed select (offset + length front) back (put_in offset front item) its
-          ∙ ap (λ (bytes : List ℕ). record item { bytes = bytes }) (put_twice item.bytes front back offset (within its))
+          ∙ ap (λ (bytes : List ℕ). record item { bytes = bytes }) (put_twice item.bytes front back offset)
           ∙ sym (changed select offset (front ++ back) item its)
       | inr other ↦
           ap again (kept select offset front item other) ∙ kept select (offset + length front) back item other
@@ -148,12 +153,19 @@ item_entry select offset piece item within =
 abbrev pub Fit : List Item → ℕ → ℕ → List ℕ → Type 0
 Fit items select offset piece = EachWith select (λ (item : Item). offset + length piece ≤ length item.bytes) items
 
-pub written_twice : (items : List Item) (select offset : ℕ) (front back : List ℕ) → EachWith select (λ (item : Item). offset ≤ length item.bytes) items
+-- bytes fit where as many or more do
+pub fit_from : (items : List Item) (select offset count : ℕ) (piece : List ℕ) → AreDistinct items → FitsIn items select (offset + count)
+    → length piece ≤ count → Fit items select offset piece
+fit_from items select offset count piece distinct fits below =
+    each_weaker (λ (item : Item). has select item ≡ true → offset + count ≤ length item.bytes)
+    (λ (item : Item). has select item ≡ true → offset + length piece ≤ length item.bytes) (λ item fit its. omega (arith, fit its)) items
+    (each_with (λ (item : Item). offset + count ≤ length item.bytes) items select distinct fits)
+
+pub written_twice : (items : List Item) (select offset : ℕ) (front back : List ℕ)
     → with_bytes_at (with_bytes_at items select offset front) select (offset + length front) back ≡ with_bytes_at items select offset (front ++ back)
-written_twice [] select offset front back within = refl
-written_twice (item ∷ items) select offset front back within =
-    ap₂ (λ (i : Item) (is : List Item). i ∷ is) (item_twice select offset front back item within.0)
-    (written_twice items select offset front back within.1)
+written_twice [] select offset front back = refl
+written_twice (item ∷ items) select offset front back =
+    ap₂ (λ (i : Item) (is : List Item). i ∷ is) (item_twice select offset front back item) (written_twice items select offset front back)
 
 pub written_none : (items : List Item) (select offset : ℕ) → with_bytes_at items select offset [] ≡ items
 written_none [] select offset = refl
@@ -171,6 +183,26 @@ pub directory_written : (items : List Item) (select offset : ℕ) (piece : List 
 directory_written items select offset piece fit =
     ap₂ (λ (count : ℕ) (entries : List ℕ). be_bytes 4 count ++ entries) (length-map items (put_if select offset piece))
     (entries_written items select offset piece fit)
+
+-- items stay lawful
+pub put_lawful : (items : List Item) (select offset : ℕ) (piece : List ℕ) → IsItems items → FitsIn items select (offset + length piece)
+    → IsItems (with_bytes_at items select offset piece)
+put_lawful items select offset piece lawful fits =
+    let place = position_or_len (has select) items in
+    elim (slice_get_cases items place).1 as (λ _. IsItems (with_bytes_at items select offset piece)) [
+      | inl there ↦
+          let item = there.0 in
+          let found : IsFound items select place item = record {
+            at = there.2;
+            passes = eqb-true item.select select (ap (has select) (sym there.3) ∙ passes_at_first (has select) items item there.1);
+            found = find_at (has select) items ∙ there.2;
+          } in
+          subst IsItems (one_put items select offset piece place item lawful.distinct there.2 found.passes)
+          (IsItems-put items select place item offset piece lawful found (fits_in items select place item offset piece found fits))
+      | inr none ↦
+          absurd (subst (λ (o : Option Item). IsSomeAnd o (λ (item : Item). offset + length piece ≤ length item.bytes))
+          (find_at (has select) items ∙ none.1) fits)
+    ]
 
 -- each file keeps how many bytes it has
 pub length-bytes_of : (items : List Item) (select offset other : ℕ) (piece : List ℕ) → Fit items select offset piece

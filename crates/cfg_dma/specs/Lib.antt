@@ -3,6 +3,7 @@ pub mod Descriptor
 pub mod Transfers
 pub mod Events
 pub mod Reads
+pub mod Writes
 pub use Rattle.vt_bytes.specs.Numbers
 pub use Rattle.vt_bytes.specs.Memory
 pub use Rattle.cfg_directory.specs.Items

@@ -80,9 +80,8 @@ abbrev pub IsAwaited : List Item → List Finished → ℕ → ℕ → Finished 
 IsAwaited items before descriptor control transfer a =
     IsMoving items before descriptor control transfer a ⊎ IsOver items before descriptor transfer a
 
--- A device goes on with its items and its room, and memory with its top and its fill byte; both stay lawful.
+-- A device goes on with its room, and memory with its top and its fill byte; both stay lawful.
 pub record GoesOn (before after : Attached) : Type 0 where
-  pub items : after.device.items ≡ before.device.items
   pub room : room_of after.device ≡ room_of before.device
   pub device : IsDevice after.device
   pub memory : IsMemory after.memory

@@ -1,15 +1,17 @@
 //! Laws over all devices and memories, each the contract of a function that does nothing.
 
-ghost use Rattle.std.specs.Prelude.{◌≡◌, ℕ, ◌+◌, ◌^◌, ◌<◌, ◌≤◌, ◌⊎◌, List, sum, Some, None, IsSome};
+ghost use Rattle.std.specs.Prelude.{◌≡◌, ℕ, ◌+◌, ◌^◌, ◌<◌, ◌≤◌, ◌⊎◌, ◌++◌, List, length, sum, Some, None, IsSome};
 ghost use Rattle.vt_bytes.specs.Numbers.{be};
 ghost use Rattle.vt_bytes.specs.Memory.{IsMemory, at, bytes_at, with_bytes};
 ghost use Rattle.cfg_directory.specs.declared.item.Item.{Item};
+ghost use Rattle.cfg_directory.specs.Items.{with_bytes_at};
 ghost use Rattle.cfg_dma.specs.declared.transfer.Finished.{Finished};
 ghost use Rattle.cfg_dma.specs.declared.transfer.Flight.{Flight};
 ghost use Rattle.cfg_dma.specs.Device.{IsDevice};
 ghost use Rattle.cfg_dma.specs.Transfers.{Attached, CanMove, room_of, left_of, move_by, finish, piece, pieces};
 ghost use Rattle.cfg_dma.specs.Events.{Event, MayHappen, happens};
 ghost use Rattle.cfg_dma.specs.Reads.{CanRead, AsksFor, IsMoving, IsAwaited, GoesOn, IsBesideRead, started, descriptor_bytes};
+ghost use Rattle.cfg_dma.specs.Writes.{CanSkip, IsSkipped, CanWrite, IsWriting, IsWriteAwaited, selected_skip, next_write};
 
 /// States that a transfer leaves the same, in whatever pieces it is moved: any pieces, one after the other, are one piece of as
 /// many bytes.
@@ -49,6 +51,7 @@ pub fn a_read_is_started()
         → CanRead a.device.items a.memory.top descriptor transfer → AsksFor control a.device transfer
         → IsMoving a.device.items before descriptor control transfer (started descriptor control transfer.length transfer.address a)
         × GoesOn a (started descriptor control transfer.length transfer.address a)
+        × ((started descriptor control transfer.length transfer.address a).device.items ≡ a.device.items)
         × ((started descriptor control transfer.length transfer.address a).memory
         ≡ with_bytes a.memory descriptor (descriptor_bytes control transfer.length transfer.address)) }
 {}
@@ -60,6 +63,7 @@ pub fn a_read_moves_on()
         → IsMemory a.memory → CanRead a.device.items a.memory.top descriptor transfer
         → IsAwaited a.device.items before descriptor control transfer a
         → IsAwaited a.device.items before descriptor control transfer (piece bytes a) × GoesOn a (piece bytes a)
+        × ((piece bytes a).device.items ≡ a.device.items)
         × ((address : ℕ) → IsBesideRead address descriptor transfer → at (piece bytes a).memory address ≡ at a.memory address) }
 {}
 
@@ -68,4 +72,52 @@ pub fn a_read_moves_on()
 pub fn a_read_that_moves_shows_its_control_word()
     ensures { (items : List Item) (before : List Finished) (descriptor control : ℕ) (transfer : Finished) (a : Attached) → control < 2 ^ 32
         → IsMoving items before descriptor control transfer a → be (bytes_at a.memory descriptor 4) ≡ control }
+{}
+
+/// States that a skip that is asked for is over at once: it moves the device behind so many bytes of the item, and changes memory in its
+/// descriptor alone.
+pub fn a_skip_is_over_at_once()
+    ensures { (a : Attached) (before : List Finished) (descriptor select count : ℕ) → IsDevice a.device → IsMemory a.memory
+        → a.device.flight ≡ None → 0 < a.device.spare → a.device.finished ≡ before
+        → CanSkip a.device.items a.memory.top descriptor select count
+        → IsSkipped before descriptor select count (started descriptor (selected_skip select) count 0 a)
+        × GoesOn a (started descriptor (selected_skip select) count 0 a)
+        × ((started descriptor (selected_skip select) count 0 a).device.items ≡ a.device.items)
+        × ((address : ℕ) → (address < descriptor) ⊎ (descriptor + 16 ≤ address)
+        → at (started descriptor (selected_skip select) count 0 a).memory address ≡ at a.memory address) }
+{}
+
+/// States that a write that is asked for, from where the device is, is in flight, and that memory is changed by its descriptor alone.
+pub fn a_write_is_started()
+    ensures { (a : Attached) (before : List Finished) (descriptor : ℕ) (transfer : Finished) → IsDevice a.device → IsMemory a.memory
+        → a.device.flight ≡ None → 0 < a.device.spare → a.device.finished ≡ before
+        → CanWrite a.device.items a.memory.top descriptor transfer → transfer.select ≡ a.device.select → transfer.offset ≡ a.device.offset
+        → IsWriting a.device.items (bytes_at a.memory transfer.address transfer.length) before descriptor transfer
+        (started descriptor next_write transfer.length transfer.address a)
+        × GoesOn a (started descriptor next_write transfer.length transfer.address a)
+        × ((started descriptor next_write transfer.length transfer.address a).memory
+        ≡ with_bytes a.memory descriptor (descriptor_bytes next_write transfer.length transfer.address)) }
+{}
+
+/// States that a write that is awaited stays so over any piece, until it is over, and that a piece changes no byte of memory but those of its
+/// control word.
+pub fn a_write_moves_on()
+    ensures { (a : Attached) (items : List Item) (bytes : List ℕ) (before : List Finished) (descriptor count : ℕ) (transfer : Finished)
+        → IsDevice a.device → IsMemory a.memory → CanWrite items a.memory.top descriptor transfer
+        → IsWriteAwaited items bytes before descriptor transfer a
+        → IsWriteAwaited items bytes before descriptor transfer (piece count a) × GoesOn a (piece count a)
+        × ((address : ℕ) → (address < descriptor) ⊎ (descriptor + 4 ≤ address) → at (piece count a).memory address ≡ at a.memory address) }
+{}
+
+/// States that memory shows the control word of a write until it is over, as it does for a read.
+pub fn a_write_that_moves_shows_its_control_word()
+    ensures { (items : List Item) (bytes : List ℕ) (before : List Finished) (descriptor : ℕ) (transfer : Finished) (a : Attached)
+        → IsWriting items bytes before descriptor transfer a → be (bytes_at a.memory descriptor 4) ≡ next_write }
+{}
+
+/// States that bytes that are put into an item in parts, one behind the other, are put whole.
+pub fn bytes_put_in_parts_are_put_whole()
+    ensures { (items : List Item) (select offset : ℕ) (front rest : List ℕ)
+        → with_bytes_at (with_bytes_at items select offset front) select (offset + length front) rest
+        ≡ with_bytes_at items select offset (front ++ rest) }
 {}

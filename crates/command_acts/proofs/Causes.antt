@@ -1,15 +1,14 @@
 -- The first cause to refuse a command: one that is told early, or that the sum of a pointer doesn't fit.
-use Rattle.std.proofs.Common.{◌≡◌, ℕ, ◌^◌, ◌<◌, ◌≤◌, List, [], Bool, Some, None, not, refl, ap, ◌∙◌}
+use Rattle.std.proofs.Common.{◌≡◌, ℕ, ◌^◌, ◌<◌, ◌≤◌, List, Bool, Some, None, not, refl, ap, ◌∙◌}
 use Rattle.std.proofs.lemmas.Bool.{cond-true, cond-false, lt-ltb, le-ltb}
 use Rattle.loader_script.specs.declared.entry.Entry.{Entry}
 use Rattle.loader_script.specs.declared.entry.Entry.TheVariants.{Allocate, AddPointer, AddChecksum, WritePointer, Misnamed, Skipped}
 use Rattle.loader_script.specs.declared.refusing.Cause.{Cause}
 use Rattle.loader_script.specs.declared.refusing.Cause.TheVariants.{TooFar}
 use Rattle.loader_script.specs.Refusal.{causes_of, first_cause}
-use Rattle.vt_outside.specs.File.{File}
-use Rattle.loader_script.specs.Run.{Placed, Progress, infos_of, places_of, pointer_sum, late_causes, cause_of}
+use Rattle.loader_script.specs.Run.{Progress, infos_of, places_of, pointer_sum, late_causes, cause_of}
 use Rattle.loader_script.proofs.Conditions.{earlier, later}
-use Rattle.command_acts.specs.Runs.{at_files, early_cause}
+use Rattle.command_acts.specs.Runs.{early_cause, with_places}
 
 -- the causes that are told early
 abbrev early : Entry → Progress → List (Cause × Bool)
@@ -37,12 +36,11 @@ pointer_stops dest src offset size p none far =
     ∙ cond-true _ _ _ (ap not (le-ltb (pointer_sum p.placed dest src offset size) (256 ^ size) far))
 
 -- which cause it is doesn't depend on the places that are still to be given
-pub cause_any : (entry : Entry) (files : List File) (placed : List Placed) (places : List ℕ)
-    → cause_of entry (at_files files placed places) ≡ cause_of entry (at_files files placed [])
+pub cause_any : (entry : Entry) (p : Progress) (places : List ℕ) → cause_of entry (with_places p places) ≡ cause_of entry p
 unfolding cause_of
-cause_any (Allocate name align zone) files placed places = refl
-cause_any (AddPointer dest src offset size) files placed places = refl
-cause_any (AddChecksum name offset start count) files placed places = refl
-cause_any (WritePointer dest src dst_offset src_offset size) files placed places = refl
-cause_any (Misnamed command) files placed places = refl
-cause_any (Skipped command) files placed places = refl
+cause_any (Allocate name align zone) p places = refl
+cause_any (AddPointer dest src offset size) p places = refl
+cause_any (AddChecksum name offset start count) p places = refl
+cause_any (WritePointer dest src dst_offset src_offset size) p places = refl
+cause_any (Misnamed command) p places = refl
+cause_any (Skipped command) p places = refl

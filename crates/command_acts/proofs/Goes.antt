@@ -1,5 +1,5 @@
 -- What one command does in the run of a script, over a memory and the files that stand in it.
-use Rattle.std.proofs.Common.{◌≡◌, ℕ, ◌+◌, ◌-◌, ◌%◌, ◌<◌, ◌≤◌, List, [], ◌∷◌, ◌++◌, length, map, option_map, is_some, Option, Some, None, IsSome, Ok}
+use Rattle.std.proofs.Common.{◌≡◌, ℕ, ◌+◌, ◌-◌, ◌%◌, ◌<◌, List, [], ◌∷◌, ◌++◌, length, map, option_map, is_some, Option, Some, None, IsSome}
 use Rattle.std.proofs.Common.{length-append, arith, refl, ap, subst, sym, ◌∙◌}
 use Rattle.std.specs.List.{AllByRecursion}
 use Rattle.std.specs.Option.{option_map_or}
@@ -11,7 +11,6 @@ use Rattle.vt_outside.specs.Placement.{Range, IsFree}
 use Rattle.vt_bytes.specs.Numbers.{le, le_bytes, byte_sum}
 use Rattle.vt_bytes.specs.Memory.{Memory, IsTop, IsMemory, Puts, at, bytes_at, with_bytes}
 use Rattle.vt_bytes.proofs.Memories.{puts_number_with, puts_byte_with, lawful_with}
-use Rattle.cfg_directory.specs.declared.item.Item.{Item}
 use Rattle.loader_script.specs.declared.entry.Entry.{Entry}
 use Rattle.loader_script.specs.declared.entry.Entry.TheVariants.{Allocate, AddPointer, AddChecksum, Skipped}
 use Rattle.loader_script.specs.declared.refusing.FileInfo.{FileInfo}
@@ -27,15 +26,13 @@ use Rattle.zone_alloc.specs.Allocators.{AllocState, Begun}
 use Rattle.zone_alloc.specs.Zones.{zone_range, zone_numbered}
 use Rattle.command_acts.specs.declared.placed.PlacedFile.{PlacedFile}
 use Rattle.command_acts.specs.Allocators.{AreZonesOf, AreLawful, MayAnswer}
-use Rattle.command_acts.specs.FilesInMemory.{place_of, placed_named, files_in, pointed, summed, IsOfSize, IsLoading, Stays, CanPoint, CanSum}
+use Rattle.command_acts.specs.FilesInMemory.{place_of, placed_named, files_in, progress_in, pointed, summed, IsOfSize, IsLoading, Stays, CanPoint, CanSum}
 use Rattle.command_acts.specs.Placing.{places_in, count_places, place_named}
-use Rattle.command_acts.specs.Runs.{Answers, allocated, at_files, early_cause, request_of, placed_at}
-use Rattle.command_acts.specs.Script.{script_in}
-use Rattle.command_acts.specs.Steps.{LeadsOn, WritesNothing}
+use Rattle.command_acts.specs.Runs.{Answers, allocated, at_files, early_cause, request_of, with_file}
+use Rattle.command_acts.specs.Steps.{LeadsOn}
 use Rattle.command_acts.proofs.Allocations.{in_zone, none_from, ranges_in}
 use Rattle.command_acts.proofs.Causes.{cause_early}
 use Rattle.command_acts.proofs.Checksums.{IsSum, byte_ram, sum_after, sum_stays}
-use Rattle.command_acts.proofs.Decoded.{decoded}
 use Rattle.command_acts.proofs.NamedInMemory.{some_named, none_named}
 use Rattle.command_acts.proofs.OneCommand.{leads_from, pointer_can, pointer_carries, sum_can, sum_carries, skipped_carries}
 use Rattle.command_acts.proofs.OneMoreFile.{IsNew, all_push, ArePlaced-push}
@@ -93,7 +90,8 @@ can_point m files placed dest src offset size loading none =
 -- An AddPointer that isn't refused leads on to the files of the memory that the definition gives; other bytes stay.
 pub pointer_goes : (May : Answers) (m : Memory) (files : List File) (placed : List PlacedFile) (dest src : List ℕ) (offset size : ℕ) → IsMemory m
     → IsLoading m.top files placed → cause_of (AddPointer dest src offset size) (at_files files (files_in m placed) []) ≡ None
-    → LeadsOn May files (AddPointer dest src offset size) (files_in m placed) (files_in (pointed m placed dest src offset size) placed)
+    → LeadsOn May (AddPointer dest src offset size) (progress_in m files placed [])
+    (progress_in (pointed m placed dest src offset size) files placed [])
     × Stays m (pointed m placed dest src offset size) placed placed
     × IsMemory (pointed m placed dest src offset size)
 pointer_goes May m files placed dest src offset size lawful loading none =
@@ -139,7 +137,8 @@ can_sum m files placed name offset start count loading none =
 -- An AddChecksum that isn't refused leads on to the files of the memory that the definition gives; other bytes stay.
 pub sum_goes : (May : Answers) (m : Memory) (files : List File) (placed : List PlacedFile) (name : List ℕ) (offset start count : ℕ) → IsMemory m
     → IsLoading m.top files placed → cause_of (AddChecksum name offset start count) (at_files files (files_in m placed) []) ≡ None
-    → LeadsOn May files (AddChecksum name offset start count) (files_in m placed) (files_in (summed m placed name offset start count) placed)
+    → LeadsOn May (AddChecksum name offset start count) (progress_in m files placed [])
+    (progress_in (summed m placed name offset start count) files placed [])
     × Stays m (summed m placed name offset start count) placed placed
     × IsMemory (summed m placed name offset start count)
 sum_goes May m files placed name offset start count lawful loading none =
@@ -160,16 +159,16 @@ sum_goes May m files placed name offset start count lawful loading none =
       lawful_with m field (byte ∷ []) lawful,
     )
 
--- a command that is skipped leads on to the same files
+-- a command that is skipped leads on to where the run is
 pub skip_goes : (May : Answers) (m : Memory) (files : List File) (placed : List PlacedFile) (command : ℕ)
-    → LeadsOn May files (Skipped command) (files_in m placed) (files_in m placed)
+    → LeadsOn May (Skipped command) (progress_in m files placed []) (progress_in m files placed [])
 skip_goes May m files placed command = leads_from (skipped_carries m files placed command)
 
 -- An Allocate that isn't refused leads on to one file more, at the place that it is given.
 pub allocate_goes : (May : Answers) (m : Memory) (files : List File) (placed : List PlacedFile) (name : List ℕ) (align zone place : ℕ)
     → cause_of (Allocate name align zone) (at_files files (files_in m placed) []) ≡ None
     → May (map range_of (files_in m placed)) (request_of files name align zone) (Some place)
-    → LeadsOn May files (Allocate name align zone) (files_in m placed) (files_in m placed ++ placed_at files name place ∷ [])
+    → LeadsOn May (Allocate name align zone) (progress_in m files placed []) (with_file (progress_in m files placed []) name place)
 allocate_goes May m files placed name align zone place none may index script end final ends = allocated place none may ends
 
 -- with one new file more, the files stand in RAM and apart, each with as many bytes as it has in fw_cfg
@@ -248,10 +247,3 @@ count_pushed m files placed name align zone place size none distinct count =
       ),
       omega (arith, count, count_few places (index_of infos name) within nowhere, as_many, all),
     )
-
--- each command of a script that is read writes nothing to the files of fw_cfg, and there are at most 8,192
-pub script_writes_nothing : (items : List Item) (script : List Entry) → script_in items ≡ Ok script
-    → AllByRecursion WritesNothing script × (length script ≤ 8192)
-script_writes_nothing items script is =
-    let all = decoded items script is in
-    (all.writes, all.short)

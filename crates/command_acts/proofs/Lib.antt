@@ -13,3 +13,4 @@ pub mod OneCommand
 pub mod Allocations
 pub mod Decoded
 pub mod Goes
+pub mod ItemsWritten

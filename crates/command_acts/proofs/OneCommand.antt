@@ -8,7 +8,7 @@ use Rattle.vt_bytes.proofs.Bytes.{length-bytes_at}
 use Rattle.loader_script.specs.declared.entry.Entry.{Entry}
 use Rattle.loader_script.specs.declared.entry.Entry.TheVariants.{AddPointer, AddChecksum, Skipped}
 use Rattle.vt_outside.specs.File.{File}
-use Rattle.loader_script.specs.Run.{Placed, file_of, placed_of, pointer_sum, with_pointer, with_sum, carried_out}
+use Rattle.loader_script.specs.Run.{Placed, Progress, file_of, placed_of, pointer_sum, with_pointer, with_sum, carried_out}
 use Rattle.loader_script.specs.Conditions.{CanAddChecksum}
 use Rattle.loader_script.proofs.Conditions.{IsPointerEarly, pointer_early, conditions_from, conditions_suffice}
 use Rattle.loader_script.proofs.Named.{same_name, of_found, found_passes}
@@ -90,7 +90,7 @@ pub pointer_carries : (m new : Memory) (files : List File) (placed : List Placed
     → early_cause (AddPointer dest src offset size) (progress_in m files placed []) ≡ None
     → pointer_sum (files_in m placed) dest src offset size < 256 ^ size
     → files_in new placed ≡ with_pointer dest src offset size (files_in m placed)
-    → CarriesTo files (AddPointer dest src offset size) (files_in m placed) (files_in new placed)
+    → CarriesTo (AddPointer dest src offset size) (progress_in m files placed []) (progress_in new files placed [])
 unfolding carried_out
 pointer_carries m new files placed dest src offset size none fits after =
     (pointer_goes dest src offset size (progress_in m files placed []) none fits, ap (λ ps. Some (at_files files ps [])) (sym after))
@@ -98,17 +98,16 @@ pointer_carries m new files placed dest src offset size none fits after =
 pub sum_carries : (m new : Memory) (files : List File) (placed : List PlacedFile) (name : List ℕ) (offset start count : ℕ)
     → early_cause (AddChecksum name offset start count) (progress_in m files placed []) ≡ None
     → files_in new placed ≡ with_sum name offset start count (files_in m placed)
-    → CarriesTo files (AddChecksum name offset start count) (files_in m placed) (files_in new placed)
+    → CarriesTo (AddChecksum name offset start count) (progress_in m files placed []) (progress_in new files placed [])
 unfolding carried_out
 sum_carries m new files placed name offset start count none after =
     (cause_late (AddChecksum name offset start count) (progress_in m files placed []) none, ap (λ ps. Some (at_files files ps [])) (sym after))
 
 pub skipped_carries : (m : Memory) (files : List File) (placed : List PlacedFile) (command : ℕ)
-    → CarriesTo files (Skipped command) (files_in m placed) (files_in m placed)
+    → CarriesTo (Skipped command) (progress_in m files placed []) (progress_in m files placed [])
 unfolding carried_out
 skipped_carries m files placed command = (conditions_suffice (Skipped command) (progress_in m files placed []) tt, refl)
 
 -- a command that is carried out leads on
-pub leads_from : {May : Answers} {files : List File} {entry : Entry} {before after : List Placed} → CarriesTo files entry before after
-    → LeadsOn May files entry before after
+pub leads_from : {May : Answers} {entry : Entry} {before after : Progress} → CarriesTo entry before after → LeadsOn May entry before after
 leads_from carries index script end final ends = carried carries.0 carries.1 ends

@@ -6,7 +6,7 @@ use Rattle.loader_script.specs.declared.entry.Entry.{Entry}
 use Rattle.loader_script.specs.declared.entry.Entry.TheVariants.{Allocate, AddPointer, AddChecksum, WritePointer, Misnamed, Skipped}
 use Rattle.loader_script.specs.declared.refusing.Cause.{Cause}
 use Rattle.vt_outside.specs.File.{File}
-use Rattle.loader_script.specs.Run.{Placed, Progress, End, Done, Command, NoRoom, bytes_of, infos_of, places_of, cause_of, carried_out, run}
+use Rattle.loader_script.specs.Run.{Placed, Progress, End, Done, Command, NoRoom, bytes_of, infos_of, places_of, cause_of, carried_out, opening, run}
 use Rattle.loader_script.specs.Refusal.{causes_of, first_cause}
 use Rattle.loader_script.specs.Left.{range_of}
 use Rattle.zone_alloc.specs.declared.alloc.Request.{Request}
@@ -46,36 +46,45 @@ Answers = List Range → Request → Option ℕ → Type 0
 abbrev pub placed_at : List File → List ℕ → ℕ → Placed
 placed_at files name place = record { name = name; place = place; bytes = bytes_of files name }
 
--- From the command at an index on, where these files are placed, the run of a script over files ends so, and then those are placed. Each
--- Allocate that isn't refused is answered as it may be. No command writes to the files of fw_cfg.
-pub data EndsWith (May : Answers) (files : List File) : ℕ → List Entry → List Placed → End → List Placed → Type 0 where
-  done : {index : ℕ} {placed : List Placed} → EndsWith May files index [] placed Done placed
-  refused : {index : ℕ} {entry : Entry} {script : List Entry} {placed : List Placed} {cause : Cause}
-      → cause_of entry (at_files files placed []) ≡ Some cause
-      → EndsWith May files index (entry ∷ script) placed (Command index cause) placed
-  without_room : {index : ℕ} {name : List ℕ} {align zone : ℕ} {script : List Entry} {placed : List Placed}
-      → cause_of (Allocate name align zone) (at_files files placed []) ≡ None
-      → May (map range_of placed) (request_of files name align zone) None
-      → EndsWith May files index (Allocate name align zone ∷ script) placed (NoRoom index) placed
-  allocated : {index : ℕ} {name : List ℕ} {align zone : ℕ} {script : List Entry} {placed final : List Placed} {end : End} (place : ℕ)
-      → cause_of (Allocate name align zone) (at_files files placed []) ≡ None
-      → May (map range_of placed) (request_of files name align zone) (Some place)
-      → EndsWith May files (suc index) script (placed ++ placed_at files name place ∷ []) end final
-      → EndsWith May files index (Allocate name align zone ∷ script) placed end final
-  carried : {index : ℕ} {entry : Entry} {script : List Entry} {placed next final : List Placed} {end : End}
-      → cause_of entry (at_files files placed []) ≡ None
-      → carried_out entry (at_files files placed []) ≡ Some (at_files files next [])
-      → EndsWith May files (suc index) script next end final
-      → EndsWith May files index (entry ∷ script) placed end final
+-- how far a run is, with other places still to be given
+abbrev pub with_places : Progress → List ℕ → Progress
+with_places p places = record p { places = places }
 
--- The run of a script over files ends so, with these files placed. Their ranges are those that were handed out, in their order, and the
--- run is that on plain lists with these places. A run that has room ends in the same way where more places are given, and leaves those.
-pub record IsRun (May : Answers) (files : List File) (script : List Entry) (handed : List Range) (end : End) (placed : List Placed) : Type 0 where
-  pub answered : EndsWith May files 0 script [] end placed
-  pub ends : run files script (map (λ (r : Range). r.start) handed) ≡ (end, at_files files placed [])
+-- how far a run is once a file is placed
+abbrev pub with_file : Progress → List ℕ → ℕ → Progress
+with_file p name place = record p { placed = p.placed ++ placed_at p.files name place ∷ [] }
+
+-- From the command at an index on, the run of a script that has come so far ends so, and has then come so far. Each Allocate that isn't refused is
+-- answered as it may be; the places that a run has still to be given are of no account here.
+pub data EndsWith (May : Answers) : ℕ → List Entry → Progress → End → Progress → Type 0 where
+  done : {index : ℕ} {p : Progress} → EndsWith May index [] p Done p
+  refused : {index : ℕ} {entry : Entry} {script : List Entry} {p : Progress} {cause : Cause}
+      → cause_of entry p ≡ Some cause
+      → EndsWith May index (entry ∷ script) p (Command index cause) p
+  without_room : {index : ℕ} {name : List ℕ} {align zone : ℕ} {script : List Entry} {p : Progress}
+      → cause_of (Allocate name align zone) p ≡ None
+      → May (map range_of p.placed) (request_of p.files name align zone) None
+      → EndsWith May index (Allocate name align zone ∷ script) p (NoRoom index) p
+  allocated : {index : ℕ} {name : List ℕ} {align zone : ℕ} {script : List Entry} {p final : Progress} {end : End} (place : ℕ)
+      → cause_of (Allocate name align zone) p ≡ None
+      → May (map range_of p.placed) (request_of p.files name align zone) (Some place)
+      → EndsWith May (suc index) script (with_file p name place) end final
+      → EndsWith May index (Allocate name align zone ∷ script) p end final
+  carried : {index : ℕ} {entry : Entry} {script : List Entry} {p next final : Progress} {end : End}
+      → cause_of entry p ≡ None
+      → carried_out entry (with_places p []) ≡ Some next
+      → EndsWith May (suc index) script next end final
+      → EndsWith May index (entry ∷ script) p end final
+
+-- The run of a script over files ends so, and has then come so far. The ranges of the files that are placed are those that were handed out, in
+-- their order, and the run is that on plain lists with these places. A run that has room ends in the same way where more places are given,
+-- and leaves those.
+pub record IsRun (May : Answers) (files : List File) (script : List Entry) (handed : List Range) (end : End) (final : Progress) : Type 0 where
+  pub answered : EndsWith May 0 script (opening files []) end final
+  pub ends : run files script (map (λ (r : Range). r.start) handed) ≡ (end, with_places final [])
   pub goes_on : ((at : ℕ) → end ≢ NoRoom at) → (extra : List ℕ)
-      → run files script (map (λ (r : Range). r.start) handed ++ extra) ≡ (end, at_files files placed extra)
-  pub handed_are : handed ≡ map range_of placed
+      → run files script (map (λ (r : Range). r.start) handed ++ extra) ≡ (end, with_places final extra)
+  pub handed_are : handed ≡ map range_of final.placed
 
 -- what a load answers whose run ends so
 abbrev pub result_of : End → Result (Unit {0}) LoadFault

@@ -1,8 +1,8 @@
-ghost use Rattle.std.specs.Prelude.{◌≡◌, ◌≤◌, ◌<◌, ◌^◌, Some, IsSome, OnOk, OnErr};
+ghost use Rattle.std.specs.Prelude.{◌≡◌, ◌≤◌, ◌<◌, ◌^◌, OnOk, OnErr};
 ghost use Rattle.loader_script.specs.Run.{pointer_sum, with_pointer, with_sum};
-ghost use Rattle.command_acts.specs.FilesInMemory.{files_in, placed_named, ArePlaced, Stays, CanPoint, CanSum, pointed, summed};
+ghost use Rattle.command_acts.specs.FilesInMemory.{files_in, ArePlaced, Stays, CanPoint, CanSum, pointed, summed};
 
-use crate::placed::PlacedFile;
+use crate::placed::{PlacedFile, placed_of};
 use guest_memory::{GuestMemory, TooFar};
 use vt_outside::Name;
 
@@ -56,12 +56,4 @@ pub fn add_checksum(
     let byte = memory.read(field);
     let sum = memory.sum_range(range, length);
     memory.write(field, byte.wrapping_sub(sum));
-}
-
-// The placed file that has the name.
-fn placed_of<'a>(placed: &'a [PlacedFile], name: &Name) -> &'a PlacedFile
-    requires { IsSome (placed_named placed.now name.now) }
-    ensures { placed_named placed.now name.now ≡ Some result.now }
-{
-    placed.iter().find(|file| file.name == *name).unwrap()
 }

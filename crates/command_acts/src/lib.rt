@@ -1,7 +1,7 @@
 //! What a load of an image of fw_cfg into a guest's memory is made of, by the script that is one of its files (QEMU,
 //! hw/acpi/bios-linker-loader.c).
 //!
-//! [`Placements`], [`add_pointer`] and [`add_checksum`] are what one command does, for a firmware that carries out a script between
+//! [`Placements`], [`add_pointer`] and [`add_checksum`] are what one command does in memory, for a firmware that carries out a script between
 //! other events: their contracts speak of a memory and of the files that stand in it, and of no load. A pointer whose sum doesn't fit
 //! changes nothing. [`LoadFault`] is why a load ends before its script does.
 //!
@@ -11,6 +11,7 @@
 
 mod commands;
 mod fault;
+pub mod laws;
 mod placed;
 mod placements;
 

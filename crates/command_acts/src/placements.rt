@@ -4,13 +4,13 @@ ghost use Rattle.loader_script.specs.Run.{infos_of};
 ghost use Rattle.cfg_directory.specs.Files.{files_of};
 ghost use Rattle.loader_script.specs.Refusal.{info_of, causes_of, first_cause, AreDistinct, EndLow};
 ghost use Rattle.command_acts.specs.Placing.{ArePlacements, places_in};
-ghost use Rattle.command_acts.specs.FilesInMemory.{placed_named};
+ghost use Rattle.command_acts.specs.FilesInMemory.{placed_named, place_of};
 
-use crate::placed::PlacedFile;
+use crate::placed::{PlacedFile, placed_of};
 use cfg_directory::Item;
 use loader_script::{Cause, Entry, FileInfo, refusal};
 use std::alloc::Global;
-use vt_outside::OutOfMemory;
+use vt_outside::{Name, OutOfMemory};
 
 /// Keeps which files of a device are placed, and where.
 #[derive(Drop)]
@@ -50,6 +50,14 @@ impl Placements {
         ensures { result ≡ first_cause (causes_of entry.now self.now.infos.items (places_in self.now.placed.items self.now.infos.items)) }
     {
         refusal(entry, &self.infos, &self.places)
+    }
+
+    /// Returns the guest address at which the file `name` is placed. It is placed. It takes no memory.
+    pub fn place_of(&self, name: &Name) -> u64
+        requires { IsSome (placed_named self.now.placed.items name.now) }
+        ensures { result ≡ place_of self.now.placed.items name.now }
+    {
+        placed_of(&self.placed, name).place
     }
 
     /// Notes that `file` is placed. It is one of the files, whose names differ, and none of that name was placed. Behind those that

@@ -11,13 +11,13 @@ use Rattle.cfg_directory.specs.declared.listed.Listed.{Listed}
 use Rattle.cfg_directory.specs.Items.{IsItems, named}
 use Rattle.cfg_directory.specs.Files.{files_of}
 use Rattle.loader_script.specs.declared.entry.Entry.{Entry}
-use Rattle.loader_script.specs.declared.entry.Entry.TheVariants.{Allocate}
+use Rattle.loader_script.specs.declared.entry.Entry.TheVariants.{Allocate, WritePointer}
 use Rattle.loader_script.specs.declared.refusing.Cause.{Cause}
 use Rattle.loader_script.specs.declared.refusing.FileInfo.{FileInfo}
-use Rattle.loader_script.specs.Conditions.{CanAllocate}
+use Rattle.loader_script.specs.Conditions.{CanAllocate, CanWritePointer}
 use Rattle.loader_script.specs.Refusal.{info_of, AreDistinct}
 use Rattle.vt_outside.specs.File.{File}
-use Rattle.loader_script.specs.Run.{bytes_of, infos_of, cause_of}
+use Rattle.loader_script.specs.Run.{bytes_of, file_of, infos_of, cause_of}
 use Rattle.loader_script.proofs.Conditions.{conditions_from}
 use Rattle.loader_script.proofs.Named.{same_name, found_passes, find-map, IsSome-before_map}
 use Rattle.zone_alloc.specs.declared.alloc.Request.{Request}
@@ -43,7 +43,8 @@ use Rattle.load_states.specs.LoadState.{LoadState, listed_named, progress_of}
 use Rattle.load_states.specs.Runs.{request_for}
 use Rattle.load_states.specs.Steps.{awaits_file, at_command, placed_at}
 use Rattle.load_states.proofs.CommandPlaces.{placed_is}
-use Rattle.load_states.proofs.NamedItems.{listing, listed_as_named, bytes_of_named}
+use Rattle.command_acts.proofs.ItemsWritten.{as_file, bytes_of_named}
+use Rattle.load_states.proofs.NamedItems.{listing, listed_as_named}
 use Rattle.firmware_load.specs.declared.guest.Guest.{Guest}
 use Rattle.firmware_load.specs.Inside.{GoesByCommand, IsReady, load_at, progress_now}
 use Rattle.firmware_load.proofs.CommandsDone.{load_with, by_cause}
@@ -105,7 +106,7 @@ pub record IsAllocating (guest : Guest) (name : List ℕ) (align zone : ℕ) (fi
 
 -- as it is found among the listed files
 pub allocating : (guest : Guest) (listed : List Listed) (name : List ℕ) (align zone : ℕ) (file : Listed)
-    → IsReady guest listed (Allocate name align zone) → early_cause (Allocate name align zone) (progress_now guest) ≡ None
+    → IsReady guest listed → early_cause (Allocate name align zone) (progress_now guest) ≡ None
     → listed_named listed name ≡ Some file → IsAllocating guest name align zone file
 allocating guest listed name align zone file ready early found =
     let items = guest.device.items in
@@ -133,20 +134,32 @@ allocating guest listed name align zone file ready early found =
       fewer = fewer_placed guest.placements items name ready.placements ready.infos there fresh;
     }
 
--- there is one
-pub is_listed : (guest : Guest) (listed : List Listed) (name : List ℕ) (align zone : ℕ)
-    → IsReady guest listed (Allocate name align zone) → early_cause (Allocate name align zone) (progress_now guest) ≡ None
-    → IsSome (listed_named listed name)
-is_listed guest listed name align zone ready early =
+-- a file that is there is listed
+pub file_listed : (guest : Guest) (listed : List Listed) (name : List ℕ) (file : File) → IsReady guest listed
+    → file_of (files_of guest.device.items) name ≡ Some file → IsSome (listed_named listed name)
+file_listed guest listed name file ready found =
     let items = guest.device.items in
-    let p = progress_now guest in
-    let can : CanAllocate p name align zone =
-    conditions_from (Allocate name align zone) p (cause_late (Allocate name align zone) p early) in
-    let file : Item → File = λ i. record { name = i.name; bytes = i.bytes; writable = i.writable } in
-    let there : IsSome (option_map file (named items name)) =
-    subst IsSome (sym can.there ∙ find-map file (λ (f : File). bytes_eq f.name name) items) refl in
+    let there : IsSome (option_map as_file (named items name)) =
+    subst IsSome (sym found ∙ find-map as_file (λ (f : File). bytes_eq f.name name) items) refl in
     subst IsSome (sym (ap (λ l. listed_named l name) ready.listed_are ∙ listed_as_named items name))
-    (some_mapped listing (named items name) (IsSome-before_map file (named items name) there))
+    (some_mapped listing (named items name) (IsSome-before_map as_file (named items name) there))
+
+-- so is that of an Allocate
+pub is_listed : (guest : Guest) (listed : List Listed) (name : List ℕ) (align zone : ℕ) → IsReady guest listed
+    → early_cause (Allocate name align zone) (progress_now guest) ≡ None → IsSome (listed_named listed name)
+is_listed guest listed name align zone ready early =
+    let p = progress_now guest in
+    let can : CanAllocate p name align zone = conditions_from (Allocate name align zone) p (cause_late (Allocate name align zone) p early) in
+    file_listed guest listed name can.file ready can.there
+
+-- and the one that a WritePointer writes
+pub dest_listed : (guest : Guest) (listed : List Listed) (dest src : List ℕ) (dst_offset src_offset size : ℕ) → IsReady guest listed
+    → early_cause (WritePointer dest src dst_offset src_offset size) (progress_now guest) ≡ None → IsSome (listed_named listed dest)
+dest_listed guest listed dest src dst_offset src_offset size ready early =
+    let entry = WritePointer dest src dst_offset src_offset size in
+    let p = progress_now guest in
+    let can : CanWritePointer p dest src dst_offset src_offset size = conditions_from entry p (cause_late entry p early) in
+    file_listed guest listed dest can.file ready can.there
 
 -- ---- the request and its answer
 

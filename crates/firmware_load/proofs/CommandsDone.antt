@@ -4,7 +4,7 @@ use Rattle.std.specs.Option.{option_map_or}
 use Rattle.vt_bytes.specs.Memory.{Memory}
 use Rattle.cfg_directory.specs.declared.listed.Listed.{Listed}
 use Rattle.loader_script.specs.declared.entry.Entry.{Entry}
-use Rattle.loader_script.specs.declared.entry.Entry.TheVariants.{AddPointer, AddChecksum, Skipped}
+use Rattle.loader_script.specs.declared.entry.Entry.TheVariants.{AddPointer, AddChecksum, WritePointer, Skipped}
 use Rattle.loader_script.specs.declared.refusing.Cause.{Cause}
 use Rattle.loader_script.specs.declared.refusing.Cause.TheVariants.{TooFar}
 use Rattle.loader_script.specs.declared.refusing.FileInfo.{FileInfo}
@@ -25,9 +25,9 @@ use Rattle.command_acts.proofs.Causes.{cause_early, cause_late, pointer_goes, po
 use Rattle.command_acts.proofs.Placings.{refusal_is}
 use Rattle.load_states.specs.declared.stage.Stage.{Stage}
 use Rattle.load_states.specs.declared.stage.Stage.TheVariants.{AtCommand, Refused}
-use Rattle.load_states.specs.LoadState.{LoadState, progress_of}
+use Rattle.load_states.specs.LoadState.{LoadState, listed_named, progress_of}
 use Rattle.load_states.specs.Runs.{request_for}
-use Rattle.load_states.specs.Steps.{at_command, commanded}
+use Rattle.load_states.specs.Steps.{at_command, commanded, skips}
 use Rattle.firmware_load.specs.Inside.{GoesByCommand}
 
 -- a load of these parts
@@ -73,6 +73,14 @@ pub goes_skipped : (May : Answers) (w : LoadState) (index command : ℕ)
 goes_skipped May w index command =
     goes_unasked May w (record w { stage = AtCommand (index + 1) }) index (Skipped command) None
     (conditions_suffice (Skipped command) (progress_of w) tt) refl (ap (λ (n : ℕ). record w { stage = AtCommand n }) (behind index))
+
+-- and by a WritePointer, whose skip is asked for
+pub goes_pointing : (May : Answers) (w next : LoadState) (index : ℕ) (dest src : List ℕ) (dst_offset src_offset size : ℕ)
+    → early_cause (WritePointer dest src dst_offset src_offset size) (progress_of w) ≡ None
+    → next ≡ skips index dst_offset (listed_named w.listed dest) w → GoesByCommand May index (WritePointer dest src dst_offset src_offset size) w next
+goes_pointing May w next index dest src dst_offset src_offset size early next_is =
+    let entry = WritePointer dest src dst_offset src_offset size in
+    goes_unasked May w next index entry None (cause_late entry (progress_of w) early) refl next_is
 
 -- The cause that the placements tell is told early.
 pub told_early : (m : Memory) (files : List File) (infos : List FileInfo) (placed : List PlacedFile) (entry : Entry) (found told : Option Cause)

@@ -6,6 +6,7 @@ use Rattle.vt_outside.specs.Placement.{Range}
 use Rattle.vt_outside.specs.Stream.{next_count}
 use Rattle.zone_alloc.specs.declared.alloc.Request.{Request}
 use Rattle.zone_alloc.specs.Allocators.{AllocState}
+use Rattle.cfg_directory.specs.declared.item.Item.{Item}
 use Rattle.command_acts.specs.declared.fault.LoadFault.{LoadFault}
 use Rattle.command_acts.specs.declared.fault.LoadFault.TheVariants.{NoRoom}
 use Rattle.command_acts.specs.FilesInMemory.{placed_ranges}
@@ -13,7 +14,7 @@ use Rattle.command_acts.specs.Script.{IsAsked}
 use Rattle.command_acts.specs.Runs.{Answers}
 use Rattle.load_states.specs.declared.event.Event.{Event}
 use Rattle.load_states.specs.declared.stage.Stage.{Stage}
-use Rattle.load_states.specs.declared.stage.Stage.TheVariants.{Asks, Awaits, AtCommand, Done, Refused}
+use Rattle.load_states.specs.declared.stage.Stage.TheVariants.{Asks, Awaits, AtCommand, AwaitsSkip, AsksWrite, AwaitsWrite, Done, Refused}
 use Rattle.load_states.specs.Loads.{most_closing, stage_after, opening_stage}
 use Rattle.load_states.specs.LoadState.{LoadState, memory_of}
 use Rattle.load_states.specs.Runs.{EndsAfter, closing_events, has_ended}
@@ -27,7 +28,7 @@ use Rattle.firmware_load.proofs.OnRun.{Follows, asks_through, asks_no_more}
 abbrev pub IsClosed : Answers → LoadState → LoadState → Type 0
 IsClosed May between last =
     (begun : LoadState) (before : List Event) → IsOnRun May begun before between
-    → (closing : ℕ) × (closing ≤ most_closing between.attached.device.items) × (has_ended between.stage ≡ true → closing ≡ 0)
+    → (closing : ℕ) × (closing ≤ most_closing begun.attached.device.items) × (has_ended between.stage ≡ true → closing ≡ 0)
     × IsOnRun May begun (before ++ closing_events closing) last
 
 -- A load that was begun, has followed its plan and was closed, is over.
@@ -44,7 +45,7 @@ load_over May first between last left_first left handed answer on follows ends c
       taken = taken;
       closing = closing;
       plan = so.1;
-      few = subst (λ its. closing ≤ most_closing its) so.2.kept.items closed.1;
+      few = closed.1;
       after_plan = λ some. elim ends as (λ _. left ≡ []) [
         | inl ended ↦ let none = closed.2 ended in absurd (omega (arith, some, none))
         | inr none ↦ none
@@ -55,16 +56,16 @@ load_over May first between last left_first left handed answer on follows ends c
     }
 
 -- what was asked on the whole way
-pub asks_in_all : (first between last : Loading) (alloc_first alloc_between alloc_last : AllocState)
-    → AsksOnTheWay first between alloc_first alloc_between
-    → AsksOnTheWay between last alloc_between alloc_last
-    → AsksOnTheWay first last alloc_first alloc_last
-asks_in_all first between last alloc_first alloc_between alloc_last before after =
-    elim (cases_Bool (has_ended between.stage)) as (λ _. AsksOnTheWay first last alloc_first alloc_last) [
+pub asks_in_all : (items : List Item) (first between last : Loading) (alloc_first alloc_between alloc_last : AllocState)
+    → AsksOnTheWay items first between alloc_first alloc_between
+    → AsksOnTheWay items between last alloc_between alloc_last
+    → AsksOnTheWay items first last alloc_first alloc_last
+asks_in_all items first between last alloc_first alloc_between alloc_last before after =
+    elim (cases_Bool (has_ended between.stage)) as (λ _. AsksOnTheWay items first last alloc_first alloc_last) [
       | inl over ↦
-          asks_no_more first between last alloc_first alloc_between alloc_last over before after
+          asks_no_more items first between last alloc_first alloc_between alloc_last over before after
       | inr running ↦
-          asks_through first between last alloc_first alloc_between alloc_last running before after
+          asks_through items first between last alloc_first alloc_between alloc_last running before after
     ]
 
 -- whether a stage is a refusal
@@ -73,6 +74,9 @@ is_refused (Refused why) = true
 is_refused (Asks reading) = false
 is_refused (Awaits reading) = false
 is_refused (AtCommand index) = false
+is_refused (AwaitsSkip index) = false
+is_refused (AsksWrite index) = false
+is_refused (AwaitsWrite index) = false
 is_refused Done = false
 
 same_refusal : (why other : LoadFault) → Refused why ≡ Refused other → why ≡ other
@@ -85,15 +89,15 @@ answers_no_room (Ok nothing) index s is at = absurd (true≢false (ap is_refused
 answers_no_room (Err why) index s is at = ap Err (same_refusal why (NoRoom index) (sym is ∙ at))
 
 -- What a load says of its allocator: where it answers that there is no room, and where it doesn't.
-pub without_room : (first last : Loading) (alloc_first alloc_last : AllocState) (answer : Result (Unit {0}) LoadFault)
-    → AsksOnTheWay first last alloc_first alloc_last → first.stage ≡ opening_stage → last.stage ≡ stage_after answer
+pub without_room : (items : List Item) (first last : Loading) (alloc_first alloc_last : AllocState) (answer : Result (Unit {0}) LoadFault)
+    → AsksOnTheWay items first last alloc_first alloc_last → first.stage ≡ opening_stage → last.stage ≡ stage_after answer
     → ((index : ℕ) → answer ≡ Err (NoRoom index)
-    → (alloc_last.refusals ≡ next_count alloc_first.refusals) × IsAsked first.guest.device.items index alloc_last.refused)
+    → (alloc_last.refusals ≡ next_count alloc_first.refusals) × IsAsked items index alloc_last.refused)
     × (((index : ℕ) → answer ≡ Err (NoRoom index) → ⊥) → alloc_last.refusals ≡ alloc_first.refusals)
-without_room first last alloc_first alloc_last answer asks begun stage = (
+without_room items first last alloc_first alloc_last answer asks begun stage = (
   λ index is.
       elim (asks.no_room index (stage ∙ ap stage_after is))
-      as (λ _. (alloc_last.refusals ≡ next_count alloc_first.refusals) × IsAsked first.guest.device.items index alloc_last.refused) [
+      as (λ _. (alloc_last.refusals ≡ next_count alloc_first.refusals) × IsAsked items index alloc_last.refused) [
         | inl there ↦ absurd (true≢false (sym (ap has_ended there) ∙ ap has_ended begun))
         | inr so ↦ so
       ],

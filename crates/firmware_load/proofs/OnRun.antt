@@ -13,7 +13,7 @@ use Rattle.command_acts.specs.Script.{IsAsked}
 use Rattle.command_acts.specs.Runs.{Answers}
 use Rattle.load_states.specs.declared.event.Event.{Event}
 use Rattle.load_states.specs.declared.stage.Stage.{Stage}
-use Rattle.load_states.specs.declared.stage.Stage.TheVariants.{Asks, Awaits, AtCommand, Done, Refused}
+use Rattle.load_states.specs.declared.stage.Stage.TheVariants.{Asks, Awaits, AtCommand, AwaitsSkip, AsksWrite, AwaitsWrite, Done, Refused}
 use Rattle.load_states.specs.LoadState.{LoadState, memory_of}
 use Rattle.load_states.specs.Runs.{AnyLawful, EndsAfter, StepsTo, has_ended, request_of}
 use Rattle.load_states.proofs.NoRoomAsked.{no_room_asks}
@@ -75,21 +75,23 @@ no_room_ended : (s : Stage) (index : ℕ) → no_room_of s ≡ Some index → ha
 no_room_ended (Asks reading) index is = absurd (none-some index is)
 no_room_ended (Awaits reading) index is = absurd (none-some index is)
 no_room_ended (AtCommand at) index is = absurd (none-some index is)
+no_room_ended (AwaitsSkip at) index is = absurd (none-some index is)
+no_room_ended (AsksWrite at) index is = absurd (none-some index is)
+no_room_ended (AwaitsWrite at) index is = absurd (none-some index is)
 no_room_ended Done index is = absurd (none-some index is)
 no_room_ended (Refused why) index is = refl
 
 -- nothing was asked yet
-pub asks_nothing : (l : Loading) (alloc : AllocState) → AsksOnTheWay l l alloc alloc
-asks_nothing l alloc = record { no_room = λ index is. inl is; sound = λ same. refl; ended = λ over. (refl, refl); items = refl; top = refl }
+pub asks_nothing : (items : List Item) (l : Loading) (alloc : AllocState) → AsksOnTheWay items l l alloc alloc
+asks_nothing items l alloc = record { no_room = λ index is. inl is; sound = λ same. refl; ended = λ over. (refl, refl); top = refl }
 
 -- What a step of a load asks that hasn't ended, as its code says it.
-pub step_asks : (May : Answers) (event : Event) (before after : Loading) (alloc_before alloc_after : AllocState)
-    → AreLawful May before.guest.memory.top → IsInside before → has_ended before.stage ≡ false
+pub step_asks : (May : Answers) (items : List Item) (event : Event) (before after : Loading) (alloc_before alloc_after : AllocState)
+    → AreLawful May before.guest.memory.top → IsInside items before → has_ended before.stage ≡ false
     → StepsTo May event (load_of before) (load_of after)
     → IsWithoutRoom event (load_of before) (load_of after) alloc_before alloc_after
-    → IsSound (load_of before) (load_of after) alloc_before alloc_after → AsksOnTheWay before after alloc_before alloc_after
-step_asks May event before after alloc_before alloc_after lawful inside running steps without sound =
-    let items = before.guest.device.items in
+    → IsSound (load_of before) (load_of after) alloc_before alloc_after → AsksOnTheWay items before after alloc_before alloc_after
+step_asks May items event before after alloc_before alloc_after lawful inside running steps without sound =
     let top = before.guest.memory.top in
     let fill = before.guest.memory.fill in
     let kept = step_keeps (AnyLawful top) items top fill inside.events event (load_of before) (load_of after) (λ handed request place free. free)
@@ -110,7 +112,6 @@ step_asks May event before after alloc_before alloc_after lawful inside running 
           ];
       sound = sound;
       ended = λ over. absurd (true≢false (sym over ∙ running));
-      items = kept.items;
       top = kept.top;
     }
 
@@ -119,47 +120,45 @@ not_there : (s : Stage) (index : ℕ) → has_ended s ≡ false → s ≡ Refuse
 not_there s index running is = true≢false (sym (ap has_ended is) ∙ running)
 
 -- What was asked on the way to a load that hasn't ended, and from there on.
-pub asks_through : (first between last : Loading) (alloc_first alloc_between alloc_last : AllocState)
-    → has_ended between.stage ≡ false → AsksOnTheWay first between alloc_first alloc_between
-    → AsksOnTheWay between last alloc_between alloc_last
-    → AsksOnTheWay first last alloc_first alloc_last
-asks_through first between last alloc_first alloc_between alloc_last running before after =
+pub asks_through : (items : List Item) (first between last : Loading) (alloc_first alloc_between alloc_last : AllocState)
+    → has_ended between.stage ≡ false → AsksOnTheWay items first between alloc_first alloc_between
+    → AsksOnTheWay items between last alloc_between alloc_last
+    → AsksOnTheWay items first last alloc_first alloc_last
+asks_through items first between last alloc_first alloc_between alloc_last running before after =
     let same : alloc_between.refusals ≡ alloc_first.refusals = before.sound (λ index is. absurd (not_there between.stage index running is)) in
     record {
       no_room = λ index is.
           inr (elim (after.no_room index is)
-          as (λ _. (alloc_last.refusals ≡ next_count alloc_first.refusals) × IsAsked first.guest.device.items index alloc_last.refused) [
+          as (λ _. (alloc_last.refusals ≡ next_count alloc_first.refusals) × IsAsked items index alloc_last.refused) [
             | inl there ↦ absurd (not_there between.stage index running there)
             | inr refuses ↦ (
               refuses.0 ∙ ap next_count same,
-              subst (λ (its : List Item). IsAsked its index alloc_last.refused) before.items refuses.1,
+              refuses.1,
             )
           ]);
       sound = λ there. after.sound (λ index is. (before.ended (ap has_ended (there index is))).0 ∙ there index is) ∙ same;
       ended = λ over. absurd (true≢false (sym (ap has_ended (before.ended over).0 ∙ over) ∙ running));
-      items = after.items ∙ before.items;
       top = after.top ∙ before.top;
     }
 
 -- a load that has ended asks nothing more
-pub asks_no_more : (first between last : Loading) (alloc_first alloc_between alloc_last : AllocState)
-    → has_ended between.stage ≡ true → AsksOnTheWay first between alloc_first alloc_between
-    → AsksOnTheWay between last alloc_between alloc_last
-    → AsksOnTheWay first last alloc_first alloc_last
-asks_no_more first between last alloc_first alloc_between alloc_last over before after =
+pub asks_no_more : (items : List Item) (first between last : Loading) (alloc_first alloc_between alloc_last : AllocState)
+    → has_ended between.stage ≡ true → AsksOnTheWay items first between alloc_first alloc_between
+    → AsksOnTheWay items between last alloc_between alloc_last
+    → AsksOnTheWay items first last alloc_first alloc_last
+asks_no_more items first between last alloc_first alloc_between alloc_last over before after =
     let still = after.ended over in
     record {
       no_room = λ index is.
           elim (before.no_room index (sym still.0 ∙ is)) as (λ _. (first.stage ≡ Refused (NoRoom index))
-          ⊎ ((alloc_last.refusals ≡ next_count alloc_first.refusals) × IsAsked first.guest.device.items index alloc_last.refused)) [
+          ⊎ ((alloc_last.refusals ≡ next_count alloc_first.refusals) × IsAsked items index alloc_last.refused)) [
             | inl there ↦ inl there
             | inr refuses ↦ inr (
               ap (λ (s : AllocState). s.refusals) still.1 ∙ refuses.0,
-              subst (λ (s : AllocState). IsAsked first.guest.device.items index s.refused) (sym still.1) refuses.1,
+              subst (λ (s : AllocState). IsAsked items index s.refused) (sym still.1) refuses.1,
             )
           ];
       sound = λ there. ap (λ (s : AllocState). s.refusals) still.1 ∙ before.sound (λ index is. there index (still.0 ∙ is));
       ended = λ was. let so = before.ended was in (still.0 ∙ so.0, still.1 ∙ so.1);
-      items = after.items ∙ before.items;
       top = after.top ∙ before.top;
     }

@@ -14,23 +14,22 @@ use Rattle.command_acts.specs.Runs.{Answers}
 use Rattle.command_acts.specs.declared.fault.LoadFault.{LoadFault}
 use Rattle.command_acts.specs.Script.{script_in}
 use Rattle.load_states.specs.declared.event.Event.{Event}
-use Rattle.load_states.specs.Kept.{IsKept}
+use Rattle.load_states.specs.Kept.{IsKept, StageKeeps}
 use Rattle.load_states.specs.Loads.{IsBegun, begun_device, opening_stage}
 use Rattle.load_states.specs.Runs.{AnyLawful}
 use Rattle.load_states.proofs.Opening.{begun_keeps}
 use Rattle.firmware_load.specs.declared.loading.Loading.{Loading}
-use Rattle.firmware_load.specs.Inside.{load_of, IsInside, IsOnRun, HasRooms}
+use Rattle.firmware_load.specs.Inside.{load_of, IsInside, KeepsInside, IsOnRun}
 
--- a load keeps what is told of its own items, its own top and its own fill byte
+-- a load keeps what is told of its own top and its own fill byte
 pub kept_own : (l : Loading) (items : List Item) (top fill : ℕ) (events : List Event)
     → IsKept (AnyLawful top) items top fill events (load_of l)
-    → IsKept (AnyLawful l.guest.memory.top) l.guest.device.items l.guest.memory.top l.guest.memory.fill events (load_of l)
+    → IsKept (AnyLawful l.guest.memory.top) items l.guest.memory.top l.guest.memory.fill events (load_of l)
 kept_own l items top fill events kept =
     let m = l.guest.memory in
     let w = load_of l in
-    subst (λ (its : List Item). IsKept (AnyLawful m.top) its m.top m.fill events w) (sym kept.items)
-    (subst (λ byte. IsKept (AnyLawful m.top) items m.top byte events w) (sym kept.fill)
-    (subst (λ end. IsKept (AnyLawful end) items end fill events w) (sym kept.top) kept))
+    subst (λ byte. IsKept (AnyLawful m.top) items m.top byte events w) (sym kept.fill)
+    (subst (λ end. IsKept (AnyLawful end) items end fill events w) (sym kept.top) kept)
 
 -- there is room for a script where there is room for more
 pub room_more : (decoded : Result (List Entry) LoadFault) (few many : ℕ) → few ≤ many → IfOk decoded (λ script. length script ≤ few)
@@ -67,24 +66,28 @@ opening_begun items top fill l opening = record {
   top = opening.top_is;
   fill = opening.fill_is;
   blank = λ address ram. opening.filled address (subst (λ t. IsRam t address) opening.top_is ram) ∙ sym opening.fill_is;
-  nothing = record { listed = opening.listed; script = opening.script; placed = opening.placed };
+  nothing = record { begun = ap (λ (d : DeviceState). d.items) opening.device_is; listed = opening.listed; script = opening.script; placed = opening.placed };
   stage = opening.stage;
 }
 
 -- Over no events it keeps inside what a load keeps.
-pub opening_inside : (items : List Item) (top fill : ℕ) (l : Loading) → IsOpening items top fill l → IsInside l
-opening_inside items top fill l opening =
-    let its : l.guest.device.items ≡ items = ap (λ (d : DeviceState). d.items) opening.device_is in
-    record {
-      events = [];
-      kept = kept_own l items top fill [] (begun_keeps (AnyLawful top) items top fill (load_of l) (opening_begun items top fill l opening));
-      rooms = subst (λ (is : List Item). HasRooms is l) (sym its) (record {
-        listed = opening.listed_room;
-        script = opening.script_room;
-        infos = opening.infos;
-        placements = opening.placements;
-      });
-    }
+pub opening_inside : (items : List Item) (top fill : ℕ) (l : Loading) → IsOpening items top fill l → IsInside items l
+opening_inside items top fill l opening = record {
+  events = [];
+  kept = kept_own l items top fill [] (begun_keeps (AnyLawful top) items top fill (load_of l) (opening_begun items top fill l opening));
+  rooms = record {
+    listed = opening.listed_room;
+    script = opening.script_room;
+    infos = opening.infos;
+    placements = opening.placements;
+  };
+}
+
+-- a load that was just begun was begun with its items
+pub opening_inside_own : (l : Loading) → KeepsInside l → l.stage ≡ opening_stage → IsInside l.guest.device.items l
+opening_inside_own l inside is =
+    let keeps = subst (StageKeeps (AnyLawful l.guest.memory.top) inside.0 (load_of l)) is inside.1.kept.stage in
+    subst (λ (items : List Item). IsInside items l) (sym keeps.1.0.begun) inside.1
 
 -- A load that was just begun is at the start of its run, however places will be answered.
 pub opening_on_run : (May : Answers) (l : Loading)

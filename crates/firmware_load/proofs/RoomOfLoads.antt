@@ -14,8 +14,7 @@ use Rattle.loader_script.specs.declared.entry.Entry.{Entry}
 use Rattle.loader_script.specs.Spelling.{entries_of, is_script_length}
 use Rattle.command_acts.specs.declared.fault.LoadFault.{LoadFault}
 use Rattle.command_acts.specs.Script.{script_of, script_from, script_in}
-use Rattle.load_states.specs.Loads.{script_size}
-use Rattle.load_states.specs.Moves.{all_reads, most_transfers, pieces_of}
+use Rattle.load_states.specs.Moves.{all_reads, script_size, most_commands, most_transfers, pieces_of}
 use Rattle.load_states.proofs.Counting.{length-first_reads}
 
 -- No item has more bytes than all of them.
@@ -39,9 +38,9 @@ script_reads_are : (found : Option Item)
 script_reads_are None = refl
 script_reads_are (Some item) = length-first_reads item.select 0 (length item.bytes) (pieces_of (length item.bytes))
 
--- The most transfers of a load, counted: one for the number of files, those of the entries and of the script, and one for each file.
+-- The most transfers of a load, counted: one for the number of files, those of the entries and of the script, and two for each command.
 pub transfers_are : (items : List Item)
-    → most_transfers items ≡ 1 + pieces_of (64 * length items) + pieces_of (script_size items) + length items
+    → most_transfers items ≡ 1 + pieces_of (64 * length items) + pieces_of (script_size items) + 2 * most_commands items
 transfers_are items =
     omega (
       arith,
@@ -77,6 +76,6 @@ found_room None = tt
 found_room (Some item) = bytes_room item.bytes
 
 -- No script of the items has more commands than its bytes hold.
-pub script_room : (items : List Item) (most : ℕ) → most ≡ min (script_size items) 1048576 / 128
+pub script_room : (items : List Item) (most : ℕ) → most ≡ most_commands items
     → IfOk (script_in items) (λ (script : List Entry). length script ≤ most)
 script_room items most is = subst (λ (most : ℕ). IsRoomFor most (script_in items)) (sym is) (found_room (named items loader_name))

@@ -18,7 +18,7 @@ use Rattle.load_states.specs.Kept.{IsKept}
 use Rattle.load_states.specs.Runs.{AnyLawful, StepsTo, request_of}
 use Rattle.load_states.specs.Steps.{step}
 use Rattle.firmware_load.specs.declared.loading.Loading.{Loading}
-use Rattle.firmware_load.specs.Inside.{load_of, load_in, IsInside, HasRooms, SameRooms}
+use Rattle.firmware_load.specs.Inside.{load_of, load_in, IsInside, StaysBegun, HasRooms, SameRooms}
 use Rattle.firmware_load.proofs.Opening.{kept_own}
 use Rattle.load_states.proofs.StepKeeps.{step_keeps}
 
@@ -40,30 +40,26 @@ any_lawful : {A : Type 0} (state_of : A → AllocState) (gives : A → Request �
 any_lawful state_of gives begun top are handed request answer may =
     subst (λ (range : Range). IfSome answer (λ place. IsFree range handed request.size request.align place)) (are request.zone) may.lawful
 
--- a load with its items, its top and its fill byte still, and with the rooms that it had
-kept_there : (l next : Loading) (events : List Event)
-    → IsKept (AnyLawful l.guest.memory.top) l.guest.device.items l.guest.memory.top l.guest.memory.fill events (load_of next)
-    → HasRooms l.guest.device.items l → SameRooms l next → IsInside next
-kept_there l next events kept rooms same =
-    let items : next.guest.device.items ≡ l.guest.device.items = kept.items in
-    record {
-      events = events;
-      kept = kept_own next l.guest.device.items l.guest.memory.top l.guest.memory.fill events kept;
-      rooms = subst (λ (its : List Item). HasRooms its next) (sym items) (record {
-        listed = subst (λ room. length l.guest.device.items ≤ room) (sym same.listed) rooms.listed;
-        script = subst (λ room. IfOk (script_in l.guest.device.items) (λ script. length script ≤ room)) (sym same.script) rooms.script;
-        infos = subst (λ (infos : Vec FileInfo Global). infos.items ≡ infos_of (files_of l.guest.device.items)) (sym same.infos) rooms.infos;
-        placements = same.placements;
-      });
-    }
+-- a load with its top and its fill byte still, and with the rooms that it had
+kept_there : (items : List Item) (l next : Loading) (events : List Event)
+    → IsKept (AnyLawful l.guest.memory.top) items l.guest.memory.top l.guest.memory.fill events (load_of next)
+    → HasRooms items l → SameRooms l next → IsInside items next
+kept_there items l next events kept rooms same = record {
+  events = events;
+  kept = kept_own next items l.guest.memory.top l.guest.memory.fill events kept;
+  rooms = record {
+    listed = subst (λ room. length items ≤ room) (sym same.listed) rooms.listed;
+    script = subst (λ room. IfOk (script_in items) (λ script. length script ≤ room)) (sym same.script) rooms.script;
+    infos = subst (λ (infos : Vec FileInfo Global). infos.items ≡ infos_of (files_of items)) (sym same.infos) rooms.infos;
+    placements = same.placements;
+  };
+}
 
 -- A step of a load whose places are given by an allocator of its memory keeps what is kept inside.
 pub inside_after : {A : Type 0} (state_of : A → AllocState) (gives : A → Request → Option ℕ → Type 0) (begun : Begun)
-    (l next : Loading) (event : Event)
-    → AreZonesOf l.guest.memory.top begun.zones → IsInside l
-    → StepsTo (MayAnswer state_of gives begun) event (load_of l) (load_of next) → SameRooms l next → IsInside next
-inside_after state_of gives begun l next event are inside steps same =
-    let items = l.guest.device.items in
+    (l next : Loading) (event : Event) → AreZonesOf l.guest.memory.top begun.zones
+    → StepsTo (MayAnswer state_of gives begun) event (load_of l) (load_of next) → SameRooms l next → StaysBegun l next
+inside_after state_of gives begun l next event are steps same items inside =
     let top = l.guest.memory.top in
     let fill = l.guest.memory.fill in
     let events = inside.events ++ event ∷ [] in
@@ -73,7 +69,7 @@ inside_after state_of gives begun l next event are inside steps same =
     step_keeps (AnyLawful top) items top fill inside.events event w (load_of next) (λ handed request place free. free) inside.kept
     (asked_by May (AnyLawful top) event w (load_of next) (request_of event w)
     (any_lawful state_of gives begun top are) steps) in
-    kept_there l next events kept inside.rooms same
+    kept_there items l next events kept inside.rooms same
 
 -- So does a step of a world keep what is kept over the answers that its allocator may give.
 pub kept_after : {A : Type 0} (state_of : A → AllocState) (gives : A → Request → Option ℕ → Type 0) (begun : Begun)

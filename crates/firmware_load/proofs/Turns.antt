@@ -1,24 +1,35 @@
 -- Turns of a step of the firmware and a piece as long as any transfer end a load.
-use Rattle.std.proofs.Common.{◌≡◌, ℕ, zero, suc, ◌+◌, ◌*◌, ◌<◌, ◌≤◌, ◌⊎◌, inl, inr, true, false, List, [], ◌∷◌, ◌++◌, if◌then◌else◌, Option, Some, None, append_assoc}
+use Rattle.std.proofs.Common.{◌≡◌, ℕ, zero, suc, ◌+◌, ◌*◌, ◌<◌, ◌≤◌, ◌⊎◌, inl, inr, true, false, List, [], ◌∷◌, ◌++◌, length, if◌then◌else◌, Option, Some, None, append_assoc}
 use Rattle.std.proofs.Common.{arith, refl, sym, ap, subst, ◌∙◌}
 use Rattle.std.proofs.lemmas.Bool.{cond-true, cond-false, true≢false}
 use Rattle.std.proofs.lemmas.List.{append-nil}
+use Rattle.std.specs.Option.{option_map, option_map_or}
 use Rattle.cfg_directory.specs.declared.item.Item.{Item}
+use Rattle.cfg_directory.specs.declared.listed.Listed.{Listed}
+use Rattle.cfg_directory.specs.Items.{named}
+use Rattle.cfg_directory.specs.Listing.{listed_of}
+use Rattle.cfg_directory.specs.Shapes.{HaveOneShape}
+use Rattle.cfg_directory.proofs.Shapes.{same_listed, same_length}
+use Rattle.loader_script.specs.LoaderName.{loader_name}
 use Rattle.cfg_dma.specs.declared.transfer.Flight.{Flight}
 use Rattle.command_acts.specs.Allocators.{AreLawful}
 use Rattle.command_acts.specs.Runs.{Answers}
 use Rattle.load_states.specs.declared.event.Event.{Event}
 use Rattle.load_states.specs.declared.event.Event.TheVariants.{Firmware}
+use Rattle.load_states.specs.declared.reading.Reading.TheVariants as read
 use Rattle.load_states.specs.declared.stage.Stage.{Stage}
+use Rattle.load_states.specs.declared.stage.Stage.TheVariants.{Asks, Awaits, AtCommand, AwaitsSkip, AsksWrite, AwaitsWrite, Done, Refused}
+use Rattle.load_states.specs.Moves.{script_size}
 use Rattle.load_states.specs.Kept.{IsKept}
 use Rattle.load_states.specs.Loads.{most_steps, most_closing}
-use Rattle.load_states.specs.LoadState.{LoadState, memory_of}
+use Rattle.load_states.specs.LoadState.{LoadState, memory_of, items_now, listed_named}
 use Rattle.load_states.specs.Runs.{AnyLawful, StepsTo, closing_events, has_ended, whole_piece}
 use Rattle.load_states.proofs.Ending.{step_goes, step_not_back, whole_piece_idle, steps_left_most}
+use Rattle.load_states.proofs.NamedItems.{listing, listed_as_named}
 use Rattle.load_states.proofs.Readings.{steps_left}
 use Rattle.load_states.proofs.StepKeeps.{step_keeps}
 use Rattle.firmware_load.specs.declared.loading.Loading.{Loading}
-use Rattle.firmware_load.specs.Inside.{load_of, IsInside, IsOnRun, IsTurn}
+use Rattle.firmware_load.specs.Inside.{load_of, KeepsInside, IsOnRun, IsTurn}
 use Rattle.firmware_load.proofs.OnRun.{run_more, lawful_steps}
 
 -- 1 while a transfer is in flight, whose look may still be in vain
@@ -30,6 +41,37 @@ in_flight (Some flight) = 1
 abbrev pub turns_left : LoadState → ℕ
 turns_left w =
     if has_ended w.stage then 0 else 1 + 2 * steps_left w.attached.device.items w.stage + in_flight w.attached.device.flight
+
+-- the script of items of one shape has as many bytes
+script_listed : (o : Option Item)
+    → option_map_or (λ (item : Item). length item.bytes) o 0 ≡ option_map_or (λ (l : Listed). l.size) (option_map listing o) 0
+script_listed None = refl
+script_listed (Some item) = refl
+
+script_same : (before after : List Item) → HaveOneShape before after → script_size after ≡ script_size before
+script_same before after same =
+    let listed : List Listed → ℕ = λ ls. option_map_or (λ (l : Listed). l.size) (listed_named ls loader_name) 0 in
+    let size : (items : List Item) → script_size items ≡ listed (listed_of items) = λ items.
+    script_listed (named items loader_name)
+    ∙ ap (λ (o : Option Listed). option_map_or (λ (l : Listed). l.size) o 0) (sym (listed_as_named items loader_name)) in
+    size after ∙ ap listed (same_listed before after same) ∙ sym (size before)
+
+-- so as many steps are left of it
+steps_same : (before after : List Item) (s : Stage) → HaveOneShape before after → steps_left after s ≡ steps_left before s
+steps_same before after (Asks read.Count) same = omega (arith, script_same before after same, same_length before after same)
+steps_same before after (Asks (read.Entries size taken)) same = omega (arith, script_same before after same, same_length before after same)
+steps_same before after (Asks (read.Commands select size taken)) same = omega (arith, script_same before after same)
+steps_same before after (Asks (read.File index)) same = omega (arith, script_same before after same)
+steps_same before after (Awaits read.Count) same = omega (arith, script_same before after same, same_length before after same)
+steps_same before after (Awaits (read.Entries size taken)) same = omega (arith, script_same before after same, same_length before after same)
+steps_same before after (Awaits (read.Commands select size taken)) same = omega (arith, script_same before after same)
+steps_same before after (Awaits (read.File index)) same = omega (arith, script_same before after same)
+steps_same before after (AtCommand index) same = omega (arith, script_same before after same)
+steps_same before after (AwaitsSkip index) same = omega (arith, script_same before after same)
+steps_same before after (AsksWrite index) same = omega (arith, script_same before after same)
+steps_same before after (AwaitsWrite index) same = omega (arith, script_same before after same)
+steps_same before after Done same = refl
+steps_same before after (Refused why) same = refl
 
 -- What a turn does to the steps that are left: the load has ended, or they are fewer by one or at least no more, and no transfer is in flight.
 record IsTaken (items : List Item) (w next : LoadState) : Type 0 where
@@ -90,9 +132,9 @@ turn_less May items top fill events w next lawful kept running turn =
           let kept_next = step_keeps May items top fill (events ++ Firmware ∷ []) whole_piece turn.middle next lawful middle_kept more.1 in
           let now = left_running next (ap has_ended so.2 ∙ more.0) in
           let flight : in_flight next.attached.device.flight ≡ 0 = ap in_flight so.1 in
-          let here : steps_left w.attached.device.items w.stage ≡ steps_left items w.stage = ap (λ its. steps_left its w.stage) kept.items in
+          let here : steps_left w.attached.device.items w.stage ≡ steps_left items w.stage = steps_same items (items_now w) w.stage kept.shape in
           let there : steps_left next.attached.device.items next.stage ≡ steps_left items next.stage =
-          ap (λ its. steps_left its next.stage) kept_next.items in
+          steps_same items (items_now next) next.stage kept_next.shape in
           let no_more = so.0.no_more in
           elim (flight_few w.attached.device.flight) as (λ _. turns_left next < turns_left w) [
             | inl idle ↦ let fewer = so.0.fewer idle in omega (arith, was, now, flight, here, there, idle, fewer)
@@ -101,12 +143,12 @@ turn_less May items top fill events w next lawful kept running turn =
     ]
 
 -- and each turn of a load that keeps what it keeps inside
-pub turn_less_inside : (May : Answers) (l next : Loading) → AreLawful May l.guest.memory.top → IsInside l → has_ended l.stage ≡ false
+pub turn_less_inside : (May : Answers) (l next : Loading) → AreLawful May l.guest.memory.top → KeepsInside l → has_ended l.stage ≡ false
     → IsTurn May (load_of l) (load_of next) → turns_left (load_of next) < turns_left (load_of l)
 turn_less_inside May l next lawful inside running turn =
     let top = l.guest.memory.top in
-    turn_less (AnyLawful top) l.guest.device.items top l.guest.memory.fill inside.events (load_of l) (load_of next) (λ handed request place free. free)
-    inside.kept running (record {
+    turn_less (AnyLawful top) inside.0 top l.guest.memory.fill inside.1.events (load_of l) (load_of next) (λ handed request place free. free)
+    inside.1.kept running (record {
       middle = turn.middle;
       first = lawful_steps May top Firmware (load_of l) turn.middle lawful turn.first;
       second = turn.second;
@@ -156,51 +198,48 @@ two_closing (suc k) =
 abbrev pub Closes : Answers → LoadState → LoadState → Type 0
 Closes May first w =
     (begun : LoadState) (before : List Event) → IsOnRun May begun before first
-    → (closing : ℕ) × IsCount first.attached.device.items first.stage closing w × IsOnRun May begun (before ++ closing_events closing) w
+    → (closing : ℕ) × IsCount begun.attached.device.items first.stage closing w × IsOnRun May begun (before ++ closing_events closing) w
 
 pub closes_none : (May : Answers) (first : LoadState) → Closes May first first
 closes_none May first = λ begun before on. (
   0,
-  counts_none first.attached.device.items first,
+  counts_none begun.attached.device.items first,
   subst (λ (es : List Event). IsOnRun May begun es first) (sym (append-nil before)) on,
 )
 
 -- the steps that are left bound the turns still, behind one more
-bound_after : (its items : List Item) (w next : LoadState) (k : ℕ) → its ≡ items → IsTaken its w next
+bound_after : (items : List Item) (w next : LoadState) (k : ℕ) → IsTaken items w next
     → k + steps_left items w.stage + in_flight w.attached.device.flight ≤ most_steps items + 1 → k + 1 + steps_left items next.stage ≤ most_steps items + 1
-bound_after its items w next k is taken bound =
-    let here : steps_left its w.stage ≡ steps_left items w.stage = ap (λ (some : List Item). steps_left some w.stage) is in
-    let there : steps_left its next.stage ≡ steps_left items next.stage = ap (λ (some : List Item). steps_left some next.stage) is in
+bound_after items w next k taken bound =
     let no_more = taken.no_more in
     elim (flight_few w.attached.device.flight) as (λ _. k + 1 + steps_left items next.stage ≤ most_steps items + 1) [
-      | inl idle ↦ let fewer = taken.fewer idle in omega (arith, here, there, bound, idle, fewer)
-      | inr busy ↦ omega (arith, here, there, bound, busy, no_more)
+      | inl idle ↦ let fewer = taken.fewer idle in omega (arith, bound, idle, fewer)
+      | inr busy ↦ omega (arith, bound, busy, no_more)
     ]
 
-few_after : (its items : List Item) (w next : LoadState) (k : ℕ) → its ≡ items → IsTaken its w next
+few_after : (items : List Item) (w next : LoadState) (k : ℕ) → IsTaken items w next
     → k + steps_left items w.stage + in_flight w.attached.device.flight ≤ most_steps items + 1 → 2 * k + 1 ≤ most_closing items
-few_after its items w next k is taken bound = let after = bound_after its items w next k is taken bound in omega (arith, after)
+few_after items w next k taken bound = let after = bound_after items w next k taken bound in omega (arith, after)
 
 -- A turn of a load on its run, whose closing events were counted.
-turn_on : (May : Answers) (begun first w next : LoadState) (before : List Event) (items : List Item) (closing : ℕ) → AreLawful May (memory_of begun).top
-    → begun.attached.device.items ≡ items → (has_ended first.stage ≡ true → ⊥) → IsCount items first.stage closing w
+turn_on : (May : Answers) (begun first w next : LoadState) (before : List Event) (closing : ℕ) → AreLawful May (memory_of begun).top
+    → (has_ended first.stage ≡ true → ⊥) → IsCount begun.attached.device.items first.stage closing w
     → IsOnRun May begun (before ++ closing_events closing) w → has_ended w.stage ≡ false → IsTurn May w next
-    → (more : ℕ) × IsCount items first.stage more next × IsOnRun May begun (before ++ closing_events more) next
-turn_on May begun first w next before items closing lawful its_items running_first count on running turn =
+    → (more : ℕ) × IsCount begun.attached.device.items first.stage more next × IsOnRun May begun (before ++ closing_events more) next
+turn_on May begun first w next before closing lawful running_first count on running turn =
     let top = (memory_of begun).top in
     let fill = (memory_of begun).fill in
-    let its = begun.attached.device.items in
+    let items = begun.attached.device.items in
     let so = count.turns running in
     let k = so.0 in
     let even : closing_events closing ≡ closing_events (2 * k) = ap closing_events so.1 in
-    let taken = step_taken May its top fill (before ++ closing_events closing) w turn.middle on.kept turn.first running in
-    let here : steps_left its w.stage ≡ steps_left items w.stage = ap (λ (is : List Item). steps_left is w.stage) its_items in
+    let taken = step_taken May items top fill (before ++ closing_events closing) w turn.middle on.kept turn.first running in
     let first_on = run_more May begun (before ++ closing_events closing) Firmware w turn.middle lawful on running turn.first in
     elim turn.second as (λ _. (more : ℕ) × IsCount items first.stage more next × IsOnRun May begun (before ++ closing_events more) next) [
       | inl over ↦ (
         2 * k + 1,
         record {
-          few = few_after its items w turn.middle k its_items taken so.2;
+          few = few_after items w turn.middle k taken so.2;
           turns = λ runs. absurd (true≢false (sym (ap (λ (m : LoadState). has_ended m.stage) over.1 ∙ over.0) ∙ runs));
           ended = λ was. absurd (running_first was);
         },
@@ -209,11 +248,9 @@ turn_on May begun first w next before items closing lawful its_items running_fir
             (append_assoc before (closing_events closing) (Firmware ∷ []) ∙ ap (λ es. before ++ es) (ap (λ es. es ++ Firmware ∷ []) even ∙ one_closing k)) first_on),
       )
       | inr more ↦
-          let piece = piece_taken May its top fill ((before ++ closing_events closing) ++ Firmware ∷ []) w turn.middle next first_on.kept more.1 taken in
-          let there : steps_left its next.stage ≡ steps_left items next.stage = ap (λ (is : List Item). steps_left is next.stage) its_items in
+          let piece = piece_taken May items top fill ((before ++ closing_events closing) ++ Firmware ∷ []) w turn.middle next first_on.kept more.1 taken in
           let flight : in_flight next.attached.device.flight ≡ 0 = ap in_flight piece.1 in
-          let bound : k + 1 + steps_left items next.stage ≤ most_steps items + 1 =
-          bound_after its items w next k its_items piece.0 so.2 in (
+          let bound : k + 1 + steps_left items next.stage ≤ most_steps items + 1 = bound_after items w next k piece.0 so.2 in (
             2 * (k + 1),
             record {
               few = omega (arith, bound);
@@ -233,5 +270,4 @@ pub closes_more : (May : Answers) (first w next : LoadState) → AreLawful May (
     → has_ended w.stage ≡ false → IsTurn May w next → Closes May first next
 closes_more May first w next lawful running_first closes running turn = λ begun before on.
     let so = closes begun before on in
-    turn_on May begun first w next before first.attached.device.items so.0 (subst (AreLawful May) on.kept.top lawful) (sym on.kept.items) running_first so.1
-    so.2 running turn
+    turn_on May begun first w next before so.0 (subst (AreLawful May) on.kept.top lawful) running_first so.1 so.2 running turn

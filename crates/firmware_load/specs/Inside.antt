@@ -17,7 +17,6 @@ use Rattle.command_acts.specs.Script.{script_in, IsAsked}
 use Rattle.command_acts.specs.declared.fault.LoadFault.TheVariants.{NoRoom}
 use Rattle.vt_outside.specs.Stream.{next_count}
 use Rattle.zone_alloc.specs.Allocators.{AllocState}
-use Rattle.command_acts.specs.Steps.{WritesNothing}
 use Rattle.load_states.specs.declared.event.Event.{Event}
 use Rattle.load_states.specs.declared.event.Event.TheVariants.{Firmware}
 use Rattle.load_states.specs.declared.stage.Stage.{Stage}
@@ -56,11 +55,19 @@ pub record HasRooms (items : List Item) (l : Loading) : Type 0 where
   pub infos : l.guest.placements.infos.items ≡ infos_of (files_of items)
   pub placements : ArePlacements l.guest.placements
 
--- A load that was begun with items keeps, over some events, what a load keeps.
-pub record IsInside (l : Loading) : Type 0 where
+-- A load that was begun with these items keeps, over some events, what a load keeps.
+pub record IsInside (its_items : List Item) (l : Loading) : Type 0 where
   pub events : List Event
-  pub kept : IsKept (AnyLawful l.guest.memory.top) l.guest.device.items l.guest.memory.top l.guest.memory.fill events (load_of l)
-  pub rooms : HasRooms l.guest.device.items l
+  pub kept : IsKept (AnyLawful l.guest.memory.top) its_items l.guest.memory.top l.guest.memory.fill events (load_of l)
+  pub rooms : HasRooms its_items l
+
+-- It was begun with some items.
+abbrev pub KeepsInside : Loading → Type 0
+KeepsInside l = (its_items : List Item) × IsInside its_items l
+
+-- What was begun stays what it was.
+abbrev pub StaysBegun : Loading → Loading → Type 0
+StaysBegun before after = (its_items : List Item) → IsInside its_items before → IsInside its_items after
 
 -- What a step leaves of the rooms: capacities, and the files that may be placed.
 pub record SameRooms (before after : Loading) : Type 0 where
@@ -70,8 +77,8 @@ pub record SameRooms (before after : Loading) : Type 0 where
   pub placements : ArePlacements after.guest.placements
 
 -- What a guest needs for a command of its script: the firmware knows its files, the placed ones stand in memory and apart, no transfer is in
--- flight, and there is room for one while a file isn't placed.
-pub record IsReady (guest : Guest) (listed : List Listed) (entry : Entry) : Type 0 where
+-- flight, and there is room for one.
+pub record IsReady (guest : Guest) (listed : List Listed) : Type 0 where
   pub top : IsTop guest.memory.top
   pub items : IsItems guest.device.items
   pub listed_are : listed ≡ listed_of guest.device.items
@@ -79,8 +86,7 @@ pub record IsReady (guest : Guest) (listed : List Listed) (entry : Entry) : Type
   pub placements : ArePlacements guest.placements
   pub loading : IsLoading guest.memory.top (files_of guest.device.items) guest.placements.placed.items
   pub idle : guest.device.flight ≡ None
-  pub room : length guest.placements.placed.items < length guest.device.items → 0 < guest.device.spare
-  pub writes : WritesNothing entry
+  pub room : 0 < guest.device.spare
 
 -- The load goes on by the command of an index: as the definition of its step says, with an answer that the allocator may give where it is
 -- asked.
@@ -102,13 +108,12 @@ pub record IsTurn (May : Answers) (before after : LoadState) : Type 0 where
   pub second : ((has_ended middle.stage ≡ true) × (after ≡ middle))
       ⊎ ((has_ended middle.stage ≡ false) × StepsTo May whole_piece middle after)
 
--- What an allocator was asked on the way from one state of a load to another: it refused exactly where the load ends without room, and then what
--- the command of that index asks; a load that has ended asks nothing.
-pub record AsksOnTheWay (before after : Loading) (alloc_before alloc_after : AllocState) : Type 0 where
+-- What an allocator was asked on the way from one state of a load to another, which was begun with these items: it refused exactly where the load
+-- ends without room, and then what the command of that index asks; a load that has ended asks nothing.
+pub record AsksOnTheWay (items : List Item) (before after : Loading) (alloc_before alloc_after : AllocState) : Type 0 where
   pub no_room : (index : ℕ) → after.stage ≡ Refused (NoRoom index) → (before.stage ≡ Refused (NoRoom index))
-      ⊎ ((alloc_after.refusals ≡ next_count alloc_before.refusals) × IsAsked before.guest.device.items index alloc_after.refused)
+      ⊎ ((alloc_after.refusals ≡ next_count alloc_before.refusals) × IsAsked items index alloc_after.refused)
   pub sound : ((index : ℕ) → after.stage ≡ Refused (NoRoom index) → before.stage ≡ Refused (NoRoom index))
       → alloc_after.refusals ≡ alloc_before.refusals
   pub ended : has_ended before.stage ≡ true → (after.stage ≡ before.stage) × (alloc_after ≡ alloc_before)
-  pub items : after.guest.device.items ≡ before.guest.device.items
   pub top : after.guest.memory.top ≡ before.guest.memory.top

@@ -9,7 +9,7 @@ use Rattle.firmware_load.specs.declared.state.State.{State}
 use Rattle.firmware_load.specs.declared.state.State.TheVariants as state
 use Rattle.load_states.specs.declared.event.Event.{Event}
 use Rattle.load_states.specs.declared.stage.Stage.{Stage}
-use Rattle.load_states.specs.declared.stage.Stage.TheVariants.{Asks, Awaits, AtCommand, Done, Refused}
+use Rattle.load_states.specs.declared.stage.Stage.TheVariants.{Asks, Awaits, AtCommand, AwaitsSkip, AsksWrite, AwaitsWrite, Done, Refused}
 use Rattle.command_acts.specs.Runs.{Answers}
 use Rattle.load_states.specs.Loads.{IsLoadedOver, most_closing}
 use Rattle.load_states.specs.LoadState.{LoadState, memory_of}
@@ -22,6 +22,9 @@ state_at (Refused why) = state.Refused why
 state_at (Asks reading) = state.Running
 state_at (Awaits reading) = state.Running
 state_at (AtCommand index) = state.Running
+state_at (AwaitsSkip index) = state.Running
+state_at (AsksWrite index) = state.Running
+state_at (AwaitsWrite index) = state.Running
 
 -- the state of a world, which is idle where nothing was begun
 abbrev pub state_of : Option LoadState → State

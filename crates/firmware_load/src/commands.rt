@@ -1,26 +1,30 @@
 ghost use Rattle.std.specs.Prelude.{◌≡◌, ◌≢◌, ℕ, ◌+◌, ◌<◌, ◌^◌, List, [], ◌∷◌, ◌++◌, true, Some, None, IsSome};
 ghost use Rattle.vt_outside.specs.Stream.{next_count};
 ghost use Rattle.loader_script.specs.declared.entry.Entry.{Entry};
+ghost use Rattle.vt_bytes.specs.Memory.{with_bytes};
+ghost use Rattle.vt_bytes.specs.Numbers.{le_bytes};
+ghost use Rattle.vt_layout.specs.Rows.{IsPointerSize};
 ghost use Rattle.loader_script.specs.declared.entry.Entry.TheVariants.{Allocate, AddPointer, AddChecksum};
 ghost use Rattle.command_acts.specs.Allocators.{AreZonesOf, MayAnswer};
 ghost use Rattle.command_acts.specs.declared.fault.LoadFault.TheVariants.{NoRoom};
-ghost use Rattle.command_acts.specs.FilesInMemory.{placed_ranges, placed_named, IsLoading};
+ghost use Rattle.command_acts.specs.FilesInMemory.{placed_ranges, placed_named, place_of, IsLoading};
 ghost use Rattle.command_acts.specs.Placing.{ArePlacements};
 ghost use Rattle.cfg_directory.specs.declared.listed.Listed.{Listed as ListedFile};
 ghost use Rattle.loader_script.specs.Refusal.{info_of, AreDistinct};
 ghost use Rattle.cfg_directory.specs.Files.{files_of};
 ghost use Rattle.cfg_dma.specs.Reads.{started, selected_read};
 ghost use Rattle.cfg_dma.specs.Transfers.{attached};
-ghost use Rattle.load_states.specs.Guarded.{descriptor_at};
+ghost use Rattle.cfg_dma.specs.Writes.{next_write};
+ghost use Rattle.load_states.specs.Guarded.{descriptor_at, buffer_at};
 ghost use Rattle.load_states.specs.LoadState.{listed_named};
-ghost use Rattle.load_states.specs.Steps.{at_command};
+ghost use Rattle.load_states.specs.Steps.{at_command, skips};
 ghost use Rattle.load_states.specs.declared.stage.Stage.TheVariants.{AtCommand, Refused};
 ghost use Rattle.load_states.specs.Runs.{request_for};
 ghost use Rattle.command_acts.specs.Runs.{early_cause};
 ghost use Rattle.firmware_load.specs.Inside.{load_at, progress_now, IsReady, GoesByCommand};
 
 use crate::firmware::find_listed;
-use crate::guest::{Guest, selected_read};
+use crate::guest::{BUFFER, Guest, NEXT_WRITE, selected_read, selected_skip};
 use cfg_directory::Listed;
 use command_acts::{LoadFault, PlacedFile, add_checksum, add_pointer};
 use guest_memory::TooFar;
@@ -39,7 +43,7 @@ impl Guest {
         listed: &[Listed],
         place: &mut A,
     ) -> Stage
-        requires ready { IsReady self.old listed.now entry.now }
+        requires ready { IsReady self.old listed.now }
         requires index { index + 1 < 2 ^ 32 }
         requires begun { (A.state place.old).begun.ready ≡ true }
         requires zones { AreZonesOf self.old.memory.top (A.state place.old).begun.zones }
@@ -76,9 +80,14 @@ impl Guest {
                 start,
                 length,
             } => self.add_checksum(file, *offset, *start, *length, index),
+            Entry::WritePointer {
+                dest,
+                dst_offset,
+                ..
+            } => self.skip_to(dest, *dst_offset, index, listed),
             Entry::Skipped(_) => Stage::AtCommand(index + 1),
-            // Neither comes here: WRITE_POINTER is read as skipped, and a misnamed command is refused above.
-            Entry::WritePointer { .. } | Entry::Misnamed(_) => unreachable!(),
+            // A misnamed command is refused above.
+            Entry::Misnamed(_) => unreachable!(),
         }
     }
 
@@ -92,7 +101,7 @@ impl Guest {
         listed: &[Listed],
         place: &mut A,
     ) -> Stage
-        requires ready { IsReady self.old listed.now (Allocate name.now align zone) }
+        requires ready { IsReady self.old listed.now }
         requires early { early_cause (Allocate name.now align zone) (progress_now self.old) ≡ None }
         requires begun { (A.state place.old).begun.ready ≡ true }
         requires zones { AreZonesOf self.old.memory.top (A.state place.old).begun.zones }
@@ -168,6 +177,39 @@ impl Guest {
                 cause: Cause::TooFar,
             }),
         }
+    }
+
+    // Starts the skip to an offset in the file `dest`.
+    fn skip_to(&mut self, dest: &Name, offset: u32, index: u32, listed: &[Listed]) -> Stage
+        requires idle { self.old.device.flight ≡ None }
+        requires room { 0 < self.old.device.spare }
+        requires there { IsSome (listed_named listed.now dest.now) }
+        ensures goes { (script : List Entry) →
+            load_at self.new result listed.now script ≡ skips index offset (listed_named listed.now dest.now) (load_at self.old (AtCommand index) listed.now script) }
+        ensures placements { self.new.placements ≡ self.old.placements }
+        ensures roomy { (at : ℕ) → result ≢ Refused (NoRoom at) }
+    {
+        let file = listed_of(listed, dest);
+        self.start(selected_skip(file.select), offset, 0);
+        Stage::AwaitsSkip(index)
+    }
+
+    /// Puts the number of a WritePointer, the place of the file `src` and an offset in it, into the buffer, and starts its write. The
+    /// file is placed, and the number fits in `size` bytes.
+    pub(crate) fn write_number(&mut self, src: &Name, src_offset: u32, size: u8)
+        requires idle { self.old.device.flight ≡ None }
+        requires room { 0 < self.old.device.spare }
+        requires placed { IsSome (placed_named self.old.placements.placed.items src.now) }
+        requires size { IsPointerSize size }
+        requires fits { place_of self.old.placements.placed.items src.now + src_offset < 256 ^ size }
+        ensures after { attached self.new.device self.new.memory
+            ≡ started descriptor_at next_write size buffer_at (attached self.old.device
+            (with_bytes self.old.memory buffer_at (le_bytes size (place_of self.old.placements.placed.items src.now + src_offset)))) }
+        ensures placements { self.new.placements ≡ self.old.placements }
+    {
+        let number = self.placements.place_of(src) + u64::from(src_offset);
+        self.put_number(size, number);
+        self.start(NEXT_WRITE, u32::from(size), BUFFER);
     }
 
     // Subtracts the sum of a range of a file from a byte of it.

@@ -10,14 +10,14 @@ ghost use Rattle.command_acts.specs.Allocators.{AreZonesOf, MayAnswer};
 ghost use Rattle.command_acts.specs.FilesInMemory.{placed_ranges};
 ghost use Rattle.load_states.specs.declared.event.Event.TheVariants.{Firmware};
 ghost use Rattle.load_states.specs.declared.reading.Reading.TheVariants.{Count, Entries, Commands};
-ghost use Rattle.load_states.specs.declared.stage.Stage.TheVariants.{Asks, Awaits, AtCommand};
+ghost use Rattle.load_states.specs.declared.stage.Stage.TheVariants.{Asks, Awaits, AtCommand, AsksWrite};
 ghost use Rattle.load_states.specs.Guarded.{buffer_at};
 ghost use Rattle.load_states.specs.Kept.{IsLeft};
 ghost use Rattle.load_states.specs.LoadState.{LoadState, listed_named};
 ghost use Rattle.load_states.specs.Runs.{StepsTo, request_of};
 ghost use Rattle.load_states.specs.Steps.{asked, asking_for, is_over, script_control, stage_for, taken_of, firmware_step};
 ghost use Rattle.firmware_load.specs.World.{IsWithoutRoom, IsSound};
-ghost use Rattle.firmware_load.specs.Inside.{load_of, IsInside, SameRooms};
+ghost use Rattle.firmware_load.specs.Inside.{load_of, KeepsInside, SameRooms};
 
 use crate::guest::{BUFFER, BUFFER_BYTES, Guest, NEXT_READ, selected_read};
 use crate::loading::Loading;
@@ -35,7 +35,7 @@ const DIRECTORY: u16 = 0x19;
 impl Loading {
     /// Takes a step of the firmware.
     pub(crate) fn firmware_step<A: ZoneAlloc>(&mut self, place: &mut A)
-        requires inside { IsInside self.old }
+        requires inside { KeepsInside self.old }
         requires begun { (A.state place.old).begun.ready ≡ true }
         requires zones { AreZonesOf self.old.guest.memory.top (A.state place.old).begun.zones }
         requires handed { (A.state place.old).handed ≡ placed_ranges self.old.guest.placements.placed.items }
@@ -53,13 +53,16 @@ impl Loading {
             Stage::Asks(reading) => self.ask(reading),
             Stage::Awaits(reading) => self.look(reading),
             Stage::AtCommand(index) => self.come_to(index, place),
+            Stage::AwaitsSkip(index) => self.pass_when_over(Stage::AsksWrite(index)),
+            Stage::AsksWrite(index) => self.ask_write(index),
+            Stage::AwaitsWrite(index) => self.pass_when_over(Stage::AtCommand(index + 1)),
             Stage::Done | Stage::Refused(_) => {}
         }
     }
 
     // Asks for the transfer of a reading.
     fn ask(&mut self, reading: Reading)
-        requires inside { IsInside self.old }
+        requires inside { KeepsInside self.old }
         requires stage { self.old.stage ≡ Asks reading }
         ensures after { load_of self.new ≡ firmware_step (Asks reading) None (load_of self.old) }
         ensures rooms { SameRooms self.old self.new }
@@ -71,7 +74,7 @@ impl Loading {
 
     // Looks whether the transfer of a reading is over, and then takes what it has read.
     fn look(&mut self, reading: Reading)
-        requires inside { IsInside self.old }
+        requires inside { KeepsInside self.old }
         requires stage { self.old.stage ≡ Awaits reading }
         ensures after { load_of self.new ≡ firmware_step (Awaits reading) None (load_of self.old) }
         ensures rooms { SameRooms self.old self.new }
@@ -90,9 +93,51 @@ impl Loading {
         }
     }
 
+    // Looks whether a transfer is over of which nothing is taken, and then passes to a stage.
+    fn pass_when_over(&mut self, next: Stage)
+        requires inside { KeepsInside self.old }
+        ensures after { load_of self.new
+            ≡ (if is_over (load_of self.old) then record (load_of self.old) { stage = next } else load_of self.old) }
+        ensures rooms { SameRooms self.old self.new }
+    {
+        if !self.guest.is_over() {
+            return;
+        }
+        self.stage = next;
+    }
+
+    // Puts the number of a WritePointer into the buffer, and asks for its write.
+    fn ask_write(&mut self, index: u32)
+        requires inside { KeepsInside self.old }
+        requires stage { self.old.stage ≡ AsksWrite index }
+        ensures after { load_of self.new ≡ firmware_step (AsksWrite index) None (load_of self.old) }
+        ensures rooms { SameRooms self.old self.new }
+    {
+        match self.script.get(index as usize) {
+            Some(entry) => match entry {
+                Entry::WritePointer {
+                    src,
+                    src_offset,
+                    size,
+                    ..
+                } => {
+                    self.guest.write_number(src, *src_offset, *size);
+                    self.stage = Stage::AwaitsWrite(index);
+                }
+                // None but a WritePointer comes here.
+                Entry::Allocate { .. }
+                | Entry::AddPointer { .. }
+                | Entry::AddChecksum { .. }
+                | Entry::Misnamed(_)
+                | Entry::Skipped(_) => unreachable!(),
+            },
+            None => unreachable!(),
+        }
+    }
+
     // Takes the number of files.
     fn take_count(&mut self)
-        requires inside { IsInside self.old }
+        requires inside { KeepsInside self.old }
         requires stage { self.old.stage ≡ Awaits Count }
         requires over { is_over (load_of self.old) ≡ true }
         ensures after { load_of self.new ≡ taken_of Count (load_of self.old) }
@@ -111,7 +156,7 @@ impl Loading {
 
     // Takes entries of the directory.
     fn take_entries(&mut self, size: u32, taken: u32)
-        requires inside { IsInside self.old }
+        requires inside { KeepsInside self.old }
         requires stage { self.old.stage ≡ Awaits (Entries size taken) }
         ensures after { load_of self.new ≡ taken_of (Entries size taken) (load_of self.old) }
         ensures rooms { SameRooms self.old self.new }
@@ -131,7 +176,7 @@ impl Loading {
 
     // Takes commands of the script.
     fn take_script(&mut self, select: u16, size: u32, taken: u32)
-        requires inside { IsInside self.old }
+        requires inside { KeepsInside self.old }
         requires stage { self.old.stage ≡ Awaits (Commands select size taken) }
         ensures after { load_of self.new ≡ taken_of (Commands select size taken) (load_of self.old) }
         ensures rooms { SameRooms self.old self.new }
@@ -151,7 +196,7 @@ impl Loading {
 
     // Carries out the command of an index, or ends the load behind the last one.
     fn come_to<A: ZoneAlloc>(&mut self, index: u32, place: &mut A)
-        requires inside { IsInside self.old }
+        requires inside { KeepsInside self.old }
         requires stage { self.old.stage ≡ AtCommand index }
         requires begun { (A.state place.old).begun.ready ≡ true }
         requires zones { AreZonesOf self.old.guest.memory.top (A.state place.old).begun.zones }

@@ -1,7 +1,11 @@
-ghost use Rattle.std.specs.Prelude.{◌≡◌, ◌==◌, ◌<◌, ◌≤◌, ◌++◌, [], ◌∷◌, length, None};
+ghost use Rattle.std.specs.Prelude.{◌≡◌, ◌==◌, ◌<◌, ◌≤◌, ◌^◌, ◌++◌, [], ◌∷◌, length, None};
 ghost use Rattle.vt_bytes.specs.Numbers.{be};
 ghost use Rattle.vt_bytes.specs.Memory.{IsTop, bytes_at};
+ghost use Rattle.vt_bytes.specs.Memory.{with_bytes};
+ghost use Rattle.vt_bytes.specs.Numbers.{le_bytes};
+ghost use Rattle.vt_layout.specs.Rows.{IsPointerSize};
 ghost use Rattle.cfg_dma.specs.Reads.{started, descriptor_bytes, selected_read};
+ghost use Rattle.cfg_dma.specs.Writes.{selected_skip};
 ghost use Rattle.cfg_dma.specs.Transfers.{attached};
 ghost use Rattle.load_states.specs.Guarded.{descriptor_at, buffer_at, is_guarded, written_by_other};
 ghost use Rattle.load_states.specs.Steps.{cleared};
@@ -9,10 +13,10 @@ ghost use Rattle.load_states.specs.Steps.{cleared};
 use cfg_dma::Device;
 use command_acts::Placements;
 use guest_memory::GuestMemory;
-use vt_bytes::{get_be, put_be};
+use vt_bytes::{get_be, put_be, put_le};
 use zone_alloc::zones_of;
 
-// Where the firmware works: 16 bytes for the descriptor of a transfer, and a buffer that it reads through.
+// Where the firmware works: 16 bytes for the descriptor of a transfer, and a buffer that it reads and writes through.
 const DESCRIPTOR: u64 = 0x7000;
 
 const DESCRIPTOR_LOW: u32 = DESCRIPTOR as u32;
@@ -34,14 +38,26 @@ pub(crate) struct Guest {
 /// A control word that asks for a read from where the last one ended.
 pub(crate) const NEXT_READ: u32 = 0x02;
 
-// A read of an item that is selected.
+/// A control word that asks for a write from where the last transfer ended.
+pub(crate) const NEXT_WRITE: u32 = 0x10;
+
+// A read of an item that is selected, and a skip in one.
 const SELECTED_READ: u32 = 0x0A;
+
+const SELECTED_SKIP: u32 = 0x0C;
 
 /// Returns the control word that asks for a read of an item from its start.
 pub(crate) fn selected_read(select: u16) -> u32
     ensures { result ≡ selected_read select }
 {
     u32::from(select) * 0x1_0000 + SELECTED_READ
+}
+
+/// Returns the control word that asks for a skip in an item, from its start.
+pub(crate) fn selected_skip(select: u16) -> u32
+    ensures { result ≡ selected_skip select }
+{
+    u32::from(select) * 0x1_0000 + SELECTED_SKIP
 }
 
 impl Guest {
@@ -75,6 +91,19 @@ impl Guest {
         ensures len { length result.now ≡ count }
     {
         self.memory.window(BUFFER, count)
+    }
+
+    /// Puts a number of `size` bytes, 1, 2, 4 or 8, at the start of the buffer, low byte first.
+    pub(crate) fn put_number(&mut self, size: u8, number: u64)
+        requires size { IsPointerSize size }
+        requires fits { number < 256 ^ size }
+        ensures memory { self.new.memory ≡ with_bytes self.old.memory buffer_at (le_bytes size number) }
+        ensures device { self.new.device ≡ self.old.device }
+        ensures placements { self.new.placements ≡ self.old.placements }
+    {
+        let mut bytes = [0; 8];
+        put_le(&mut bytes, 0, size as usize, number);
+        self.memory.copy_in(BUFFER, &bytes[..size as usize]);
     }
 
     /// Another processor writes a byte. Nothing happens where the address is no RAM, or is guarded.

@@ -9,7 +9,7 @@ ghost use Rattle.load_states.specs.Loads.{IsBegun};
 ghost use Rattle.load_states.specs.Runs.{NoAnswer, StepsTo, request_of};
 ghost use Rattle.load_states.specs.Steps.{step};
 ghost use Rattle.firmware_load.specs.World.{IsWithoutRoom, IsSound};
-ghost use Rattle.firmware_load.specs.Inside.{load_of, IsInside, SameRooms};
+ghost use Rattle.firmware_load.specs.Inside.{load_of, KeepsInside, StaysBegun, SameRooms};
 
 use crate::guest::Guest;
 use crate::rooms::{most_transfers, script_len};
@@ -45,7 +45,7 @@ impl Loading {
         requires { IsTop top }
         ensures begun { IfOk result (λ l. IsBegun items top fill (load_of l)) }
         ensures kept { IfOk result (λ l. IsKept NoAnswer items top fill [] (load_of l)) }
-        ensures inside { IfOk result IsInside }
+        ensures inside { IfOk result KeepsInside }
     {
         let transfers = most_transfers(&items);
         let listed = Vec::with_capacity(alloc, items.all().len())?;
@@ -68,11 +68,12 @@ impl Loading {
 
     /// Takes the step of an event. `place` is asked once, where the firmware carries out an Allocate, and else not at all.
     pub(crate) fn step<A: ZoneAlloc>(&mut self, place: &mut A, event: Event)
-        requires inside { IsInside self.old }
+        requires inside { KeepsInside self.old }
         requires begun { (A.state place.old).begun.ready ≡ true }
         requires zones { AreZonesOf self.old.guest.memory.top (A.state place.old).begun.zones }
         requires handed { (A.state place.old).handed ≡ placed_ranges self.old.guest.placements.placed.items }
-        ensures inside { IsInside self.new }
+        ensures inside { KeepsInside self.new }
+        ensures begun_so { StaysBegun self.old self.new }
         ensures steps { StepsTo (MayAnswer A.state A.gives (A.state place.old).begun) event
             (load_of self.old) (load_of self.new) }
         ensures handed { (A.state place.new).handed ≡ placed_ranges self.new.guest.placements.placed.items }
@@ -90,7 +91,7 @@ impl Loading {
 
     // The device moves a piece of its transfer.
     fn move_piece(&mut self, bytes: u32)
-        requires { IsInside self.old }
+        requires { KeepsInside self.old }
         ensures steps { load_of self.new ≡ step (Moved bytes) None (load_of self.old) }
         ensures rooms { SameRooms self.old self.new }
     {
@@ -99,7 +100,7 @@ impl Loading {
 
     // Another processor writes a byte, unless the address is no RAM or is guarded.
     fn write_by_other(&mut self, addr: u64, byte: u8)
-        requires { IsInside self.old }
+        requires { KeepsInside self.old }
         ensures steps { load_of self.new ≡ step (Written addr byte) None (load_of self.old) }
         ensures rooms { SameRooms self.old self.new }
     {

@@ -1,6 +1,5 @@
 ghost use Rattle.std.specs.Prelude.{◌≡◌, ◌≤◌, ◌<◌, ◌-◌, ◌^◌, length, IfOk};
-ghost use Rattle.load_states.specs.Loads.{script_size};
-ghost use Rattle.load_states.specs.Moves.{most_transfers, pieces_of};
+ghost use Rattle.load_states.specs.Moves.{script_size, most_commands, most_transfers, pieces_of};
 ghost use Rattle.command_acts.specs.Script.{script_in};
 
 use crate::guest::BUFFER_BYTES;
@@ -12,14 +11,23 @@ pub(crate) fn most_transfers(items: &Items) -> u32
     ensures { result ≡ most_transfers items.now }
 {
     let files = items.all().len() as u32;
-    1 + pieces_of(ENTRY_SIZE as u32 * files) + pieces_of(script_size(items)) + files
+    let commands = most_commands(items);
+    1 + pieces_of(ENTRY_SIZE as u32 * files) + pieces_of(script_size(items)) + 2 * commands
+}
+
+/// Returns how many commands the script of items has at most.
+pub(crate) fn most_commands(items: &Items) -> u32
+    ensures value { result ≡ most_commands items.now }
+    ensures small { result ≤ 8192 }
+{
+    script_size(items).min(LONGEST_SCRIPT as u32) / ENTRY_BYTES as u32
 }
 
 /// Returns a number of commands that no script of the items exceeds.
 pub(crate) fn script_len(items: &Items) -> usize
     ensures { IfOk (script_in items.now) (λ script. length script ≤ result) }
 {
-    (script_size(items) as usize).min(LONGEST_SCRIPT) / ENTRY_BYTES
+    most_commands(items) as usize
 }
 
 // How many bytes the file of the script has, if there is one.

@@ -7,7 +7,8 @@ ghost use Rattle.load_states.specs.Runs.{has_ended, closing_events};
 ghost use Rattle.load_states.specs.LoadState.{LoadState};
 ghost use Rattle.load_states.specs.declared.event.Event.{Event as EventOf};
 ghost use Rattle.firmware_load.specs.World.{state_at, IsLoadOver};
-ghost use Rattle.firmware_load.specs.Inside.{load_of, IsInside, IsOnRun, IsTurn, AsksOnTheWay};
+ghost use Rattle.firmware_load.specs.Inside.{load_of, IsInside, KeepsInside, StaysBegun, IsOnRun, IsTurn, AsksOnTheWay};
+ghost use Rattle.cfg_directory.specs.declared.item.Item.{Item};
 ghost use Rattle.command_acts.specs.FilesInMemory.{placed_ranges};
 
 use crate::loading::Loading;
@@ -24,12 +25,12 @@ impl Loading {
         place: &mut A,
         plan: &mut C,
     ) -> Result<(), LoadFault>
-        requires inside { IsInside self.old }
+        requires inside { KeepsInside self.old }
         requires fresh { IsBegun self.old.guest.device.items self.old.guest.memory.top self.old.guest.memory.fill (load_of self.old) }
         requires begun { (A.state place.old).begun.ready ≡ true }
         requires zones { AreZonesOf self.old.guest.memory.top (A.state place.old).begun.zones }
         requires handed { (A.state place.old).handed ≡ [] }
-        ensures inside { IsInside self.new }
+        ensures inside { KeepsInside self.new }
         ensures loaded { IsLoadOver (MayAnswer A.state A.gives (A.state place.old).begun) (load_of self.old)
             (C.plan plan.old).left (C.plan plan.new).left (A.state place.new).handed result (load_of self.new) }
         ensures plan { (C.plan plan.new).events ≡ (C.plan plan.old).events }
@@ -76,18 +77,20 @@ impl Loading {
 
     // Takes the events of a plan until the load has ended, or the plan has no more.
     fn follow<A: ZoneAlloc, C: Schedule>(&mut self, place: &mut A, plan: &mut C)
-        requires inside { IsInside self.old }
+        requires inside { KeepsInside self.old }
         requires begun { (A.state place.old).begun.ready ≡ true }
         requires zones { AreZonesOf self.old.guest.memory.top (A.state place.old).begun.zones }
         requires handed { (A.state place.old).handed ≡ placed_ranges self.old.guest.placements.placed.items }
-        ensures inside { IsInside self.new }
+        ensures inside { KeepsInside self.new }
+        ensures begun_so { StaysBegun self.old self.new }
         ensures follows { (begun : LoadState) (before : List EventOf) →
             IsOnRun (MayAnswer A.state A.gives (A.state place.old).begun) begun before (load_of self.old) →
             (taken : List EventOf) × ((C.plan plan.old).left ≡ taken ++ (C.plan plan.new).left)
             × IsOnRun (MayAnswer A.state A.gives (A.state place.old).begun) begun (before ++ taken) (load_of self.new) }
         ensures over { (has_ended self.new.stage ≡ true) ⊎ ((C.plan plan.new).left ≡ []) }
         ensures plan { (C.plan plan.new).events ≡ (C.plan plan.old).events }
-        ensures asks { AsksOnTheWay self.old self.new (A.state place.old) (A.state place.new) }
+        ensures asks { (items : List Item) → IsInside items self.old
+            → AsksOnTheWay items self.old self.new (A.state place.old) (A.state place.new) }
         ensures handed { (A.state place.new).handed ≡ placed_ranges self.new.guest.placements.placed.items }
         ensures begun { (A.state place.new).begun ≡ (A.state place.old).begun }
     {
@@ -101,18 +104,20 @@ impl Loading {
 
     // Takes a step of the firmware and a piece as long as any transfer, in turn, until the load has ended.
     fn close<A: ZoneAlloc>(&mut self, place: &mut A)
-        requires inside { IsInside self.old }
+        requires inside { KeepsInside self.old }
         requires begun { (A.state place.old).begun.ready ≡ true }
         requires zones { AreZonesOf self.old.guest.memory.top (A.state place.old).begun.zones }
         requires handed { (A.state place.old).handed ≡ placed_ranges self.old.guest.placements.placed.items }
-        ensures inside { IsInside self.new }
+        ensures inside { KeepsInside self.new }
+        ensures begun_so { StaysBegun self.old self.new }
         ensures follows { (begun : LoadState) (before : List EventOf) →
             IsOnRun (MayAnswer A.state A.gives (A.state place.old).begun) begun before (load_of self.old) →
-            (closing : ℕ) × (closing ≤ most_closing self.old.guest.device.items) × (has_ended self.old.stage ≡ true → closing ≡ 0)
+            (closing : ℕ) × (closing ≤ most_closing begun.attached.device.items) × (has_ended self.old.stage ≡ true → closing ≡ 0)
             × IsOnRun (MayAnswer A.state A.gives (A.state place.old).begun) begun
             (before ++ closing_events closing) (load_of self.new) }
         ensures over { has_ended self.new.stage ≡ true }
-        ensures asks { AsksOnTheWay self.old self.new (A.state place.old) (A.state place.new) }
+        ensures asks { (items : List Item) → IsInside items self.old
+            → AsksOnTheWay items self.old self.new (A.state place.old) (A.state place.new) }
         ensures handed { (A.state place.new).handed ≡ placed_ranges self.new.guest.placements.placed.items }
         ensures begun { (A.state place.new).begun ≡ (A.state place.old).begun }
     {
@@ -123,14 +128,16 @@ impl Loading {
 
     // Takes a step of the firmware and then, unless the load has ended, a piece as long as any transfer. The load hasn't ended before.
     fn take_turn<A: ZoneAlloc>(&mut self, place: &mut A)
-        requires inside { IsInside self.old }
+        requires inside { KeepsInside self.old }
         requires running { has_ended self.old.stage ≡ false }
         requires begun { (A.state place.old).begun.ready ≡ true }
         requires zones { AreZonesOf self.old.guest.memory.top (A.state place.old).begun.zones }
         requires handed { (A.state place.old).handed ≡ placed_ranges self.old.guest.placements.placed.items }
-        ensures inside { IsInside self.new }
+        ensures inside { KeepsInside self.new }
+        ensures begun_so { StaysBegun self.old self.new }
         ensures turn { IsTurn (MayAnswer A.state A.gives (A.state place.old).begun) (load_of self.old) (load_of self.new) }
-        ensures asks { AsksOnTheWay self.old self.new (A.state place.old) (A.state place.new) }
+        ensures asks { (items : List Item) → IsInside items self.old
+            → AsksOnTheWay items self.old self.new (A.state place.old) (A.state place.new) }
         ensures handed { (A.state place.new).handed ≡ placed_ranges self.new.guest.placements.placed.items }
         ensures begun { (A.state place.new).begun ≡ (A.state place.old).begun }
     {

@@ -34,13 +34,13 @@ pub struct World {
 impl Model for World {
     ghost use Rattle.std.specs.Prelude.{Option, IfSome};
     ghost use Rattle.load_states.specs.LoadState.{LoadState};
-    ghost use Rattle.firmware_load.specs.Inside.{load_in, IsInside};
+    ghost use Rattle.firmware_load.specs.Inside.{load_in, KeepsInside};
 
     ghost Value = { Option LoadState };
 
     ghost view = { λ w. load_in w.loading };
 
-    ghost invariant = { λ w. IfSome w.loading IsInside };
+    ghost invariant = { λ w. IfSome w.loading KeepsInside };
 }
 
 impl World {

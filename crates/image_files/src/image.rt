@@ -50,7 +50,7 @@ impl From<OutOfMemory> for ImageBuildFault {
 }
 
 /// Makes the image of `files`, in memory from `alloc`. Its script places them in their order, links them, and goes on with the
-/// commands `later`, which hold no `Misnamed` and no `Skipped` of 1 to 3. There are fewer than 1,024 files, their names differ,
+/// commands `later`, which hold no `Misnamed` and no `Skipped` of 1 to 4. There are fewer than 1,024 files, their names differ,
 /// and none is `etc/table-loader`. Returns `ImageTooLarge` where they have, with the script's file, more than 409,600 bytes in
 /// all, which are counted before memory is taken, and else `OutOfMemory` when memory runs out.
 pub fn link(alloc: Global, files: Vec<ImageFile>, later: &[Entry]) -> Result<Image, ImageBuildFault>

@@ -1,70 +1,24 @@
 -- The reads of a load are reads that its device can carry out.
-use Rattle.std.proofs.Common.{◌≡◌, ℕ, ◌+◌, ◌-◌, ◌*◌, ◌<◌, ◌≤◌, ◌⊎◌, ◌==◌, false, List, [], ◌∷◌, length, Option, Some, min, inl, inr}
+use Rattle.std.proofs.Common.{◌≡◌, ℕ, ◌+◌, ◌-◌, ◌*◌, ◌<◌, ◌≤◌, ◌⊎◌, List, length, Some, min, inl, inr}
 use Rattle.std.proofs.Common.{arith, refl, sym, ap, ◌∙◌}
-use Rattle.std.specs.List.{AllByRecursion}
-use Rattle.std.specs.Str.{bytes_eq}
-use Rattle.std.specs.Option.{option_map_or}
-use Rattle.std.proofs.lemmas.Bool.{cases_Bool, cases_lt, cond-true, cond-false, ne_eqb, eq-eqb, false≢true}
-use Rattle.std.proofs.lemmas.Option.{none-some, same_Some}
+use Rattle.std.proofs.lemmas.Bool.{cases_lt}
 use Rattle.vt_bytes.specs.Memory.{IsRamRange}
 use Rattle.cfg_directory.specs.declared.item.Item.{Item}
-use Rattle.cfg_directory.specs.Items.{IsItems, AreDistinct, IsFileSelect, HasNoSelect, named, selected}
+use Rattle.cfg_directory.specs.Items.{IsItems, named}
 use Rattle.cfg_directory.proofs.Written.{AreNamed}
 use Rattle.cfg_directory.proofs.Listings.{length-directory_of}
-use Rattle.loader_script.proofs.Named.{of_found}
 use Rattle.cfg_dma.specs.Device.{contents}
 use Rattle.cfg_dma.specs.Reads.{CanRead, read_of}
-use Rattle.cfg_dma.proofs.Holds.{contents-directory, contents-file}
+use Rattle.cfg_dma.proofs.Holds.{contents-directory}
 use Rattle.command_acts.specs.declared.placed.PlacedFile.{PlacedFile}
 use Rattle.loader_script.specs.LoaderName.{loader_name}
 use Rattle.load_states.specs.Guarded.{descriptor_at, buffer_at, buffer_size}
 use Rattle.load_states.specs.Moves.{count_read, piece_read}
 use Rattle.load_states.specs.Kept.{IsZoned}
 use Rattle.load_states.proofs.Frames.{descriptor_ram, buffer_ram, beside_work}
+use Rattle.load_states.proofs.NamedItems.{named_is_file, contents_named}
 
 -- ---- what items hold
-
--- an item that is none of the selector of the first has another one
-other_select : (items : List Item) (name : List ℕ) (first item : Item) → HasNoSelect items first.select → named items name ≡ Some item
-    → (first.select == item.select) ≡ false
-other_select items name first item none there =
-    let other = of_found (λ (i : Item). (i.select == first.select) ≡ false) (λ (i : Item). bytes_eq i.name name) items item there none in
-    ne_eqb first.select item.select (λ same. false≢true (sym other ∙ eq-eqb item.select first.select (sym same)))
-
--- each item's selector is one of a file
-are_files : (items : List Item) → AreDistinct items → AllByRecursion (λ (item : Item). IsFileSelect item.select) items
-are_files [] distinct = tt
-are_files (first ∷ items) distinct = (distinct.2, are_files items distinct.3)
-
--- so is that of the item of a name
-pub named_is_file : (items : List Item) (name : List ℕ) (item : Item) → AreDistinct items → named items name ≡ Some item → IsFileSelect item.select
-named_is_file items name item distinct there =
-    of_found (λ (i : Item). IsFileSelect i.select) (λ (i : Item). bytes_eq i.name name) items item there (are_files items distinct)
-
--- the item of a name is the item of its selector
-pub named_is_selected : (items : List Item) (name : List ℕ) (item : Item) → AreDistinct items → named items name ≡ Some item
-    → selected items item.select ≡ Some item
-named_is_selected [] name item distinct there = absurd (none-some item there)
-named_is_selected (first ∷ items) name item distinct there =
-    elim (cases_Bool (bytes_eq first.name name)) as (λ _. selected (first ∷ items) item.select ≡ Some item) [
-      | inl its ↦
-          let same : first ≡ item = same_Some first item (sym (cond-true _ (Some first) (named items name) its) ∙ there) in
-          cond-true (first.select == item.select) (Some first) (selected items item.select)
-          (eq-eqb first.select item.select (ap (λ (i : Item). i.select) same))
-          ∙ ap (λ (i : Item). Some i) same
-      | inr other ↦
-          let later : named items name ≡ Some item = sym (cond-false _ (Some first) (named items name) other) ∙ there in
-          cond-false (first.select == item.select) (Some first) (selected items item.select) (other_select items name first item distinct.1 later)
-          ∙ named_is_selected items name item distinct.3 later
-    ]
-
--- an item that a name finds holds its bytes
-pub file_holds : (items : List Item) (name : List ℕ) (item : Item) → IsItems items → named items name ≡ Some item
-    → contents items item.select ≡ item.bytes
-file_holds items name item lawful there =
-    let is_file = named_is_file items name item lawful.distinct there in
-    sym (contents-file items item.select (omega (arith, is_file)) (omega (arith, is_file)) (omega (arith, is_file)))
-    ∙ ap (λ (o : Option Item). option_map_or (λ (i : Item). i.bytes) o []) (named_is_selected items name item lawful.distinct there)
 
 -- its selector fits in a control word
 pub file_select_small : (items : List Item) (name : List ℕ) (item : Item) → IsItems items → named items name ≡ Some item → item.select < 65536
@@ -114,7 +68,7 @@ pub script_can : (items : List Item) (top : ℕ) (loader : Item) (select size pi
     → select ≡ loader.select → size ≡ length loader.bytes → buffer_size * piece < size
     → CanRead items top descriptor_at (piece_read select 0 size piece)
 script_can items top loader select size piece lawful there select_is size_is below =
-    let held : contents items select ≡ loader.bytes = ap (contents items) select_is ∙ file_holds items loader_name loader lawful there in
+    let held : contents items select ≡ loader.bytes = ap (contents items) select_is ∙ contents_named items loader_name loader lawful there in
     piece_can items top select 0 size piece (omega (arith, ap length held)) below
 
 -- an address of a placed file is beside the descriptor
@@ -141,5 +95,5 @@ pub file_can : (items : List Item) (top : ℕ) (name : List ℕ) (file : Item) (
     → p.size ≡ length file.bytes → 0 < p.size → IsRamRange top p.place p.size → IsZoned top p
     → CanRead items top descriptor_at (read_of file.select 0 p.size p.place)
 file_can items top name file p lawful there size some ram zoned =
-    read_can items top file.select 0 p.size p.place some (omega (arith, size, ap length (file_holds items name file lawful there))) ram
+    read_can items top file.select 0 p.size p.place some (omega (arith, size, ap length (contents_named items name file lawful there))) ram
     (beside_descriptor top p some zoned)

@@ -1,22 +1,26 @@
 -- The closing step, behind the last command.
-use Rattle.std.proofs.Common.{◌≡◌, ℕ, ◌+◌, ◌-◌, ◌<◌, ◌≤◌, ◌⊎◌, true, false, List, [], ◌∷◌, ◌++◌, length, replicate, Ok}
+use Rattle.std.proofs.Common.{◌≡◌, ℕ, ◌+◌, ◌-◌, ◌<◌, ◌≤◌, ◌⊎◌, true, false, List, [], ◌∷◌, ◌++◌, length, replicate, Result, Ok}
 use Rattle.std.proofs.Common.{inl, inr, arith, refl, ap, sym, subst, ◌∙◌}
 use Rattle.std.proofs.lemmas.Bool.Decides.{nat_tests}
-use Rattle.std.proofs.lemmas.List.{get_or-replicate, length-replicate}
+use Rattle.std.proofs.lemmas.List.{get_or-replicate, length-replicate, take_all}
+use Rattle.std.specs.Prelude.{IfOk}
 use Rattle.vt_bytes.specs.Memory.{Memory, IsMemory, IsRamRange, at, with_bytes}
 use Rattle.vt_bytes.proofs.Memories.{byte_with, others_with, lawful_with}
 use Rattle.cfg_directory.specs.declared.item.Item.{Item}
-use Rattle.loader_script.specs.Run.{Placed, Done}
+use Rattle.loader_script.specs.declared.entry.Entry.{Entry}
+use Rattle.loader_script.specs.Run.{Placed, Done, opening}
 use Rattle.cfg_directory.specs.Files.{files_of}
 use Rattle.command_acts.specs.FilesInMemory.{files_in, placed_ranges}
-use Rattle.command_acts.specs.Runs.{Answers, EndsWith}
+use Rattle.command_acts.specs.declared.fault.LoadFault.{LoadFault}
+use Rattle.command_acts.specs.Runs.{Answers, EndsWith, at_files}
 use Rattle.load_states.specs.declared.event.Event.{Event}
 use Rattle.load_states.specs.declared.event.Event.TheVariants.{Firmware}
 use Rattle.load_states.specs.declared.stage.Stage.TheVariants.{AtCommand}
 use Rattle.load_states.specs.Guarded.{descriptor_at, buffer_at, buffer_size, is_work}
-use Rattle.load_states.specs.LoadState.{LoadState, memory_of, files_now}
+use Rattle.load_states.specs.LoadState.{LoadState, memory_of, items_now, files_now, progress_of}
 use Rattle.load_states.specs.Steps.{cleared, closed}
 use Rattle.load_states.specs.Kept.{IsKept, StageKeeps, IsCleared}
+use Rattle.load_states.specs.Moves.{moves}
 use Rattle.load_states.proofs.Frames.{kept_from, files_same, left_firmware, beside_work, descriptor_ram, buffer_ram}
 use Rattle.load_states.proofs.Fronts.{all_done}
 use Rattle.load_states.proofs.CommandCauses.{ended_run}
@@ -78,21 +82,22 @@ pub closed_keeps : (May : Answers) (items : List Item) (top fill : ℕ) (events 
     → IsKept May items top fill (events ++ Firmware ∷ []) (closed w)
 closed_keeps May items top fill events w index kept keeps past =
     let m = memory_of w in
-    let ends = all_done May (files_of items) w.script index (placed_ranges w.placed) (files_now w) past keeps.3 in
+    let ends = all_done May (files_of items) w.script index (placed_ranges w.placed) (progress_of w) past keeps.3 in
     let same = files_cleared May items top fill events w kept in
     kept_from May items top fill events (events ++ Firmware ∷ []) w (closed w) kept
     (record {
-      items = refl;
       room = refl;
       device = kept.device;
       memory = lawful_with (with_bytes m descriptor_at (replicate 16 m.fill)) buffer_at (replicate buffer_size m.fill)
           (lawful_with m descriptor_at (replicate 16 m.fill) kept.memory);
       top = refl;
       fill = refl;
-    }) refl
+    }) refl refl
     (λ address ram other beside. cleared_other m address kept.memory other) (λ address. left_firmware top fill events address) (
       ended_run May items w.script Done (Ok tt) (closed w) keeps.2.idle keeps.0.script
-          (subst (λ (now : List Placed). EndsWith May (files_of items) 0 w.script [] Done now) (sym same) ends) refl,
-      keeps.2.finished,
+          (subst (λ (now : List Placed). EndsWith May 0 w.script (opening (files_of items) []) Done (at_files (files_of (items_now w)) now []))
+          (sym same) ends) refl,
+      subst (λ (r : Result (List Entry) LoadFault). IfOk r (λ script. w.attached.device.finished ≡ moves items script w.placed)) (sym keeps.0.script)
+          (keeps.2.finished ∙ ap (λ (commands : List Entry). moves items commands w.placed) (take_all index w.script past)),
       cleared_work m kept.memory,
     )

@@ -1,34 +1,32 @@
 -- An Allocate that is given a place.
 use Rattle.std.proofs.Common.{◌≡◌, ℕ, suc, false, ◌+◌, ◌<◌, ◌≤◌, List, [], ◌∷◌, ◌++◌, length, take, Option, Some, None}
-use Rattle.std.proofs.Common.{inl, arith, refl, ap, ap₂, sym, subst, ◌∙◌, length-append, map}
+use Rattle.std.proofs.Common.{inl, arith, refl, ap, ap₂, sym, subst, ◌∙◌, map}
 use Rattle.std.specs.List.{AllByRecursion, last_or}
 use Rattle.std.specs.Option.{option_map, option_map_or}
-use Rattle.std.specs.Str.{bytes_eq}
-use Rattle.std.proofs.lemmas.List.{length-map, map_push}
-use Rattle.std.proofs.lemmas.Option.{none-some}
+use Rattle.std.proofs.lemmas.List.{map_push}
+use Rattle.std.proofs.lemmas.Option.{slice_get_within, get_or_from_slice_get}
 use Rattle.vt_outside.specs.Placement.{Range, IsFree}
 use Rattle.vt_bytes.specs.Memory.{Memory, IsTop, at}
 use Rattle.cfg_directory.specs.declared.item.Item.{Item}
 use Rattle.cfg_directory.specs.declared.listed.Listed.{Listed}
 use Rattle.cfg_directory.specs.Items.{named}
 use Rattle.cfg_directory.specs.Listing.{listed_of}
+use Rattle.cfg_directory.specs.Shapes.{shape_of}
+use Rattle.cfg_directory.proofs.Shapes.{same_listed}
 use Rattle.loader_script.specs.declared.entry.Entry.TheVariants.{Allocate}
 use Rattle.loader_script.specs.Left.{range_of}
-use Rattle.vt_outside.specs.File.{File}
-use Rattle.loader_script.specs.Run.{Placed, file_of, infos_of, bytes_of, cause_of, Done as AllDone}
+use Rattle.loader_script.specs.Run.{Placed, infos_of, bytes_of, cause_of, Done as AllDone}
 use Rattle.loader_script.proofs.Conditions.{conditions_from}
 use Rattle.loader_script.specs.Conditions.{CanAllocate}
-use Rattle.loader_script.proofs.Named.{find-map}
 use Rattle.cfg_directory.specs.Files.{files_of}
 use Rattle.zone_alloc.specs.Zones.{zone_range, zone_numbered}
 use Rattle.cfg_dma.specs.Reads.{GoesOn, read_of, selected_read}
-use Rattle.cfg_dma.specs.declared.transfer.Finished.{Finished}
-use Rattle.cfg_dma.specs.Transfers.{Attached, room_of}
+use Rattle.cfg_dma.specs.Transfers.{Attached}
 use Rattle.command_acts.specs.declared.placed.PlacedFile.{PlacedFile}
 use Rattle.command_acts.specs.Allocators.{AreLawful}
-use Rattle.command_acts.specs.FilesInMemory.{placed_range, placed_ranges, files_in, IsBeside, IsOfSize}
+use Rattle.command_acts.specs.FilesInMemory.{placed_range, placed_ranges, files_in, IsBeside, IsOfSize, IsLoading}
 use Rattle.command_acts.specs.Placing.{places_in, count_places}
-use Rattle.command_acts.specs.Runs.{Answers, IsRun, at_files, request_of}
+use Rattle.command_acts.specs.Runs.{Answers, IsRun, at_files, request_of, with_file}
 use Rattle.command_acts.specs.Runs.{placed_at as plainly_placed}
 use Rattle.command_acts.proofs.Allocations.{ranges_in}
 use Rattle.command_acts.proofs.Goes.{allocate_goes, new_from_free, loading_pushed, count_pushed}
@@ -39,20 +37,21 @@ use Rattle.load_states.specs.declared.event.Event.TheVariants.{Firmware}
 use Rattle.load_states.specs.declared.reading.Reading.TheVariants as read
 use Rattle.load_states.specs.declared.stage.Stage.TheVariants.{Awaits}
 use Rattle.load_states.specs.Guarded.{is_work}
-use Rattle.load_states.specs.LoadState.{LoadState, memory_of, files_now, listed_named}
-use Rattle.load_states.specs.Moves.{directory_reads, script_reads, file_reads, moves, most_transfers}
+use Rattle.load_states.specs.LoadState.{LoadState, memory_of, items_now, files_now, progress_of, listed_named}
+use Rattle.load_states.specs.Moves.{most_transfers}
 use Rattle.load_states.specs.Steps.{Asking, asking, placed_at, to_its_place}
-use Rattle.load_states.specs.Kept.{IsKept, IsZoned, LoadRead}
+use Rattle.load_states.specs.Kept.{IsKept, IsZoned, LoadRead, moves_before}
 use Rattle.load_states.proofs.Frames.{files_same, left_firmware}
 use Rattle.load_states.proofs.CanReads.{file_can, file_select_small}
-use Rattle.load_states.proofs.Counting.{few_file_reads}
-use Rattle.load_states.proofs.NamedItems.{listing, listed_as_named, bytes_of_named}
+use Rattle.command_acts.proofs.ItemsWritten.{bytes_of_named}
+use Rattle.load_states.proofs.CommandMoves.{room_at}
+use Rattle.load_states.proofs.NamedItems.{listing, listed_as_named, item_there}
 use Rattle.load_states.proofs.StartEvents.{StartsOn, starts_on, started_by}
 use Rattle.load_states.proofs.Fronts.{one_more}
 use Rattle.load_states.proofs.CommandCauses.{IsBefore}
 use Rattle.load_states.proofs.CommandZones.{zoned_in}
 
--- A file that may be placed behind others: it is new to memory, lies in a guarded zone, and isn't empty; there are fewer than there are items.
+-- A file that may be placed behind others: it is new to memory, lies in a guarded zone, and isn't empty.
 pub record IsPlaceable (items : List Item) (top : ℕ) (placed : List PlacedFile) (file : Item) (p : PlacedFile) : Type 0 where
   pub there : named items p.name ≡ Some file
   pub size : p.size ≡ length file.bytes
@@ -61,45 +60,30 @@ pub record IsPlaceable (items : List Item) (top : ℕ) (placed : List PlacedFile
   pub of_size : IsOfSize (files_of items) p
   pub zoned : IsZoned top p
   pub count : length (placed ++ p ∷ []) ≡ count_places (places_in (placed ++ p ∷ []) (infos_of (files_of items)))
-  pub few : length placed < length items
 
 -- what holds of each element and of one more holds of each before
 all_before : {A : Type 0} (P : A → Type 0) (xs : List A) (x : A) → AllByRecursion P (xs ++ x ∷ []) → AllByRecursion P xs
 all_before P [] x all = tt
 all_before P (y ∷ ys) x all = (all.0, all_before P ys x all.1)
 
--- an item as a file
-abbrev as_file : Item → File
-as_file item = record { name = item.name; bytes = item.bytes; writable = item.writable }
-
--- an item that is a file is there where the file is
-from_file : (found : Option Item) (file : File) → option_map as_file found ≡ Some file → (item : Item) × (found ≡ Some item)
-from_file None file there = absurd (none-some file there)
-from_file (Some item) file there = (item, refl)
-
--- the item of a file that is there
-item_there : (items : List Item) (name : List ℕ) (file : File) → file_of (files_of items) name ≡ Some file
-    → (item : Item) × (named items name ≡ Some item)
-item_there items name file there =
-    from_file (named items name) file (sym (find-map as_file (λ (f : File). bytes_eq f.name name) items) ∙ there)
-
 -- the file of an Allocate that isn't refused, at the place that it is given, may be placed
 placeable : (May : Answers) (items : List Item) (top fill : ℕ) (events : List Event) (w : LoadState) (name : List ℕ) (align zone place : ℕ)
-    (item : Item) → AreLawful May top → IsKept May items top fill events w → named items name ≡ Some item
-    → cause_of (Allocate name align zone) (at_files (files_of items) (files_now w) []) ≡ None
-    → May (placed_ranges w.placed) (request_of (files_of items) name align zone) (Some place)
-    → IsPlaceable items top w.placed item (record { name = name; place = place; size = length item.bytes })
+    (item : Item) → AreLawful May top → IsKept May items top fill events w → named (items_now w) name ≡ Some item
+    → cause_of (Allocate name align zone) (progress_of w) ≡ None
+    → May (placed_ranges w.placed) (request_of (files_of (items_now w)) name align zone) (Some place)
+    → IsPlaceable (items_now w) top w.placed item (record { name = name; place = place; size = length item.bytes })
 placeable May items top fill events w name align zone place item lawful kept there none may =
     let size = length item.bytes in
-    let bytes : length (bytes_of (files_of items) name) ≡ size = ap (λ (bs : List ℕ). length bs) (bytes_of_named items name item there) in
-    let given = lawful (placed_ranges w.placed) (request_of (files_of items) name align zone) place may in
+    let files = files_of (items_now w) in
+    let bytes : length (bytes_of files name) ≡ size = ap (λ (bs : List ℕ). length bs) (bytes_of_named (items_now w) name item there) in
+    let given = lawful (placed_ranges w.placed) (request_of files name align zone) place may in
     let sized = subst (λ (n : ℕ). IsFree (zone_range top (zone_numbered zone)) (placed_ranges w.placed) n align place) bytes given in
     let free = subst (λ (handed : List Range). IsFree (zone_range top (zone_numbered zone)) handed size align place)
     (sym (ranges_in (memory_of w) w.placed)) sized in
     let its_top : IsTop top = subst IsTop kept.top kept.memory.top in
-    let fresh = new_from_free top (memory_of w) (files_of items) w.placed name align zone place size its_top kept.loading none free (sym bytes) in
-    let counted = count_pushed (memory_of w) (files_of items) w.placed name align zone place size none (distinct_infos items kept.lawful.distinct)
-    kept.count in
+    let fresh = new_from_free top (memory_of w) files w.placed name align zone place size its_top kept.loading none free (sym bytes) in
+    let counted = count_pushed (memory_of w) files w.placed name align zone place size none
+    (distinct_infos (items_now w) kept.device.items.distinct) kept.count in
     record {
       there = there;
       size = refl;
@@ -108,26 +92,12 @@ placeable May items top fill events w name align zone place item lawful kept the
       of_size = fresh.1;
       zoned = zoned_in top name place size its_top (zone_numbered zone) given.from sized.within;
       count = counted.0;
-      few = subst (λ (n : ℕ). length w.placed < n) (length-map items as_file) counted.1;
     }
 
--- what is behind two lists is short enough for a room that holds them and more
-room_behind : (first second third : List Finished) (count room : ℕ) → length third < count → length first + length second + count ≤ room
-    → length (first ++ second ++ third) < room
-room_behind first second third count room few most =
-    omega (arith, length-append (first ++ second) third, length-append first second)
-
--- there is room for one more read
-room_left : (items : List Item) (placed : List PlacedFile) (room : ℕ) → length placed < length items → most_transfers items ≤ room
-    → length (moves items placed) < room
-room_left items placed room few most =
-    let fewer : length (file_reads items placed) < length items = omega (arith, few_file_reads items placed) in
-    room_behind (directory_reads items) (script_reads items) (file_reads items placed) (length items) room fewer most
-
 -- the read of a file behind those that are placed
-abbrev file_read_of : List Item → List PlacedFile → Item → PlacedFile → LoadRead
-file_read_of items placed file p =
-    record { before = moves items placed; control = selected_read file.select; transfer = read_of file.select 0 p.size p.place }
+abbrev file_read_of : List Item → ℕ → LoadState → Item → PlacedFile → LoadRead
+file_read_of items index w file p =
+    record { before = moves_before items index w w.placed; control = selected_read file.select; transfer = read_of file.select 0 p.size p.place }
 
 -- The load that has started the read of a file, and placed it.
 abbrev placing : ℕ → PlacedFile → Attached → LoadState → LoadState
@@ -146,68 +116,82 @@ pushed_ranges items m placed file p there size =
 
 -- The Allocate is carried out with that file.
 placing_runs : (May : Answers) (items : List Item) (top fill : ℕ) (events : List Event) (w : LoadState) (index : ℕ) (align zone : ℕ) (file : Item)
-    (p : PlacedFile) (m : Memory) → named items p.name ≡ Some file → p.size ≡ length file.bytes → IsKept May items top fill events w
-    → IsBefore May items w index (Allocate p.name align zone)
-    → cause_of (Allocate p.name align zone) (at_files (files_of items) (files_now w) []) ≡ None
-    → May (placed_ranges w.placed) (request_of (files_of items) p.name align zone) (Some p.place)
+    (p : PlacedFile) (m : Memory) → named (items_now w) p.name ≡ Some file → p.size ≡ length file.bytes → IsKept May items top fill events w
+    → IsBefore May items w index (Allocate p.name align zone) → cause_of (Allocate p.name align zone) (progress_of w) ≡ None
+    → May (placed_ranges w.placed) (request_of (files_of (items_now w)) p.name align zone) (Some p.place)
     → ((address : ℕ) → is_work address ≡ false → at m address ≡ at (memory_of w) address)
     → IsRun May (files_of items) (take (suc index) w.script) (placed_ranges (w.placed ++ p ∷ [])) AllDone
-    (files_in m w.placed ++ plainly_placed (files_of items) p.name p.place ∷ [])
+    (with_file (at_files (files_of (items_now w)) (files_in m w.placed) []) p.name p.place)
 placing_runs May items top fill events w index align zone file p m there size kept before none may stays =
+    let files = files_of (items_now w) in
+    let entry = Allocate p.name align zone in
     let same : files_in m w.placed ≡ files_now w = files_same top (memory_of w) m w.placed kept.top kept.loading.apart kept.zoned
     (λ address ram guarded other. stays address other) in
-    let last = plainly_placed (files_of items) p.name p.place in
-    let given = subst (λ (handed : List Range). May handed (request_of (files_of items) p.name align zone) (Some p.place))
+    let given = subst (λ (handed : List Range). May handed (request_of files p.name align zone) (Some p.place))
     (sym (ranges_in (memory_of w) w.placed)) may in
     let handed = placed_ranges (w.placed ++ p ∷ []) in
-    subst (λ (now : List Placed). IsRun May (files_of items) (take (suc index) w.script) handed AllDone (now ++ last ∷ [])) (sym same)
-    (one_more May (files_of items) w.script index (Allocate p.name align zone) (placed_ranges w.placed) handed (files_now w)
-    (files_now w ++ last ∷ []) before.within before.entry_is before.run
-    (allocate_goes May (memory_of w) (files_of items) w.placed p.name align zone p.place none given)
-    (pushed_ranges items (memory_of w) w.placed file p there size))
+    subst (λ (now : List Placed). IsRun May (files_of items) (take (suc index) w.script) handed AllDone (with_file (at_files files now []) p.name p.place))
+    (sym same)
+    (one_more May (files_of items) w.script index entry (placed_ranges w.placed) handed (progress_of w) (with_file (progress_of w) p.name p.place)
+    (slice_get_within w.script index entry before.there) (sym (get_or_from_slice_get w.script index entry entry before.there)) before.run
+    (allocate_goes May (memory_of w) files w.placed p.name align zone p.place none given)
+    (pushed_ranges (items_now w) (memory_of w) w.placed file p there size))
 
 -- That load keeps what is kept.
 placing_keeps : (May : Answers) (items : List Item) (top fill : ℕ) (events : List Event) (w : LoadState) (index : ℕ) (align zone : ℕ) (file : Item)
     (p : PlacedFile) (a : Attached) → IsKept May items top fill events w → IsBefore May items w index (Allocate p.name align zone)
-    → cause_of (Allocate p.name align zone) (at_files (files_of items) (files_now w) []) ≡ None
-    → May (placed_ranges w.placed) (request_of (files_of items) p.name align zone) (Some p.place)
-    → IsPlaceable items top w.placed file p → StartsOn items (file_read_of items w.placed file p) w.attached a
+    → cause_of (Allocate p.name align zone) (progress_of w) ≡ None
+    → May (placed_ranges w.placed) (request_of (files_of (items_now w)) p.name align zone) (Some p.place)
+    → IsPlaceable (items_now w) top w.placed file p → StartsOn (file_read_of items index w file p) w.attached a
     → IsKept May items top fill (events ++ Firmware ∷ []) (placing index p a w)
 placing_keeps May items top fill events w index align zone file p a kept before none may can starts =
     let goes : GoesOn w.attached a = starts.1 in
+    let same : a.device.items ≡ items_now w = starts.2 in
+    let next = placing index p a w in
     record {
       lawful = kept.lawful;
       names = kept.names;
-      items = goes.items ∙ kept.items;
+      shape = ap (map shape_of) same ∙ kept.shape;
       device = goes.device;
       room = subst (λ (r : ℕ). most_transfers items ≤ r) (sym goes.room) kept.room;
       memory = goes.memory;
       top = goes.top ∙ kept.top;
       fill = goes.fill ∙ kept.fill;
-      loading = loading_pushed top (files_of items) w.placed p kept.loading can.new can.of_size;
+      loading = subst (λ (is : List Item). IsLoading top (files_of is) next.placed) (sym same)
+          (loading_pushed top (files_of (items_now w)) w.placed p kept.loading can.new can.of_size);
       zoned = all_push (IsZoned top) w.placed p kept.zoned can.zoned;
-      count = can.count;
+      count = subst (λ (is : List Item). length next.placed ≡ count_places (places_in next.placed (infos_of (files_of is)))) (sym same) can.count;
       others = λ address ram other beside.
-          starts.2 address other ∙ kept.others address ram other (all_before (IsBeside address) w.placed p beside)
+          starts.3 address other ∙ kept.others address ram other (all_before (IsBeside address) w.placed p beside)
           ∙ sym (left_firmware top fill events address);
       stage = (
         record {
           script = record { listed = before.script.listed; script = before.script.script };
-          within = before.within;
           before = w.placed;
           last = p;
+          align = align;
+          zone = zone;
+          command = before.there;
           file = file;
           placed_are = refl;
-          there = can.there;
+          there = subst (λ (is : List Item). named is p.name ≡ Some file) (sym same) can.there;
           size = can.size;
-          run = placing_runs May items top fill events w index align zone file p a.memory can.there can.size kept before none may starts.2;
+          run = subst
+              (λ (is : List Item). IsRun May (files_of items) (take (suc index) w.script) (placed_ranges next.placed) AllDone
+              (with_file (at_files (files_of is) (files_in a.memory w.placed) []) p.name p.place)) (sym same)
+              (placing_runs May items top fill events w index align zone file p a.memory can.there can.size kept before none may starts.3);
         },
         inl starts.0,
       );
     }
 
+-- the files that were listed are those of the items of now
+pub listed_as_now : (May : Answers) (items : List Item) (top fill : ℕ) (events : List Event) (w : LoadState) → IsKept May items top fill events w
+    → w.listed ≡ listed_of items → w.listed ≡ listed_of (items_now w)
+listed_as_now May items top fill events w kept are = are ∙ sym (same_listed items (items_now w) kept.shape)
+
 -- the listed file of a name that is there
-listed_there : (items : List Item) (listed : List Listed) (name : List ℕ) (item : Item) → listed ≡ listed_of items → named items name ≡ Some item
+pub listed_there : (items : List Item) (listed : List Listed) (name : List ℕ) (item : Item) → listed ≡ listed_of items → named items name ≡ Some item
     → listed_named listed name ≡ Some (listing item)
 listed_there items listed name item are there =
     ap (λ (ls : List Listed). listed_named ls name) are ∙ listed_as_named items name ∙ ap (option_map listing) there
@@ -241,22 +225,22 @@ placed_is index name place found w there =
 -- The read of the file of an Allocate is started, straight to the place that it is given.
 pub place_keeps : (May : Answers) (items : List Item) (top fill : ℕ) (events : List Event) (w : LoadState) (index : ℕ) (name : List ℕ)
     (align zone place : ℕ) → AreLawful May top → IsKept May items top fill events w → IsBefore May items w index (Allocate name align zone)
-    → cause_of (Allocate name align zone) (at_files (files_of items) (files_now w) []) ≡ None
-    → May (placed_ranges w.placed) (request_of (files_of items) name align zone) (Some place)
+    → cause_of (Allocate name align zone) (progress_of w) ≡ None
+    → May (placed_ranges w.placed) (request_of (files_of (items_now w)) name align zone) (Some place)
     → IsKept May items top fill (events ++ Firmware ∷ []) (placed_at index name place (listed_named w.listed name) w)
 place_keeps May items top fill events w index name align zone place lawful kept before none may =
-    let can : CanAllocate (at_files (files_of items) (files_now w) []) name align zone =
-    conditions_from (Allocate name align zone) (at_files (files_of items) (files_now w) []) none in
-    let found = item_there items name can.file can.there in
+    let can : CanAllocate (progress_of w) name align zone = conditions_from (Allocate name align zone) (progress_of w) none in
+    let found = item_there (items_now w) name can.file can.there in
     let item : Item = found.0 in
     let p : PlacedFile = record { name = name; place = place; size = length item.bytes } in
     let placed = placeable May items top fill events w name align zone place item lawful kept found.1 none may in
-    let r = file_read_of items w.placed item p in
-    let starts = starts_on items top r w.attached kept.items kept.top kept.device kept.memory before.idle.idle before.idle.finished
-    (room_left items w.placed (room_of w.attached.device) placed.few kept.room)
-    (file_can items top name item p kept.lawful found.1 refl placed.some placed.new.ram placed.zoned)
-    (inl (refl, file_select_small items name item kept.lawful found.1, refl)) in
-    let listed = listed_there items w.listed name item before.script.listed found.1 in
+    let r = file_read_of items index w item p in
+    let within = slice_get_within w.script index (Allocate name align zone) before.there in
+    let room = room_at items w.script index w.placed before.script.script within in
+    let starts = starts_on top r w.attached kept.top kept.device kept.memory before.idle.idle before.idle.finished (omega (arith, room, kept.room))
+    (file_can (items_now w) top name item p kept.device.items found.1 refl placed.some placed.new.ram placed.zoned)
+    (inl (refl, file_select_small (items_now w) name item kept.device.items found.1, refl)) in
+    let listed = listed_there (items_now w) w.listed name item (listed_as_now May items top fill events w kept before.script.listed) found.1 in
     let here : LoadState = record w { placed = w.placed ++ p ∷ [] } in
     subst (λ (o : Option Listed). IsKept May items top fill (events ++ Firmware ∷ []) (placed_at index name place o w)) (sym listed)
     (subst (λ (what : Asking). IsKept May items top fill (events ++ Firmware ∷ []) (asking (read.File index) what here))

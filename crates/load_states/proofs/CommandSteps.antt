@@ -1,10 +1,9 @@
 -- A step of the firmware at a command, or at the script's end, keeps what the load keeps.
 use Rattle.std.proofs.Common.{◌≡◌, ℕ, zero, suc, ◌≤◌, List, [], ◌∷◌, ◌++◌, length, slice_get, Option, Some, None}
-use Rattle.std.proofs.Common.{arith, refl, ap, sym, subst}
+use Rattle.std.proofs.Common.{arith, refl, sym}
 use Rattle.std.specs.Prelude.{MatchOption}
-use Rattle.std.specs.List.{AllByRecursion}
 use Rattle.std.specs.Option.{option_map_or}
-use Rattle.std.proofs.lemmas.Option.{same_Some, none-some, slice_get_within, get_or_from_slice_get}
+use Rattle.std.proofs.lemmas.Option.{none-some}
 use Rattle.cfg_directory.specs.declared.item.Item.{Item}
 use Rattle.loader_script.specs.declared.entry.Entry.{Entry}
 use Rattle.loader_script.specs.declared.entry.Entry.TheVariants.{Allocate, AddPointer, AddChecksum, WritePointer, Misnamed, Skipped}
@@ -15,13 +14,11 @@ use Rattle.cfg_directory.specs.Files.{files_of}
 use Rattle.zone_alloc.specs.declared.alloc.Request.{Request}
 use Rattle.command_acts.specs.Allocators.{AreLawful}
 use Rattle.command_acts.specs.FilesInMemory.{placed_ranges}
-use Rattle.command_acts.specs.Runs.{Answers, at_files, request_by}
-use Rattle.command_acts.specs.Steps.{WritesNothing}
-use Rattle.command_acts.proofs.Goes.{script_writes_nothing}
+use Rattle.command_acts.specs.Runs.{Answers, request_by}
 use Rattle.load_states.specs.declared.event.Event.{Event}
 use Rattle.load_states.specs.declared.event.Event.TheVariants.{Firmware}
 use Rattle.load_states.specs.declared.stage.Stage.TheVariants.{AtCommand}
-use Rattle.load_states.specs.LoadState.{LoadState, files_now}
+use Rattle.load_states.specs.LoadState.{LoadState, items_now, progress_of}
 use Rattle.load_states.specs.Runs.{request_at, request_for}
 use Rattle.load_states.specs.Steps.{firmware_step, at_command, commanded, carried_out}
 use Rattle.load_states.specs.Kept.{IsKept, StageKeeps}
@@ -29,6 +26,7 @@ use Rattle.load_states.proofs.CommandCauses.{IsBefore, refused_keeps, no_room_ke
 use Rattle.load_states.proofs.CommandCloses.{closed_keeps}
 use Rattle.load_states.proofs.CommandPatches.{skip_keeps, pointer_keeps, sum_keeps}
 use Rattle.load_states.proofs.CommandPlaces.{place_keeps}
+use Rattle.load_states.proofs.CommandPoints.{point_keeps}
 
 -- what is answered is an answer that an allocator may give, where one is asked
 abbrev MayBe : Answers → LoadState → Option Request → Option ℕ → Type 0
@@ -36,41 +34,34 @@ MayBe May w asked answer = MatchOption asked (Unit {0}) (λ request. May (placed
 
 -- a command that isn't refused is carried out
 carried_keeps : (May : Answers) (items : List Item) (top fill : ℕ) (events : List Event) (w : LoadState) (index : ℕ) (entry : Entry)
-    (answer : Option ℕ) → AreLawful May top → IsKept May items top fill events w → IsBefore May items w index entry → WritesNothing entry
-    → cause_of entry (at_files (files_of items) (files_now w) []) ≡ None → MayBe May w (request_by (files_of items) entry) answer
+    (answer : Option ℕ) → AreLawful May top → IsKept May items top fill events w → IsBefore May items w index entry
+    → cause_of entry (progress_of w) ≡ None → MayBe May w (request_by (files_of (items_now w)) entry) answer
     → IsKept May items top fill (events ++ Firmware ∷ []) (carried_out index entry answer w)
-carried_keeps May items top fill events w index (Allocate name align zone) None lawful kept before writes none may =
+carried_keeps May items top fill events w index (Allocate name align zone) None lawful kept before none may =
     no_room_keeps May items top fill events w index name align zone kept before none may
-carried_keeps May items top fill events w index (Allocate name align zone) (Some place) lawful kept before writes none may =
+carried_keeps May items top fill events w index (Allocate name align zone) (Some place) lawful kept before none may =
     place_keeps May items top fill events w index name align zone place lawful kept before none may
-carried_keeps May items top fill events w index (AddPointer dest src offset size) answer lawful kept before writes none may =
+carried_keeps May items top fill events w index (AddPointer dest src offset size) answer lawful kept before none may =
     pointer_keeps May items top fill events w index dest src offset size kept before none
-carried_keeps May items top fill events w index (AddChecksum name offset start count) answer lawful kept before writes none may =
+carried_keeps May items top fill events w index (AddChecksum name offset start count) answer lawful kept before none may =
     sum_keeps May items top fill events w index name offset start count kept before none
-carried_keeps May items top fill events w index (WritePointer dest src dst_offset src_offset size) answer lawful kept before writes none may =
-    absurd writes
-carried_keeps May items top fill events w index (Misnamed command) answer lawful kept before writes none may =
-    absurd (conditions_from (Misnamed command) (at_files (files_of items) (files_now w) []) none)
-carried_keeps May items top fill events w index (Skipped command) answer lawful kept before writes none may =
+carried_keeps May items top fill events w index (WritePointer dest src dst_offset src_offset size) answer lawful kept before none may =
+    point_keeps May items top fill events w index dest src dst_offset src_offset size kept before none
+carried_keeps May items top fill events w index (Misnamed command) answer lawful kept before none may =
+    absurd (conditions_from (Misnamed command) (progress_of w) none)
+carried_keeps May items top fill events w index (Skipped command) answer lawful kept before none may =
     skip_keeps May items top fill events w index command kept before
 
 -- a command is refused for its first cause, or carried out
 commanded_keeps : (May : Answers) (items : List Item) (top fill : ℕ) (events : List Event) (w : LoadState) (index : ℕ) (entry : Entry)
     (cause : Option Cause) (answer : Option ℕ) → AreLawful May top → IsKept May items top fill events w → IsBefore May items w index entry
-    → WritesNothing entry → cause_of entry (at_files (files_of items) (files_now w) []) ≡ cause
-    → MayBe May w (option_map_or (λ (cause : Cause). None) cause (request_by (files_of items) entry)) answer
+    → cause_of entry (progress_of w) ≡ cause
+    → MayBe May w (option_map_or (λ (cause : Cause). None) cause (request_by (files_of (items_now w)) entry)) answer
     → IsKept May items top fill (events ++ Firmware ∷ []) (commanded index entry cause answer w)
-commanded_keeps May items top fill events w index entry (Some cause) answer lawful kept before writes is may =
+commanded_keeps May items top fill events w index entry (Some cause) answer lawful kept before is may =
     refused_keeps May items top fill events w index entry cause kept before is
-commanded_keeps May items top fill events w index entry None answer lawful kept before writes is may =
-    carried_keeps May items top fill events w index entry answer lawful kept before writes is may
-
--- what holds of each element holds of the one at an index
-holds_there : (P : Entry → Type 0) (entries : List Entry) (index : ℕ) (entry : Entry) → AllByRecursion P entries
-    → slice_get entries index ≡ Some entry → P entry
-holds_there P [] index entry all is = absurd (none-some entry is)
-holds_there P (first ∷ entries) zero entry all is = subst P (same_Some first entry is) all.0
-holds_there P (first ∷ entries) (suc index) entry all is = holds_there P entries index entry all.1 is
+commanded_keeps May items top fill events w index entry None answer lawful kept before is may =
+    carried_keeps May items top fill events w index entry answer lawful kept before is may
 
 -- an index that has no element is past the end
 past_end : (entries : List Entry) (index : ℕ) → slice_get entries index ≡ None → length entries ≤ index
@@ -87,18 +78,8 @@ there_keeps May items top fill events w index None answer lawful kept keeps is m
     closed_keeps May items top fill events w index kept keeps (past_end w.script index is)
 there_keeps May items top fill events w index (Some entry) answer lawful kept keeps is may =
     let script = keeps.0 in
-    let cause = cause_of entry (at_files (files_of w.attached.device.items) (files_now w) []) in
-    let before : IsBefore May items w index entry = record {
-      script = script;
-      within = slice_get_within w.script index entry is;
-      entry_is = sym (get_or_from_slice_get w.script index entry entry is);
-      idle = keeps.2;
-      run = keeps.3;
-    } in
-    commanded_keeps May items top fill events w index entry cause answer lawful kept before
-    (holds_there WritesNothing w.script index entry (script_writes_nothing items w.script script.script).0 is)
-    (ap (λ (is : List Item). cause_of entry (at_files (files_of is) (files_now w) [])) (sym kept.items))
-    (subst (λ (is : List Item). MayBe May w (option_map_or (λ (cause : Cause). None) cause (request_by (files_of is) entry)) answer) kept.items may)
+    let before : IsBefore May items w index entry = record { script = script; there = is; idle = keeps.2; run = keeps.3 } in
+    commanded_keeps May items top fill events w index entry (cause_of entry (progress_of w)) answer lawful kept before refl may
 
 -- The firmware's step at a command keeps what the load keeps.
 pub command_keeps : (May : Answers) (items : List Item) (top fill : ℕ) (events : List Event) (w : LoadState) (index : ℕ) (answer : Option ℕ)

@@ -40,7 +40,7 @@ count_held items before a lawful over =
 
 -- The firmware takes it: it asks for the entries, or there is no script.
 pub count_taken : (May : Answers) (items : List Item) (top fill : ℕ) (events : List Event) (w : LoadState) → IsKept May items top fill events w
-    → HasNothing w → IsOver items [] descriptor_at count_read w.attached
+    → (has : HasNothing items w) → IsOver items [] descriptor_at count_read w.attached
     → IsKept May items top fill (events ++ Firmware ∷ []) (counted (be (buffered 4 w)) w)
 count_taken May items top fill events w kept has over =
     let after : Stage → LoadState = λ stage. record w { stage = stage } in
@@ -49,13 +49,14 @@ count_taken May items top fill events w kept has over =
     (Asks (read.Entries (64 * length items) 0))
     (λ none. kept_with May items top fill events w w.listed w.script (Refused NoScript) kept
     (ended_unread May items NoScript (after (Refused NoScript)) over.idle
-    (ap script_from (none_named items loader_name (eqb-true (length items) 0 none))) has.placed))
+    (ap script_from (none_named items loader_name (eqb-true (length items) 0 none))) has.placed has.begun))
     (λ some.
     let differs : length items ≢ 0 = eqb-false (length items) 0 some in
     kept_with May items top fill events w w.listed w.script (Asks (read.Entries (64 * length items) 0)) kept (
       omega arith,
       (
         record {
+          begun = has.begun;
           pieces = 0;
           taken_is = refl;
           size_is = refl;

@@ -1,13 +1,11 @@
 -- How many transfers a load makes.
-use Rattle.std.proofs.Common.{◌≡◌, ℕ, zero, suc, ◌*◌, ◌<◌, ◌≤◌, List, [], ◌∷◌, length, Option, Some, None, arith, refl, ap, ◌∙◌, length-append}
+use Rattle.std.proofs.Common.{◌≡◌, ℕ, zero, suc, ◌*◌, ◌<◌, List, [], ◌∷◌, length, Option, Some, arith, refl, ap, ◌∙◌, length-append}
 use Rattle.std.specs.Option.{option_map_or}
 use Rattle.cfg_directory.specs.declared.item.Item.{Item}
 use Rattle.cfg_directory.specs.Items.{named}
 use Rattle.loader_script.specs.LoaderName.{loader_name}
-use Rattle.cfg_dma.specs.Reads.{read_of}
-use Rattle.command_acts.specs.declared.placed.PlacedFile.{PlacedFile}
 use Rattle.load_states.specs.Guarded.{buffer_size}
-use Rattle.load_states.specs.Moves.{pieces_of, piece_read, first_reads, all_reads, directory_reads, script_reads, file_read, file_reads}
+use Rattle.load_states.specs.Moves.{pieces_of, piece_read, first_reads, all_reads, directory_reads, script_reads}
 use Rattle.load_states.specs.Moves.{most_transfers}
 use Rattle.load_states.specs.Kept.{with_entries, with_commands}
 
@@ -24,23 +22,6 @@ length-first_reads select start size (suc pieces) =
 -- a piece that begins before the end is one of all pieces
 pub piece_below : (size pieces : ℕ) → buffer_size * pieces < size → pieces < pieces_of size
 piece_below size pieces below = omega arith
-
--- a placed file has at most one read
-few_reads : (o : Option Item) (size place : ℕ)
-    → length (option_map_or (λ (item : Item). read_of item.select 0 size place ∷ []) o []) ≤ 1
-few_reads None size place = omega arith
-few_reads (Some item) size place = omega arith
-
--- there are no more reads of files than placed files
-pub few_file_reads : (items : List Item) (placed : List PlacedFile) → length (file_reads items placed) ≤ length placed
-few_file_reads items [] = omega arith
-few_file_reads items (p ∷ placed) =
-    omega (
-      arith,
-      length-append (file_read items p) (file_reads items placed),
-      few_reads (named items p.name) p.size p.place,
-      few_file_reads items placed,
-    )
 
 -- the reads of the script are as many as its pieces
 length-script_of : (o : Option Item) (loader : Item) → o ≡ Some loader

@@ -80,13 +80,14 @@ entries_are_taken May items top fill events w size taken kept has over =
     let finished = over.finished ∙ ap (λ (n : ℕ). count_read ∷ first_reads 0x19 4 size n) last
     ∙ ap (λ (n : ℕ). count_read ∷ all_reads 0x19 4 n) has.size_is in
     subst (λ (l : List Listed). Keeps l (stage_for (listed_named l loader_name))) (sym whole)
-    (directory_taken May items top fill events w kept over.idle finished has.script has.placed))
+    (directory_taken May items top fill events w kept over.idle finished has.script has.placed has.begun))
     (λ more.
     let another = another_piece size taken has.pieces has.taken_is has.some_left (eqb-false (taken + count) size more) in
     kept_with May items top fill events w now w.script (Asks (read.Entries size (taken + count))) kept (
       another.some_left,
       (
         record {
+          begun = has.begun;
           pieces = suc has.pieces;
           taken_is = another.taken_is;
           size_is = has.size_is;

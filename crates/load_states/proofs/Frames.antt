@@ -8,8 +8,10 @@ use Rattle.vt_outside.specs.Placement.{high_zone}
 use Rattle.vt_bytes.specs.Memory.{Memory, IsRam, at}
 use Rattle.vt_bytes.proofs.Bytes.{bytes_at-same}
 use Rattle.cfg_directory.specs.declared.item.Item.{Item}
+use Rattle.loader_script.specs.declared.refusing.FileInfo.{FileInfo}
 use Rattle.loader_script.specs.Run.{Placed, infos_of}
 use Rattle.cfg_directory.specs.Files.{files_of}
+use Rattle.cfg_directory.specs.Shapes.{HaveOneShape}
 use Rattle.cfg_dma.specs.Reads.{GoesOn}
 use Rattle.command_acts.specs.declared.placed.PlacedFile.{PlacedFile}
 use Rattle.command_acts.specs.FilesInMemory.{files_in, ArePlaced, IsBeside, IsLoading}
@@ -18,10 +20,11 @@ use Rattle.command_acts.specs.Runs.{Answers}
 use Rattle.load_states.specs.declared.event.Event.{Event}
 use Rattle.load_states.specs.declared.event.Event.TheVariants.{Device, Firmware, Other}
 use Rattle.load_states.specs.Guarded.{descriptor_at, buffer_at, is_work, is_guarded}
-use Rattle.load_states.specs.LoadState.{LoadState, memory_of}
+use Rattle.load_states.specs.LoadState.{LoadState, memory_of, items_now}
 use Rattle.load_states.specs.Moves.{most_transfers}
 use Rattle.load_states.specs.Runs.{left_by_others}
 use Rattle.load_states.specs.Kept.{IsKept, StageKeeps, IsZoned}
+use Rattle.load_states.proofs.Shaped.{same_infos, loading_shaped}
 
 -- ---- what the other processors left, after one more event
 
@@ -118,26 +121,29 @@ files_same top before after (p ∷ placed) its_top apart zoned same =
 
 -- ---- what is kept
 
--- A step keeps what the load keeps if it changes no byte but in the work range and in placed files, places no file, and what holds at
--- its new stage holds.
+-- A step keeps what the load keeps if it changes no byte but in the work range and in placed files, and of items their bytes at most, places no
+-- file, and what holds at its new stage holds.
 pub kept_from : (May : Answers) (items : List Item) (top fill : ℕ) (events later : List Event) (w next : LoadState)
-    → IsKept May items top fill events w → GoesOn w.attached next.attached → next.placed ≡ w.placed
+    → IsKept May items top fill events w → GoesOn w.attached next.attached → HaveOneShape (items_now w) (items_now next)
+    → next.placed ≡ w.placed
     → ((address : ℕ) → IsRam top address → is_work address ≡ false → AllByRecursion (IsBeside address) w.placed
     → at (memory_of next) address ≡ at (memory_of w) address)
     → ((address : ℕ) → left_by_others top fill later address ≡ left_by_others top fill events address)
     → StageKeeps May items next next.stage → IsKept May items top fill later next
-kept_from May items top fill events later w next kept goes placed same left stage = record {
+kept_from May items top fill events later w next kept goes shape placed same left stage = record {
   lawful = kept.lawful;
   names = kept.names;
-  items = goes.items ∙ kept.items;
+  shape = shape ∙ kept.shape;
   device = goes.device;
   room = subst (λ n. most_transfers items ≤ n) (sym goes.room) kept.room;
   memory = goes.memory;
   top = goes.top ∙ kept.top;
   fill = goes.fill ∙ kept.fill;
-  loading = subst (IsLoading top (files_of items)) (sym placed) kept.loading;
+  loading = subst (IsLoading top (files_of (items_now next))) (sym placed) (loading_shaped top (items_now w) (items_now next) w.placed shape kept.loading);
   zoned = subst (AllByRecursion (IsZoned top)) (sym placed) kept.zoned;
-  count = subst (λ (files : List PlacedFile). length files ≡ count_places (places_in files (infos_of (files_of items)))) (sym placed) kept.count;
+  count = subst (λ (files : List PlacedFile). length files ≡ count_places (places_in files (infos_of (files_of (items_now next))))) (sym placed)
+      (subst (λ (infos : List FileInfo). length w.placed ≡ count_places (places_in w.placed infos))
+      (sym (same_infos (items_now w) (items_now next) shape)) kept.count);
   others = λ address ram other beside.
       let before = subst (AllByRecursion (IsBeside address)) placed beside in
       same address ram other before ∙ kept.others address ram other before ∙ sym (left address);

@@ -5,7 +5,7 @@ use Rattle.vt_bytes.specs.Memory.{Memory, IsRam, at}
 use Rattle.vt_bytes.proofs.Bytes.{bytes_at-same}
 use Rattle.vt_bytes.proofs.Each.{each_front, each_back}
 use Rattle.cfg_directory.specs.declared.item.Item.{Item}
-use Rattle.cfg_directory.specs.Items.{IsItems}
+use Rattle.cfg_directory.specs.Items.{IsItems, named}
 use Rattle.cfg_directory.specs.Files.{files_of}
 use Rattle.loader_script.specs.LoaderName.{loader_name}
 use Rattle.loader_script.specs.Run.{Placed}
@@ -14,15 +14,15 @@ use Rattle.cfg_dma.specs.Transfers.{Attached}
 use Rattle.cfg_dma.specs.Reads.{CanRead, IsBesideRead, selected_read, next_read, read_of}
 use Rattle.command_acts.specs.declared.placed.PlacedFile.{PlacedFile}
 use Rattle.command_acts.specs.FilesInMemory.{files_in, AreApart, ArePlaced, IsBeside}
-use Rattle.command_acts.specs.Runs.{Answers, placed_at}
+use Rattle.command_acts.specs.Runs.{Answers, at_files, placed_at}
 use Rattle.load_states.specs.declared.event.Event.{Event}
 use Rattle.load_states.specs.declared.reading.Reading.{Reading}
 use Rattle.load_states.specs.declared.reading.Reading.TheVariants as read
 use Rattle.load_states.specs.declared.stage.Stage.{Stage}
 use Rattle.load_states.specs.Guarded.{descriptor_at, buffer_at, buffer_size, is_work, is_guarded}
-use Rattle.load_states.specs.LoadState.{LoadState, memory_of}
+use Rattle.load_states.specs.LoadState.{LoadState, memory_of, items_now}
 use Rattle.load_states.specs.Steps.{Asking, asked, asking_for, script_control}
-use Rattle.load_states.specs.Moves.{most_transfers}
+use Rattle.load_states.specs.Moves.{count_read, piece_read, most_transfers}
 use Rattle.load_states.specs.Kept.{IsKept, IsZoned, IsComing, HasCarriedOut, Knows, LoadRead, IsLeft, read_by}
 use Rattle.load_states.proofs.Frames.{files_same, beside_work, buffer_ram, buffer_is_work, work_is_guarded}
 use Rattle.load_states.proofs.Taken.{going_on, nothing_still, entries_still, commands_still, script_still}
@@ -78,56 +78,69 @@ pub record Still (May : Answers) (items : List Item) (next : LoadState) (reading
 -- The commands that were carried out were so with other answers, and over another memory.
 abbrev pub Carries : Answers → Answers → List Item → LoadState → Memory → Type 0
 Carries May More items w m = (count : ℕ) (before : List PlacedFile) (last : PlacedFile) (coming : Placed) → w.placed ≡ before ++ last ∷ []
-    → HasCarriedOut May items count (files_in (memory_of w) before ++ coming ∷ []) w
-    → HasCarriedOut More items count (files_in m before ++ coming ∷ []) w
+    → HasCarriedOut May items count (at_files (files_of (items_now w)) (files_in (memory_of w) before ++ coming ∷ []) []) w
+    → HasCarriedOut More items count (at_files (files_of (items_now w)) (files_in m before ++ coming ∷ []) []) w
 
 -- the file that comes is still to come
 abbrev coming_still : (May More : Answers) (items : List Item) (index : ℕ) (w : LoadState) (a : Attached) (s : Stage)
-    → Carries May More items w a.memory → IsComing May items index w → IsComing More items index (going_on w a s)
-coming_still May More items index w a s carries coming = record {
+    → a.device.items ≡ items_now w → Carries May More items w a.memory → IsComing May items index w → IsComing More items index (going_on w a s)
+coming_still May More items index w a s same carries coming = record {
   script = script_still items w a s coming.script;
-  within = coming.within;
   before = coming.before;
   last = coming.last;
+  align = coming.align;
+  zone = coming.zone;
+  command = coming.command;
   file = coming.file;
   placed_are = coming.placed_are;
-  there = coming.there;
+  there = ap (λ (is : List Item). named is coming.last.name) same ∙ coming.there;
   size = coming.size;
-  run = carries (suc index) coming.before coming.last (placed_at (files_of items) coming.last.name coming.last.place) coming.placed_are coming.run;
+  run = subst
+      (λ (is : List Item). HasCarriedOut More items (suc index)
+      (at_files (files_of is) (files_in a.memory coming.before ++ placed_at (files_of is) coming.last.name coming.last.place ∷ []) []) w)
+      (sym same)
+      (carries (suc index) coming.before coming.last (placed_at (files_of (items_now w)) coming.last.name coming.last.place) coming.placed_are
+      coming.run);
 }
 
 pub known_in : (May More : Answers) (items : List Item) (w : LoadState) (a : Attached) (s : Stage) (reading : Reading)
-    → Carries May More items w a.memory → (known : Knows May items w reading)
+    → a.device.items ≡ items_now w → Carries May More items w a.memory → (known : Knows May items w reading)
     → Still More items (going_on w a s) reading (read_by May items w reading known)
-known_in May More items w a s read.Count carries known = record { known = nothing_still w a s known; same = refl }
-known_in May More items w a s (read.Entries size taken) carries known = record { known = entries_still items size taken w a s known; same = refl }
-known_in May More items w a s (read.Commands select size taken) carries known =
-    record { known = commands_still items select size taken w a s known; same = refl }
-known_in May More items w a s (read.File index) carries known = record { known = coming_still May More items index w a s carries known; same = refl }
+known_in May More items w a s read.Count its carries known = record { known = nothing_still items w a s its known; same = refl }
+known_in May More items w a s (read.Entries size taken) its carries known =
+    record { known = entries_still items size taken w a s its known; same = refl }
+known_in May More items w a s (read.Commands select size taken) its carries known =
+    record { known = commands_still items select size taken w a s its known; same = refl }
+known_in May More items w a s (read.File index) its carries known =
+    record { known = coming_still May More items index w a s its carries known; same = refl }
 
-pub known_still : (May : Answers) (items : List Item) (w : LoadState) (a : Attached) (s : Stage) (reading : Reading) → FrontStays w a.memory
-    → (known : Knows May items w reading) → Still May items (going_on w a s) reading (read_by May items w reading known)
-known_still May items w a s reading stays known =
-    known_in May May items w a s reading (λ count before last coming are run.
-    subst (λ (files : List Placed). HasCarriedOut May items count (files ++ coming ∷ []) w) (sym (stays before last are)) run) known
+pub known_still : (May : Answers) (items : List Item) (w : LoadState) (a : Attached) (s : Stage) (reading : Reading) → a.device.items ≡ items_now w
+    → FrontStays w a.memory → (known : Knows May items w reading) → Still May items (going_on w a s) reading (read_by May items w reading known)
+known_still May items w a s reading its stays known =
+    known_in May May items w a s reading its (λ count before last coming are run.
+    subst (λ (files : List Placed). HasCarriedOut May items count (at_files (files_of (items_now w)) (files ++ coming ∷ []) []) w)
+    (sym (stays before last are)) run) known
 
 -- ---- the read
 
 -- it can be carried out, where it isn't empty
 pub can_read : (May : Answers) (items : List Item) (top fill : ℕ) (events : List Event) (w : LoadState) (reading : Reading)
     → IsKept May items top fill events w → (known : Knows May items w reading) → 0 < (read_by May items w reading known).transfer.length
-    → CanRead items top descriptor_at (read_by May items w reading known).transfer
-can_read May items top fill events w read.Count kept known some = count_can items top kept.names
+    → CanRead (items_now w) top descriptor_at (read_by May items w reading known).transfer
+can_read May items top fill events w read.Count kept known some =
+    subst (λ (is : List Item). CanRead is top descriptor_at count_read) (sym known.begun) (count_can items top kept.names)
 can_read May items top fill events w (read.Entries size taken) kept known some =
     let below : buffer_size * known.pieces < size = omega (arith, known.taken_is, known.some_left) in
     let within : 4 + size ≤ length (contents items 0x19) = omega (arith, known.size_is, directory_holds items kept.names) in
-    piece_can items top 0x19 4 size known.pieces within below
+    subst (λ (is : List Item). CanRead is top descriptor_at (piece_read 0x19 4 size known.pieces)) (sym known.begun)
+    (piece_can items top 0x19 4 size known.pieces within below)
 can_read May items top fill events w (read.Commands select size taken) kept known some =
     let below : buffer_size * known.pieces < size = omega (arith, known.taken_is, known.some_left) in
-    script_can items top known.loader select size known.pieces kept.lawful known.there known.select_is known.size_is below
+    subst (λ (is : List Item). CanRead is top descriptor_at (piece_read select 0 size known.pieces)) (sym known.begun)
+    (script_can items top known.loader select size known.pieces kept.lawful known.there known.select_is known.size_is below)
 can_read May items top fill events w (read.File index) kept known some =
     let last = known.last in
-    file_can items top last.name known.file last kept.lawful known.there known.size some
+    file_can (items_now w) top last.name known.file last kept.device.items known.there known.size some
     (are_before top w.placed known.before last known.placed_are kept.loading.apart).ram
     (of_last (IsZoned top) w.placed known.before last known.placed_are kept.zoned)
 
@@ -156,15 +169,16 @@ script_word select taken small =
     (λ first. (omega arith, omega arith)) (λ later. (omega arith, omega arith))
 
 -- so it is with each control word
-pub word_of : (May : Answers) (items : List Item) (w : LoadState) (reading : Reading) → IsItems items → (known : Knows May items w reading)
+pub word_of : (May : Answers) (items : List Item) (w : LoadState) (reading : Reading) → IsItems items → IsItems (items_now w)
+    → (known : Knows May items w reading)
     → (0 < (read_by May items w reading known).control) × ((read_by May items w reading known).control < 2 ^ 32)
-word_of May items w read.Count lawful known = (omega arith, omega arith)
-word_of May items w (read.Entries size taken) lawful known = (omega arith, omega arith)
-word_of May items w (read.Commands select size taken) lawful known =
+word_of May items w read.Count lawful now known = (omega arith, omega arith)
+word_of May items w (read.Entries size taken) lawful now known = (omega arith, omega arith)
+word_of May items w (read.Commands select size taken) lawful now known =
     let small = file_select_small items loader_name known.loader lawful known.there in
     script_word select taken (omega (arith, small, known.select_is))
-word_of May items w (read.File index) lawful known =
-    let small = file_select_small items known.last.name known.file lawful known.there in (omega arith, omega arith)
+word_of May items w (read.File index) lawful now known =
+    let small = file_select_small (items_now w) known.last.name known.file now known.there in (omega arith, omega arith)
 
 -- what the firmware asks for is that read
 abbrev pub asking_as : LoadRead → Asking

@@ -1,4 +1,8 @@
 pub mod Frames
+pub mod Shaped
+pub mod Pointing
+pub mod CommandMoves
+pub mod CommandPoints
 pub mod Opening
 pub mod OtherEvents
 pub mod Counting

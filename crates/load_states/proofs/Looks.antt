@@ -8,7 +8,7 @@ use Rattle.vt_bytes.specs.Memory.{bytes_at}
 use Rattle.cfg_directory.specs.declared.item.Item.{Item}
 use Rattle.cfg_directory.specs.declared.listed.Listed.{Listed}
 use Rattle.loader_script.specs.declared.entry.Entry.{Entry}
-use Rattle.loader_script.specs.Run.{End}
+use Rattle.loader_script.specs.Run.{End, opening}
 use Rattle.cfg_directory.specs.Files.{files_of}
 use Rattle.cfg_dma.specs.declared.transfer.Finished.{Finished}
 use Rattle.cfg_dma.specs.Transfers.{Attached}
@@ -20,7 +20,7 @@ use Rattle.command_acts.specs.Script.{script_in}
 use Rattle.load_states.specs.declared.event.Event.{Event}
 use Rattle.load_states.specs.declared.event.Event.TheVariants.{Firmware}
 use Rattle.load_states.specs.declared.stage.Stage.{Stage}
-use Rattle.load_states.specs.LoadState.{LoadState, files_now}
+use Rattle.load_states.specs.LoadState.{LoadState, items_now, progress_of}
 use Rattle.load_states.specs.Kept.{IsKept, StageKeeps, HasEnded}
 use Rattle.load_states.proofs.Frames.{kept_from, left_firmware}
 
@@ -50,7 +50,7 @@ pub kept_with : (May : Answers) (items : List Item) (top fill : ℕ) (events : L
 kept_with May items top fill events w listed script stage kept held =
     let next : LoadState = record w { listed = listed; script = script; stage = stage } in
     kept_from May items top fill events (events ++ Firmware ∷ []) w next kept
-    (record { items = refl; room = refl; device = kept.device; memory = kept.memory; top = refl; fill = refl }) refl
+    (record { room = refl; device = kept.device; memory = kept.memory; top = refl; fill = refl }) refl refl
     (λ address ram other beside. refl) (λ address. left_firmware top fill events address) held
 
 -- A step of a firmware that waits keeps it.
@@ -60,13 +60,14 @@ kept_waiting May items top fill events w kept = kept_with May items top fill eve
 
 -- a load without a script has ended, with nothing placed
 pub ended_unread : (May : Answers) (items : List Item) (why : LoadFault) (w : LoadState) → w.attached.device.flight ≡ None → script_in items ≡ Err why
-    → w.placed ≡ [] → HasEnded May items (Err why) w
-ended_unread May items why w idle is none =
+    → w.placed ≡ [] → items_now w ≡ items → HasEnded May items (Err why) w
+ended_unread May items why w idle is none begun =
     let answer : Result (Unit {0}) LoadFault = Err why in
     record {
       idle = idle;
-      unread = subst (λ (r : Result (List Entry) LoadFault). IfErr r (λ fault. (answer ≡ Err fault) × (w.placed ≡ []))) (sym is) (refl, none);
+      unread = subst (λ (r : Result (List Entry) LoadFault). IfErr r (λ fault. (answer ≡ Err fault) × (w.placed ≡ []) × (items_now w ≡ items))) (sym is)
+          (refl, none, begun);
       ran = subst
           (λ (r : Result (List Entry) LoadFault). IfOk r (λ script.
-          (end : End) × EndsWith May (files_of items) 0 script [] end (files_now w) × (answer ≡ result_of end))) (sym is) tt;
+          (end : End) × EndsWith May 0 script (opening (files_of items) []) end (progress_of w) × (answer ≡ result_of end))) (sym is) tt;
     }

@@ -1,9 +1,10 @@
 -- What a load keeps when it is begun.
-use Rattle.std.proofs.Common.{◌≡◌, ℕ, ◌≤◌, List, [], ◌∷◌, length, inl, arith, refl, ap, sym, subst, ◌∙◌}
+use Rattle.std.proofs.Common.{◌≡◌, ℕ, ◌≤◌, List, [], ◌∷◌, length, map, inl, arith, refl, ap, sym, subst, ◌∙◌}
 use Rattle.std.specs.List.{AllByRecursion}
 use Rattle.vt_bytes.specs.Memory.{IsRam}
 use Rattle.cfg_directory.specs.declared.item.Item.{Item}
 use Rattle.cfg_directory.specs.Items.{IsItems}
+use Rattle.cfg_directory.specs.Shapes.{shape_of}
 use Rattle.cfg_dma.specs.Device.{DeviceState, IsDevice}
 use Rattle.cfg_dma.specs.Transfers.{room_of}
 use Rattle.cfg_directory.specs.Files.{files_of}
@@ -13,7 +14,7 @@ use Rattle.command_acts.specs.declared.placed.PlacedFile.{PlacedFile}
 use Rattle.command_acts.specs.FilesInMemory.{IsLoading}
 use Rattle.command_acts.specs.Placing.{count_places, places_in}
 use Rattle.command_acts.specs.Runs.{Answers}
-use Rattle.load_states.specs.LoadState.{LoadState}
+use Rattle.load_states.specs.LoadState.{LoadState, items_now}
 use Rattle.load_states.specs.Kept.{IsKept, IsZoned, StageKeeps}
 use Rattle.load_states.specs.Loads.{IsBegun, begun_device}
 use Rattle.load_states.specs.Moves.{most_transfers}
@@ -34,16 +35,16 @@ begun_keeps May items top fill w begun =
     record {
       lawful = begun.lawful;
       names = begun.names;
-      items = ap (λ (d : DeviceState). d.items) begun.device;
+      shape = ap (λ (d : DeviceState). map shape_of d.items) begun.device;
       device = subst IsDevice (sym begun.device) (begun_lawful items begun.lawful);
       room = subst (λ (d : DeviceState). most_transfers items ≤ room_of d) (sym begun.device) (omega arith);
       memory = begun.memory;
       top = begun.top;
       fill = begun.fill;
-      loading = subst (IsLoading top (files_of items)) (sym none) (record { apart = tt; sizes = tt });
+      loading = subst (IsLoading top (files_of (items_now w))) (sym none) (record { apart = tt; sizes = tt });
       zoned = subst (AllByRecursion (IsZoned top)) (sym none) tt;
-      count = subst (λ (placed : List PlacedFile). length placed ≡ count_places (places_in placed (infos_of (files_of items)))) (sym none)
-          (nothing_placed (infos_of (files_of items)));
+      count = subst (λ (placed : List PlacedFile). length placed ≡ count_places (places_in placed (infos_of (files_of (items_now w))))) (sym none)
+          (nothing_placed (infos_of (files_of (items_now w))));
       others = λ address ram other beside. begun.blank address (subst (λ t. IsRam t address) (sym begun.top) ram) ∙ begun.fill;
       stage = subst (StageKeeps May items w) (sym begun.stage) (
         tt,

@@ -8,24 +8,28 @@ use Rattle.std.proofs.lemmas.Bool.{both_ways, eq-eqb, ne_eqb, not_from_true, or_
 use Rattle.vt_bytes.specs.Memory.{Memory, IsMemory, IsRam, IsRamRange, at, is_ram, with_bytes}
 use Rattle.vt_bytes.proofs.Memories.{byte_with, others_with, lawful_with}
 use Rattle.vt_bytes.proofs.Seen.{ram_tested}
+use Rattle.vt_bytes.specs.Numbers.{be}
+use Rattle.vt_bytes.proofs.Bytes.{bytes_at-same}
 use Rattle.cfg_directory.specs.declared.item.Item.{Item}
-use Rattle.loader_script.specs.Run.{Placed, End}
+use Rattle.loader_script.specs.Run.{Placed, End, opening}
 use Rattle.cfg_directory.specs.Files.{files_of}
 use Rattle.cfg_dma.proofs.Awaited.{awaited_same}
+use Rattle.cfg_dma.proofs.WriteAwaited.{write_awaited_same}
 use Rattle.command_acts.specs.declared.fault.LoadFault.{LoadFault}
 use Rattle.command_acts.specs.declared.placed.PlacedFile.{PlacedFile}
 use Rattle.command_acts.specs.FilesInMemory.{files_in, ArePlaced}
-use Rattle.command_acts.specs.Runs.{Answers, EndsWith, result_of}
+use Rattle.command_acts.specs.Runs.{Answers, EndsWith, at_files, result_of}
 use Rattle.command_acts.specs.Script.{script_in}
 use Rattle.load_states.specs.declared.event.Event.{Event}
 use Rattle.load_states.specs.declared.event.Event.TheVariants.{Other}
 use Rattle.load_states.specs.declared.stage.Stage.{Stage}
-use Rattle.load_states.specs.declared.stage.Stage.TheVariants.{Asks, Awaits, AtCommand, Done, Refused}
+use Rattle.load_states.specs.declared.stage.Stage.TheVariants.{Asks, Awaits, AtCommand, AwaitsSkip, AsksWrite, AwaitsWrite, Done, Refused}
 use Rattle.load_states.specs.Guarded.{descriptor_at, buffer_at, is_work, is_guarded, written_by_other}
-use Rattle.load_states.specs.LoadState.{LoadState, memory_of, with_memory}
+use Rattle.load_states.specs.LoadState.{LoadState, memory_of, with_memory, items_now}
 use Rattle.load_states.specs.Steps.{step}
-use Rattle.load_states.specs.Kept.{IsKept, StageKeeps, IsZoned, IsNext, IsAwaiting, IsCleared, HasCarriedOut, HasEnded, read_by}
-use Rattle.load_states.proofs.Frames.{left_other, descriptor_is_work, work_is_guarded, files_same}
+use Rattle.load_states.specs.Kept.{IsKept, StageKeeps, IsZoned, IsNext, IsAwaiting, IsCleared, HasCarriedOut, HasSkipped, HasEnded, read_by}
+use Rattle.load_states.proofs.Frames.{left_other, descriptor_is_work, buffer_is_work, work_is_guarded, files_same}
+use Rattle.load_states.proofs.Pointing.{pointing_still, pointer_fits}
 use Rattle.load_states.proofs.Looks.{by_test}
 use Rattle.load_states.proofs.Known.{FrontStays, known_still, front_outside, read_guarded}
 use Rattle.load_states.proofs.Taken.{script_still}
@@ -157,12 +161,31 @@ ended_same May items answer w m same ended = record {
   idle = ended.idle;
   unread = ended.unread;
   ran = subst (λ (files : List Placed). IfOk (script_in items) (λ script.
-      (end : End) × EndsWith May (files_of items) 0 script [] end files × (answer ≡ result_of end))) (sym same) ended.ran;
+      (end : End) × EndsWith May 0 script (opening (files_of items) []) end (at_files (files_of (items_now w)) files []) × (answer ≡ result_of end)))
+      (sym same) ended.ran;
 }
 
 -- the work range holds the fill byte still
 cleared_same : (top : ℕ) (before after : Memory) → after.fill ≡ before.fill → GuardedStay top before after → IsCleared before → IsCleared after
 cleared_same top before after fill stay cleared address is = work_stays top before after address stay is ∙ cleared address is ∙ sym fill
+
+-- a skip that is over is so still
+skipped_same : (May : Answers) (items : List Item) (top index : ℕ) (w : LoadState) (m : Memory) (stage : Stage) → ArePlaced top w.placed
+    → AllByRecursion (IsZoned top) w.placed → GuardedStay top (memory_of w) m → (memory_of w).top ≡ top → HasSkipped May items index w
+    → HasSkipped May items index (record (with_memory w m) { stage = stage })
+skipped_same May items top index w m stage apart zoned stay its_top skipped =
+    let over = skipped.1 in (
+      pointing_still May items (items_now w) index w (record w.attached { memory = m }) stage
+          (files_stay top (memory_of w) m w.placed its_top apart zoned stay) skipped.0,
+      record {
+        idle = over.idle;
+        control = ap be (bytes_at-same m (memory_of w) descriptor_at 4
+            (λ i few. work_stays top (memory_of w) m (descriptor_at + i) stay (descriptor_is_work i (omega arith)))) ∙ over.control;
+        selected = over.selected;
+        offset = over.offset;
+        finished = over.finished;
+      },
+    )
 
 -- What holds at a stage holds over a memory with the same bytes at the places that are guarded.
 stage_same : (May : Answers) (items : List Item) (top : ℕ) (w : LoadState) (m : Memory) (stage : Stage) → (memory_of w).top ≡ top
@@ -170,7 +193,7 @@ stage_same : (May : Answers) (items : List Item) (top : ℕ) (w : LoadState) (m 
     → StageKeeps May items w stage → StageKeeps May items (with_memory w m) stage
 stage_same May items top w m (Asks reading) its_top keeps_top apart zoned stay keeps =
     let next = keeps.1.1 in
-    let still = known_still May items w (record w.attached { memory = m }) w.stage reading (front_stays top w m its_top apart zoned stay) keeps.1.0 in (
+    let still = known_still May items w (record w.attached { memory = m }) w.stage reading refl (front_stays top w m its_top apart zoned stay) keeps.1.0 in (
       keeps.0,
       (
         still.known,
@@ -181,10 +204,10 @@ stage_same May items top w m (Asks reading) its_top keeps_top apart zoned stay k
 stage_same May items top w m (Awaits reading) its_top keeps_top apart zoned stay keeps =
     let known = keeps.0 in
     let r = read_by May items w reading known in
-    let still = known_still May items w (record w.attached { memory = m }) w.stage reading (front_stays top w m its_top apart zoned stay) known in (
+    let still = known_still May items w (record w.attached { memory = m }) w.stage reading refl (front_stays top w m its_top apart zoned stay) known in (
       still.known,
-      subst (IsAwaiting items (with_memory w m)) (sym still.same)
-          (awaited_same items r.before descriptor_at r.control r.transfer w.attached m keeps.1 keeps_top.top
+      subst (IsAwaiting (with_memory w m)) (sym still.same)
+          (awaited_same (items_now w) r.before descriptor_at r.control r.transfer w.attached m keeps.1 keeps_top.top
           (λ i within. work_stays top (memory_of w) m (descriptor_at + i) stay (descriptor_is_work i within))
           (λ i within.
           let there = read_guarded May items top w reading apart zoned known i within in stay (r.transfer.address + i) there.0 there.1)),
@@ -193,9 +216,23 @@ stage_same May items top w m (AtCommand index) its_top keeps_top apart zoned sta
   script_still items w (record w.attached { memory = m }) w.stage keeps.0,
   keeps.1,
   record { idle = keeps.2.idle; finished = keeps.2.finished },
-  subst (λ (files : List Placed). HasCarriedOut May items index files w)
+  subst (λ (files : List Placed). HasCarriedOut May items index (at_files (files_of (items_now w)) files []) w)
       (sym (files_stay top (memory_of w) m w.placed its_top apart zoned stay)) keeps.3,
 )
+stage_same May items top w m (AwaitsSkip index) its_top keeps_top apart zoned stay keeps =
+    skipped_same May items top index w m w.stage apart zoned stay its_top keeps
+stage_same May items top w m (AsksWrite index) its_top keeps_top apart zoned stay keeps =
+    skipped_same May items top index w m w.stage apart zoned stay its_top keeps
+stage_same May items top w m (AwaitsWrite index) its_top keeps_top apart zoned stay keeps =
+    let known = keeps.1 in
+    let fits = pointer_fits May items keeps.0 index w known in (
+      keeps.0,
+      pointing_still May items keeps.0 index w (record w.attached { memory = m }) w.stage
+          (files_stay top (memory_of w) m w.placed its_top apart zoned stay) known,
+      write_awaited_same keeps.0 _ _ descriptor_at _ w.attached m keeps.2
+          (λ i within. work_stays top (memory_of w) m (descriptor_at + i) stay (descriptor_is_work i within))
+          (λ i within. work_stays top (memory_of w) m (buffer_at + i) stay (buffer_is_work i (omega (arith, fits)))),
+    )
 stage_same May items top w m Done its_top keeps_top apart zoned stay keeps = (
   ended_same May items (Ok tt) w m (files_stay top (memory_of w) m w.placed its_top apart zoned stay) keeps.0,
   keeps.1,
@@ -217,7 +254,7 @@ other_keeps May items top fill events w address byte answer kept =
     record {
       lawful = kept.lawful;
       names = kept.names;
-      items = kept.items;
+      shape = kept.shape;
       device = kept.device;
       room = kept.room;
       memory = lawful.0;

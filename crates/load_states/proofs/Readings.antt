@@ -1,6 +1,5 @@
 -- What the firmware takes of each reading once its read is over: what the load keeps is kept, and how the load goes on from there.
-use Rattle.std.proofs.Common.{List, [], ◌∷◌, ◌++◌, ℕ, None, ◌≡◌, suc, ◌+◌, ◌-◌, ◌*◌, ◌/◌, ◌<◌, ◌≤◌, ◌==◌, not, if◌then◌else◌, length, Option, Some, Ok, Result, arith, refl, sym, ap, subst, ◌∙◌}
-use Rattle.std.specs.Prelude.{IfOk}
+use Rattle.std.proofs.Common.{List, [], ◌∷◌, ◌++◌, ℕ, None, ◌≡◌, suc, ◌+◌, ◌-◌, ◌*◌, ◌/◌, ◌<◌, ◌≤◌, ◌==◌, not, if◌then◌else◌, length, Option, Some, arith, refl, sym, ap, subst, ◌∙◌}
 use Rattle.std.specs.Option.{option_map_or}
 use Rattle.std.proofs.lemmas.Bool.{eqb-false}
 use Rattle.cfg_directory.specs.declared.item.Item.{Item}
@@ -10,25 +9,24 @@ use Rattle.load_states.specs.declared.event.Event.{Event}
 use Rattle.load_states.specs.declared.event.Event.TheVariants.{Firmware}
 use Rattle.load_states.specs.declared.reading.Reading.{Reading}
 use Rattle.load_states.specs.declared.reading.Reading.TheVariants as read
-use Rattle.load_states.specs.declared.stage.Stage.TheVariants.{Awaits, Asks, AtCommand, Done, Refused}
+use Rattle.load_states.specs.declared.stage.Stage.TheVariants.{Awaits, Asks, AtCommand, AwaitsSkip, AsksWrite, AwaitsWrite, Done, Refused}
 use Rattle.load_states.specs.Guarded.{descriptor_at, buffer_size}
-use Rattle.load_states.specs.LoadState.{LoadState, listed_named}
+use Rattle.load_states.specs.LoadState.{LoadState, items_now, listed_named}
 use Rattle.load_states.specs.Steps.{is_over, taken_of, firmware_step, asked, buffered, stage_for}
-use Rattle.load_states.specs.Kept.{IsKept, StageKeeps, Knows, LoadRead, read_by, HasEntries, HasCommands}
+use Rattle.load_states.specs.Kept.{IsKept, StageKeeps, Knows, LoadRead, read_by, HasEntries, HasCommands, with_entries, with_commands}
 use Rattle.vt_bytes.specs.Numbers.{be}
 use Rattle.cfg_directory.specs.declared.listed.Listed.{Listed}
 use Rattle.cfg_directory.specs.Items.{named}
 use Rattle.loader_script.specs.LoaderName.{loader_name}
-use Rattle.loader_script.specs.declared.entry.Entry.{Entry}
+use Rattle.std.proofs.lemmas.Option.{slice_get_within}
+use Rattle.loader_script.specs.declared.entry.Entry.TheVariants.{Allocate}
 use Rattle.loader_script.specs.Spelling.{is_script_length}
 use Rattle.cfg_directory.specs.Listing.{listed_in}
 use Rattle.command_acts.specs.declared.fault.LoadFault.{LoadFault}
 use Rattle.command_acts.specs.declared.fault.LoadFault.TheVariants.{NoScript, ScriptLength, Command, NoRoom}
-use Rattle.command_acts.specs.Script.{script_in, script_from}
-use Rattle.command_acts.proofs.Decoded.{length-entries}
 use Rattle.load_states.specs.declared.stage.Stage.{Stage}
-use Rattle.load_states.specs.Loads.{most_steps, script_size}
-use Rattle.load_states.specs.Moves.{pieces_of}
+use Rattle.load_states.specs.Loads.{most_steps}
+use Rattle.load_states.specs.Moves.{count_read, piece_read, pieces_of, script_size}
 use Rattle.load_states.proofs.Known.{word_of}
 use Rattle.load_states.proofs.Looks.{by_test, over_now, kept_waiting}
 use Rattle.load_states.proofs.CountRead.{count_taken}
@@ -36,22 +34,27 @@ use Rattle.load_states.proofs.EntriesRead.{entries_are_taken}
 use Rattle.load_states.proofs.ScriptRead.{commands_are_taken}
 use Rattle.load_states.proofs.FileRead.{file_is_there}
 use Rattle.load_states.proofs.Counting.{piece_below}
-use Rattle.load_states.proofs.PartsDecoded.{script_is}
+use Rattle.load_states.proofs.CommandMoves.{script_long}
 use Rattle.load_states.proofs.PieceSizes.{another_piece}
 
 -- a load's read is over
-abbrev pub IsReadOver : List Item → LoadRead → LoadState → Type 0
-IsReadOver items r w = IsOver items r.before descriptor_at r.transfer w.attached
+abbrev pub IsReadOver : LoadRead → LoadState → Type 0
+IsReadOver r w = IsOver (items_now w) r.before descriptor_at r.transfer w.attached
 
 -- what is taken of it
 taken_keeps : (May : Answers) (items : List Item) (top fill : ℕ) (events : List Event) (w : LoadState) (reading : Reading)
-    → IsKept May items top fill events w → (known : Knows May items w reading) → IsReadOver items (read_by May items w reading known) w
+    → IsKept May items top fill events w → (known : Knows May items w reading) → IsReadOver (read_by May items w reading known) w
     → IsKept May items top fill (events ++ Firmware ∷ []) (taken_of reading w)
-taken_keeps May items top fill events w read.Count kept known over = count_taken May items top fill events w kept known over
+taken_keeps May items top fill events w read.Count kept known over =
+    count_taken May items top fill events w kept known (subst (λ (is : List Item). IsOver is [] descriptor_at count_read w.attached) known.begun over)
 taken_keeps May items top fill events w (read.Entries size taken) kept known over =
-    entries_are_taken May items top fill events w size taken kept known over
+    entries_are_taken May items top fill events w size taken kept known
+    (subst (λ (is : List Item). IsOver is (with_entries size known.pieces) descriptor_at (piece_read 0x19 4 size known.pieces) w.attached) known.begun
+    over)
 taken_keeps May items top fill events w (read.Commands select size taken) kept known over =
-    commands_are_taken May items top fill events w select size taken kept known over
+    commands_are_taken May items top fill events w select size taken kept known
+    (subst (λ (is : List Item). IsOver is (with_commands items select size known.pieces) descriptor_at (piece_read select 0 size known.pieces) w.attached)
+    known.begun over)
 taken_keeps May items top fill events w (read.File index) kept known over = file_is_there May items top fill events w index kept known over
 
 -- The firmware takes it where it is over, and else waits.
@@ -61,10 +64,10 @@ pub awaits_keeps : (May : Answers) (items : List Item) (top fill : ℕ) (events 
 awaits_keeps May items top fill events w reading kept keeps =
     let known = keeps.0 in
     let r = read_by May items w reading known in
-    let word = word_of May items w reading kept.lawful known in
+    let word = word_of May items w reading kept.lawful kept.device.items known in
     by_test (IsKept May items top fill (events ++ Firmware ∷ [])) (is_over w) (taken_of reading w) w
     (λ zero. taken_keeps May items top fill events w reading kept known
-    (over_now items r.before descriptor_at r.control r.transfer w.attached word.0 word.1 keeps.1 zero))
+    (over_now (items_now w) r.before descriptor_at r.control r.transfer w.attached word.0 word.1 keeps.1 zero))
     (λ still. kept_waiting May items top fill events w kept)
 
 -- ---- the steps that are left
@@ -89,6 +92,9 @@ abbrev pub steps_left : List Item → Stage → ℕ
 steps_left items (Asks reading) = left_of_reading items reading
 steps_left items (Awaits reading) = left_of_reading items reading - 1
 steps_left items (AtCommand index) = left_from_command (script_size items) index
+steps_left items (AwaitsSkip index) = left_from_command (script_size items) index - 1
+steps_left items (AsksWrite index) = left_from_command (script_size items) index - 2
+steps_left items (AwaitsWrite index) = left_from_command (script_size items) index - 3
 steps_left items Done = 0
 steps_left items (Refused why) = 0
 
@@ -143,16 +149,6 @@ commands_go items select size taken w has =
     let next : (taken + asked (size - taken)) / buffer_size ≡ suc has.pieces = omega (arith, another.taken_is) in
     omega (arith, below, all, here, next))
 
--- a script has a command for each 128 bytes
-script_from_long : (found : Option Item) (script : List Entry) → script_from found ≡ Ok script
-    → length script ≡ option_map_or (λ (item : Item). length item.bytes) found 0 / 128
-script_from_long None script is = absurd (subst (λ (r : Result (List Entry) LoadFault). IfOk r (λ any. ⊥)) is tt)
-script_from_long (Some item) script is =
-    sym (ap length (script_is item.bytes script is).are) ∙ length-entries (length item.bytes / 128) item.bytes
-
-pub script_long : (items : List Item) (script : List Entry) → script_in items ≡ Ok script → length script ≡ script_size items / 128
-script_long items script is = script_from_long (named items loader_name) script is
-
 -- some steps are left where something is asked for
 pub some_left : (items : List Item) (reading : Reading) → Goes items (Asks reading) (Awaits reading)
 some_left items read.Count = omega arith
@@ -170,8 +166,7 @@ taken_goes May items w (read.Entries size taken) known =
 taken_goes May items w (read.Commands select size taken) known = commands_go items select size taken w known
 taken_goes May items w (read.File index) known =
     let long = script_long items w.script known.script.script in
-    let within = known.within in
-    omega (arith, long, within)
+    omega (arith, long, slice_get_within w.script index (Allocate known.last.name known.align known.zone) known.command)
 
 -- No reading has more of them left than the first.
 pub reading_most : (items : List Item) (reading : Reading) → left_of_reading items reading ≤ most_steps items
@@ -194,6 +189,9 @@ no_room_of (Refused why) = without_room why
 no_room_of (Asks reading) = None
 no_room_of (Awaits reading) = None
 no_room_of (AtCommand index) = None
+no_room_of (AwaitsSkip index) = None
+no_room_of (AsksWrite index) = None
+no_room_of (AwaitsWrite index) = None
 no_room_of Done = None
 
 -- a stage that isn't without room

@@ -122,9 +122,9 @@ commands_are_taken May items top fill events w select size taken kept has over =
       record {
         idle = over.idle;
         finished = finished ∙ ap (λ (n : ℕ). directory_reads items ++ first_reads select 0 size n) last
-            ∙ ap (λ (r : List Finished). directory_reads items ++ r) (sym its.reads) ∙ sym (moves_none items w.placed has.placed);
+            ∙ ap (λ (r : List Finished). directory_reads items ++ r) (sym its.reads) ∙ sym (moves_none items (after now (AtCommand 0)));
       },
-      nothing_carried_out May items (after now (AtCommand 0)) has.placed,
+      nothing_carried_out May items (after now (AtCommand 0)) has.begun has.placed,
     ))
     (λ more.
     let small = file_select_small items loader_name has.loader kept.lawful has.there in
@@ -133,6 +133,7 @@ commands_are_taken May items top fill events w select size taken kept has over =
       another.some_left,
       (
         record {
+          begun = has.begun;
           pieces = suc has.pieces;
           taken_is = another.taken_is;
           some_left = another.some_left;

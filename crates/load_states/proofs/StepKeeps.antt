@@ -9,11 +9,12 @@ use Rattle.command_acts.specs.Runs.{Answers}
 use Rattle.load_states.specs.declared.event.Event.{Event}
 use Rattle.load_states.specs.declared.event.Event.TheVariants.{Device, Firmware, Other}
 use Rattle.load_states.specs.declared.stage.Stage.{Stage}
-use Rattle.load_states.specs.declared.stage.Stage.TheVariants.{Asks, Awaits, AtCommand, Done, Refused}
+use Rattle.load_states.specs.declared.stage.Stage.TheVariants.{Asks, Awaits, AtCommand, AwaitsSkip, AsksWrite, AwaitsWrite, Done, Refused}
 use Rattle.load_states.specs.LoadState.{LoadState}
 use Rattle.load_states.specs.Steps.{firmware_step}
 use Rattle.load_states.specs.Runs.{StepsTo, request_at}
 use Rattle.load_states.specs.Kept.{IsKept, StageKeeps}
+use Rattle.load_states.proofs.CommandPoints.{skip_taken_keeps, write_asked_keeps, write_taken_keeps}
 use Rattle.load_states.proofs.CommandSteps.{command_keeps}
 use Rattle.load_states.proofs.DeviceEvents.{device_keeps}
 use Rattle.load_states.proofs.Looks.{kept_waiting}
@@ -50,6 +51,12 @@ firmware_keeps May items top fill events w next (Awaits reading) lawful kept kee
     subst (IsKept May items top fill (events ++ Firmware ∷ [])) (sym steps) (awaits_keeps May items top fill events w reading kept keeps)
 firmware_keeps May items top fill events w next (AtCommand index) lawful kept keeps steps =
     at_command_keeps May items top fill events w next index (request_at (AtCommand index) w) lawful kept keeps refl steps
+firmware_keeps May items top fill events w next (AwaitsSkip index) lawful kept keeps steps =
+    subst (IsKept May items top fill (events ++ Firmware ∷ [])) (sym steps) (skip_taken_keeps May items top fill events w index kept keeps)
+firmware_keeps May items top fill events w next (AsksWrite index) lawful kept keeps steps =
+    subst (IsKept May items top fill (events ++ Firmware ∷ [])) (sym steps) (write_asked_keeps May items top fill events w index kept keeps)
+firmware_keeps May items top fill events w next (AwaitsWrite index) lawful kept keeps steps =
+    subst (IsKept May items top fill (events ++ Firmware ∷ [])) (sym steps) (write_taken_keeps May items top fill events w index kept keeps)
 firmware_keeps May items top fill events w next Done lawful kept keeps steps =
     subst (IsKept May items top fill (events ++ Firmware ∷ [])) (sym steps) (kept_waiting May items top fill events w kept)
 firmware_keeps May items top fill events w next (Refused why) lawful kept keeps steps =

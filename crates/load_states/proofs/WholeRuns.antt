@@ -47,7 +47,7 @@ err_leads P Q (Err x) leads holds = leads x holds
 record Ended (May : Answers) (items : List Item) (answer : Result (Unit {0}) LoadFault) (w : LoadState) : Type 0 where
   ended : HasEnded May items answer w
   cleared : answer ≡ Ok tt → IsCleared (memory_of w)
-  transfers : answer ≡ Ok tt → w.attached.device.finished ≡ moves items w.placed
+  transfers : answer ≡ Ok tt → IfOk (script_in items) (λ script. w.attached.device.finished ≡ moves items script w.placed)
 
 not_ok : (why : LoadFault) → (let answer : Result (Unit {0}) LoadFault = Err why in answer ≡ Ok tt) → ⊥
 not_ok why is = subst (λ (r : Result (Unit {0}) LoadFault). IfOk r (λ done. ⊥)) is tt
@@ -65,7 +65,7 @@ pub loaded_over : (May : Answers) (items : List Item) (top fill : ℕ) (events :
 loaded_over May items top fill events closing handed answer w kept is placed =
     let at_end = stage_ended May items answer w (subst (StageKeeps May items w) is kept.stage) in
     record {
-      unread = err_leads _ _ (script_in items) (λ why so. (so.0, placed ∙ ap placed_ranges so.1)) at_end.ended.unread;
+      unread = err_leads _ _ (script_in items) (λ why so. (so.0, placed ∙ ap placed_ranges so.1, so.2)) at_end.ended.unread;
       ran = ok_leads _ _ (script_in items) (λ script so. (
         so.0,
         is_run May (files_of items) script handed so.0 _ so.1 (placed ∙ sym (ranges_in (memory_of w) w.placed)),
@@ -73,7 +73,7 @@ loaded_over May items top fill events closing handed answer w kept is placed =
       )) at_end.ended.ran;
       stage = is;
       placed = placed;
-      items = kept.items;
+      shape = kept.shape;
       idle = at_end.ended.idle;
       top = kept.top;
       fill = kept.fill;

@@ -3,7 +3,7 @@ use Rattle.std.specs.Prelude.{ℕ, Bool, not, ◌&&◌, ◌||◌, [], ◌∷◌,
 use Rattle.vt_outside.specs.Placement.{high_zone}
 use Rattle.vt_bytes.specs.Memory.{Memory, is_ram, with_bytes}
 
--- the work range of the firmware: 16 bytes for the descriptor of a transfer, and the 4,096 bytes of a buffer that it reads through
+-- the work range of the firmware: 16 bytes for the descriptor of a transfer, and the 4,096 bytes of a buffer that it reads and writes through
 abbrev pub descriptor_at : ℕ
 descriptor_at = 0x7000
 

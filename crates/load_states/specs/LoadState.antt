@@ -1,7 +1,8 @@
--- The state of a load: the firmware, the device that it reads files from, and the memory that both act on.
+-- The state of a load: the firmware, the device whose files it reads and writes, and the memory that both act on.
 use Rattle.std.specs.Prelude.{ℕ, List, [], find, Option}
 use Rattle.std.specs.Str.{bytes_eq}
 use Rattle.vt_bytes.specs.Memory.{Memory}
+use Rattle.cfg_directory.specs.declared.item.Item.{Item}
 use Rattle.cfg_directory.specs.declared.listed.Listed.{Listed}
 use Rattle.loader_script.specs.declared.entry.Entry.{Entry}
 use Rattle.loader_script.specs.Run.{Placed, Progress}
@@ -28,6 +29,10 @@ memory_of w = w.attached.memory
 abbrev pub with_memory : LoadState → Memory → LoadState
 with_memory w m = record w { attached = record w.attached { memory = m } }
 
+-- the items of its device, as they are now
+abbrev pub items_now : LoadState → List Item
+items_now w = w.attached.device.items
+
 -- the listed file of a name
 abbrev pub listed_named : List Listed → List ℕ → Option Listed
 listed_named listed name = find (λ (l : Listed). bytes_eq l.name name) listed
@@ -38,4 +43,4 @@ files_now w = files_in (memory_of w) w.placed
 
 -- how far the run of the script on plain lists is where files stand as they do now, but for the places that are still to be given
 abbrev pub progress_of : LoadState → Progress
-progress_of w = at_files (files_of w.attached.device.items) (files_now w) []
+progress_of w = at_files (files_of (items_now w)) (files_now w) []

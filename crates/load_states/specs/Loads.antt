@@ -1,17 +1,16 @@
 -- What a whole load leaves.
 use Rattle.std.specs.Prelude.{◌≡◌, ℕ, ◌+◌, ◌*◌, ◌/◌, List, [], length, None, Result, Ok, Err, IfOk, IfErr}
 use Rattle.std.specs.List.{AllByRecursion}
-use Rattle.std.specs.Option.{option_map_or}
 use Rattle.vt_outside.specs.Name.{IsName}
 use Rattle.vt_outside.specs.Placement.{Range}
 use Rattle.cfg_directory.specs.declared.item.Item.{Item}
 use Rattle.vt_bytes.specs.Memory.{Memory, IsMemory, IsRam, at}
-use Rattle.cfg_directory.specs.Items.{IsItems, named}
+use Rattle.cfg_directory.specs.Items.{IsItems}
+use Rattle.cfg_directory.specs.Shapes.{HaveOneShape}
 use Rattle.cfg_dma.specs.Device.{DeviceState}
 use Rattle.loader_script.specs.declared.entry.Entry.{Entry}
 use Rattle.loader_script.specs.Run.{End}
 use Rattle.cfg_directory.specs.Files.{files_of}
-use Rattle.loader_script.specs.LoaderName.{loader_name}
 use Rattle.command_acts.specs.declared.fault.LoadFault.{LoadFault}
 use Rattle.command_acts.specs.FilesInMemory.{placed_ranges}
 use Rattle.command_acts.specs.Runs.{Answers, IsRun, result_of}
@@ -21,8 +20,8 @@ use Rattle.load_states.specs.declared.stage.Stage.{Stage}
 use Rattle.load_states.specs.declared.reading.Reading.TheVariants.{Count}
 use Rattle.load_states.specs.declared.stage.Stage.TheVariants.{Asks, Done, Refused}
 use Rattle.load_states.specs.Kept.{HasNothing, IsCleared, IsLeftByOthers}
-use Rattle.load_states.specs.LoadState.{LoadState, memory_of, files_now}
-use Rattle.load_states.specs.Moves.{pieces_of, moves, most_transfers}
+use Rattle.load_states.specs.LoadState.{LoadState, memory_of, items_now, progress_of}
+use Rattle.load_states.specs.Moves.{pieces_of, moves, script_size, most_transfers}
 
 -- every RAM byte is the fill byte
 abbrev pub IsBlank : Memory → Type 0
@@ -55,7 +54,7 @@ pub record IsBegun (its_items : List Item) (its_top its_fill : ℕ) (w : LoadSta
   pub top : (memory_of w).top ≡ its_top
   pub fill : (memory_of w).fill ≡ its_fill
   pub blank : IsBlank (memory_of w)
-  pub nothing : HasNothing w
+  pub nothing : HasNothing its_items w
   pub stage : w.stage ≡ opening_stage
 
 -- how far the firmware is when a load has ended so
@@ -63,32 +62,31 @@ abbrev pub stage_after : Result (Unit {0}) LoadFault → Stage
 stage_after (Ok nothing) = Done
 stage_after (Err why) = Refused why
 
--- the run of a script on plain lists, with the ranges that were handed out, ends so, and its files stand in memory as it leaves them
+-- the run of a script on plain lists, with the ranges that were handed out, ends so; its files stand in the device and in memory as it
+-- leaves them
 abbrev pub HasRun : Answers → List Item → List Entry → List Range → Result (Unit {0}) LoadFault → LoadState → Type 0
 HasRun May items script handed answer w =
-    (end : End) × IsRun May (files_of items) script handed end (files_now w) × (answer ≡ result_of end)
+    (end : End) × IsRun May (files_of items) script handed end (progress_of w) × (answer ≡ result_of end)
 
--- A load is over, with this answer. Nothing was handed out where there was no script; else the script was run. The rest of memory is as the
--- other processors left it, over the events so far. Where the load is done the work range holds the fill byte, and each transfer is told.
+-- A load is over, with this answer. Nothing was handed out where there was no script, and no item changed; else the script was run, and of
+-- the items their bytes alone may have changed. The rest of memory is as the other processors left it, over the events so far. Where the load
+-- is done the work range holds the fill byte, and each transfer is told.
 pub record IsLoadedOver (May : Answers) (its_items : List Item) (its_top its_fill : ℕ) (events : List Event) (handed : List Range)
     (answer : Result (Unit {0}) LoadFault) (w : LoadState) : Type 0 where
-  pub unread : IfErr (script_in its_items) (λ why. (answer ≡ Err why) × (handed ≡ []))
+  pub unread : IfErr (script_in its_items) (λ why. (answer ≡ Err why) × (handed ≡ []) × (items_now w ≡ its_items))
   pub ran : IfOk (script_in its_items) (λ script. HasRun May its_items script handed answer w)
   pub stage : w.stage ≡ stage_after answer
   pub placed : handed ≡ placed_ranges w.placed
-  pub items : w.attached.device.items ≡ its_items
+  pub shape : HaveOneShape its_items (items_now w)
   pub idle : w.attached.device.flight ≡ None
   pub top : (memory_of w).top ≡ its_top
   pub fill : (memory_of w).fill ≡ its_fill
   pub others : IsLeftByOthers its_top its_fill events w
   pub cleared : answer ≡ Ok tt → IsCleared (memory_of w)
-  pub transfers : answer ≡ Ok tt → w.attached.device.finished ≡ moves its_items w.placed
+  pub transfers : answer ≡ Ok tt → IfOk (script_in its_items) (λ script. w.attached.device.finished ≡ moves its_items script w.placed)
 
 -- The most steps that a firmware takes for a load: two for the number of files, two for each piece of the entries and of the script, as many
 -- as four for each command, and the closing one.
-abbrev pub script_size : List Item → ℕ
-script_size items = option_map_or (λ (item : Item). length item.bytes) (named items loader_name) 0
-
 abbrev pub most_steps : List Item → ℕ
 most_steps items = 3 + 2 * pieces_of (64 * length items) + 2 * pieces_of (script_size items) + 4 * (script_size items / 128)
 

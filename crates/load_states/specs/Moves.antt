@@ -1,12 +1,14 @@
 -- The transfers of a load, in their order.
-use Rattle.std.specs.Prelude.{ℕ, zero, suc, ◌+◌, ◌-◌, ◌*◌, ◌/◌, List, [], ◌∷◌, ◌++◌, length}
-use Rattle.std.specs.List.{flat_map}
+use Rattle.std.specs.Prelude.{ℕ, zero, suc, ◌+◌, ◌-◌, ◌*◌, ◌/◌, List, [], ◌∷◌, ◌++◌, length, min}
 use Rattle.std.specs.Option.{option_map_or}
 use Rattle.cfg_directory.specs.declared.item.Item.{Item}
 use Rattle.cfg_directory.specs.Items.{named}
 use Rattle.loader_script.specs.LoaderName.{loader_name}
+use Rattle.loader_script.specs.declared.entry.Entry.{Entry}
+use Rattle.loader_script.specs.declared.entry.Entry.TheVariants.{Allocate, AddPointer, AddChecksum, WritePointer, Misnamed, Skipped}
 use Rattle.cfg_dma.specs.declared.transfer.Finished.{Finished}
 use Rattle.cfg_dma.specs.Reads.{read_of}
+use Rattle.cfg_dma.specs.Writes.{skip_of, write_of}
 use Rattle.command_acts.specs.declared.placed.PlacedFile.{PlacedFile}
 use Rattle.load_states.specs.Guarded.{buffer_at, buffer_size}
 use Rattle.load_states.specs.Steps.{asked}
@@ -42,13 +44,35 @@ script_reads items = option_map_or (λ (item : Item). all_reads item.select 0 (l
 abbrev pub file_read : List Item → PlacedFile → List Finished
 file_read items p = option_map_or (λ (item : Item). read_of item.select 0 p.size p.place ∷ []) (named items p.name) []
 
-abbrev pub file_reads : List Item → List PlacedFile → List Finished
-file_reads items placed = flat_map (file_read items) placed
+-- the skip and the write of a WritePointer
+abbrev pub pointer_moves : List Item → List ℕ → ℕ → ℕ → List Finished
+pointer_moves items dest offset size =
+    option_map_or (λ (item : Item). skip_of item.select offset ∷ write_of item.select offset size buffer_at ∷ []) (named items dest) []
 
--- the transfers of a load that has placed these files
-abbrev pub moves : List Item → List PlacedFile → List Finished
-moves items placed = directory_reads items ++ script_reads items ++ file_reads items placed
+-- the transfers of commands that were carried out, of which each Allocate has placed the next file
+abbrev pub command_moves : List Item → List Entry → List PlacedFile → List Finished
+command_moves items [] placed = []
+command_moves items (Allocate name align zone ∷ commands) [] = []
+command_moves items (Allocate name align zone ∷ commands) (p ∷ placed) = file_read items p ++ command_moves items commands placed
+command_moves items (WritePointer dest src dst_offset src_offset size ∷ commands) placed =
+    pointer_moves items dest dst_offset size ++ command_moves items commands placed
+command_moves items (AddPointer dest src offset size ∷ commands) placed = command_moves items commands placed
+command_moves items (AddChecksum name offset start count ∷ commands) placed = command_moves items commands placed
+command_moves items (Misnamed command ∷ commands) placed = command_moves items commands placed
+command_moves items (Skipped command ∷ commands) placed = command_moves items commands placed
 
--- The most transfers that a load of items makes: each file is placed once at most.
+-- the transfers of a load that has carried out these commands, and placed these files
+abbrev pub moves : List Item → List Entry → List PlacedFile → List Finished
+moves items commands placed = directory_reads items ++ script_reads items ++ command_moves items commands placed
+
+-- how many bytes the script has
+abbrev pub script_size : List Item → ℕ
+script_size items = option_map_or (λ (item : Item). length item.bytes) (named items loader_name) 0
+
+-- how many commands a script has at most
+abbrev pub most_commands : List Item → ℕ
+most_commands items = min (script_size items) 1048576 / 128
+
+-- The most transfers that a load of items makes: the reads of the directory and of the script, and two for each command.
 abbrev pub most_transfers : List Item → ℕ
-most_transfers items = length (directory_reads items) + length (script_reads items) + length items
+most_transfers items = length (directory_reads items) + length (script_reads items) + 2 * most_commands items

@@ -13,19 +13,22 @@ use Rattle.command_acts.specs.Runs.{Answers, request_by}
 use Rattle.load_states.specs.declared.event.Event.{Event}
 use Rattle.load_states.specs.declared.event.Event.TheVariants.{Device, Firmware, Other}
 use Rattle.load_states.specs.declared.stage.Stage.{Stage}
-use Rattle.load_states.specs.declared.stage.Stage.TheVariants.{Asks, Awaits, AtCommand, Done, Refused}
+use Rattle.load_states.specs.declared.stage.Stage.TheVariants.{Asks, Awaits, AtCommand, AwaitsSkip, AsksWrite, AwaitsWrite, Done, Refused}
 use Rattle.load_states.specs.Guarded.{is_guarded}
-use Rattle.load_states.specs.LoadState.{LoadState, progress_of}
+use Rattle.load_states.specs.LoadState.{LoadState, items_now, progress_of}
 use Rattle.load_states.specs.Steps.{step}
 
 -- what a command asks of an allocator, unless it is refused
 abbrev pub request_for : Entry → LoadState → Option Request
 request_for entry w =
-    option_map_or (λ (cause : Cause). None) (cause_of entry (progress_of w)) (request_by (files_of w.attached.device.items) entry)
+    option_map_or (λ (cause : Cause). None) (cause_of entry (progress_of w)) (request_by (files_of (items_now w)) entry)
 
 -- what a step of the firmware asks, and a step for an event
 abbrev pub request_at : Stage → LoadState → Option Request
 request_at (AtCommand index) w = option_map_or (λ entry. request_for entry w) (slice_get w.script index) None
+request_at (AwaitsSkip index) w = None
+request_at (AsksWrite index) w = None
+request_at (AwaitsWrite index) w = None
 request_at (Asks reading) w = None
 request_at (Awaits reading) w = None
 request_at Done w = None
@@ -57,6 +60,9 @@ has_ended (Refused why) = true
 has_ended (Asks reading) = false
 has_ended (Awaits reading) = false
 has_ended (AtCommand index) = false
+has_ended (AwaitsSkip index) = false
+has_ended (AsksWrite index) = false
+has_ended (AwaitsWrite index) = false
 
 -- The run over events that ends the load with the last of them: it hasn't ended before.
 abbrev pub EndsAfter : Answers → List Event → LoadState → LoadState → Type 0

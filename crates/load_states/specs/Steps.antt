@@ -2,7 +2,7 @@
 use Rattle.std.specs.Prelude.{ℕ, suc, ◌+◌, ◌-◌, ◌*◌, ◌/◌, ◌==◌, Bool, not, List, [], ◌∷◌, ◌++◌, min, replicate, slice_get, Option, Some, None, if◌then◌else◌}
 use Rattle.std.specs.List.{last_or}
 use Rattle.std.specs.Option.{option_map_or}
-use Rattle.vt_bytes.specs.Numbers.{be}
+use Rattle.vt_bytes.specs.Numbers.{be, le_bytes}
 use Rattle.vt_bytes.specs.Memory.{Memory, bytes_at, with_bytes}
 use Rattle.cfg_directory.specs.declared.listed.Listed.{Listed}
 use Rattle.cfg_directory.specs.Listing.{listed_in}
@@ -14,19 +14,20 @@ use Rattle.loader_script.specs.Run.{cause_of}
 use Rattle.loader_script.specs.Spelling.{entries_of, is_script_length}
 use Rattle.cfg_dma.specs.Events.{happens, Piece}
 use Rattle.cfg_dma.specs.Reads.{selected_read, next_read, started}
+use Rattle.cfg_dma.specs.Writes.{selected_skip, next_write}
 use Rattle.command_acts.specs.declared.fault.LoadFault.TheVariants as fault
-use Rattle.command_acts.specs.FilesInMemory.{pointed, summed}
+use Rattle.command_acts.specs.FilesInMemory.{place_of, pointed, summed}
 use Rattle.command_acts.specs.declared.placed.PlacedFile.{PlacedFile}
 use Rattle.load_states.specs.declared.event.Event.{Event}
 use Rattle.load_states.specs.declared.event.Event.TheVariants.{Device, Firmware, Other}
 use Rattle.load_states.specs.declared.stage.Stage.{Stage}
 use Rattle.load_states.specs.declared.reading.Reading.{Reading}
 use Rattle.load_states.specs.declared.reading.Reading.TheVariants as read
-use Rattle.load_states.specs.declared.stage.Stage.TheVariants.{Asks, Awaits, AtCommand, Done, Refused}
+use Rattle.load_states.specs.declared.stage.Stage.TheVariants.{Asks, Awaits, AtCommand, AwaitsSkip, AsksWrite, AwaitsWrite, Done, Refused}
 use Rattle.load_states.specs.Guarded.{descriptor_at, buffer_at, buffer_size, written_by_other}
 use Rattle.load_states.specs.LoadState.{LoadState, memory_of, with_memory, listed_named, progress_of}
 
--- a read is started, with its descriptor in the work range
+-- a transfer is started, with its descriptor in the work range
 abbrev pub starting : ℕ → ℕ → ℕ → LoadState → LoadState
 starting control size address w = record w { attached = started descriptor_at control size address w.attached }
 
@@ -120,8 +121,13 @@ placed_at index name place None w = passed index w
 placed_at index name place (Some file) w =
     asks (read.File index) (record w { placed = w.placed ++ record { name = name; place = place; size = file.size } ∷ [] })
 
--- What a command that isn't refused makes of the load, with the place that an allocator gave for an Allocate. No script that is read has a
--- WritePointer, and a misnamed command is refused before.
+-- The skip to where a WritePointer writes is asked for, in the file that it writes. (A file that isn't listed is refused before.)
+abbrev pub skips : ℕ → ℕ → Option Listed → LoadState → LoadState
+skips index offset None w = passed index w
+skips index offset (Some file) w = record (starting (selected_skip file.select) offset 0 w) { stage = AwaitsSkip index }
+
+-- What a command that isn't refused makes of the load, with the place that an allocator gave for an Allocate. A misnamed command is refused
+-- before.
 abbrev pub carried_out : ℕ → Entry → Option ℕ → LoadState → LoadState
 carried_out index (Allocate name align zone) None w = record w { stage = Refused (fault.NoRoom index) }
 carried_out index (Allocate name align zone) (Some place) w = placed_at index name place (listed_named w.listed name) w
@@ -129,7 +135,7 @@ carried_out index (AddPointer dest src offset size) answer w =
     passed index (with_memory w (pointed (memory_of w) w.placed dest src offset size))
 carried_out index (AddChecksum name offset start count) answer w =
     passed index (with_memory w (summed (memory_of w) w.placed name offset start count))
-carried_out index (WritePointer dest src dst_offset src_offset size) answer w = passed index w
+carried_out index (WritePointer dest src dst_offset src_offset size) answer w = skips index dst_offset (listed_named w.listed dest) w
 carried_out index (Misnamed command) answer w = passed index w
 carried_out index (Skipped command) answer w = passed index w
 
@@ -157,12 +163,31 @@ taken_of (read.Entries size taken) w = entries_taken size taken (asked (size - t
 taken_of (read.Commands select size taken) w = commands_taken select size taken (asked (size - taken)) w
 taken_of (read.File index) w = passed index w
 
+-- the number that a WritePointer writes: the place of a file and an offset in it, low byte first
+abbrev pub number_for : LoadState → List ℕ → ℕ → ℕ → List ℕ
+number_for w src src_offset size = le_bytes size (place_of w.placed src + src_offset)
+
+-- It is put into the buffer, and its write asked for. (None but a WritePointer comes here.)
+abbrev pub writes : ℕ → Option Entry → LoadState → LoadState
+writes index (Some (WritePointer dest src dst_offset src_offset size)) w =
+    let there = with_memory w (with_bytes (memory_of w) buffer_at (number_for w src src_offset size)) in
+    record (starting next_write size buffer_at there) { stage = AwaitsWrite index }
+writes index (Some (Allocate name align zone)) w = w
+writes index (Some (AddPointer dest src offset size)) w = w
+writes index (Some (AddChecksum name offset start count)) w = w
+writes index (Some (Misnamed command)) w = w
+writes index (Some (Skipped command)) w = w
+writes index None w = w
+
 -- One step of the firmware, from a stage, with the answer of an allocator where it asks for a place. It takes nothing of a transfer before it
 -- has seen it over.
 abbrev pub firmware_step : Stage → Option ℕ → LoadState → LoadState
 firmware_step (Asks reading) answer w = asks reading w
 firmware_step (Awaits reading) answer w = if is_over w then taken_of reading w else w
 firmware_step (AtCommand index) answer w = at_command index (slice_get w.script index) answer w
+firmware_step (AwaitsSkip index) answer w = if is_over w then record w { stage = AsksWrite index } else w
+firmware_step (AsksWrite index) answer w = writes index (slice_get w.script index) w
+firmware_step (AwaitsWrite index) answer w = if is_over w then passed index w else w
 firmware_step Done answer w = w
 firmware_step (Refused why) answer w = w
 

@@ -1,5 +1,5 @@
-//! The states of a load of a guest's tables: of its firmware, of the fw_cfg device that this reads files from, and of the memory that both
-//! and the guest's other processors act on.
+//! The states of a load of a guest's tables: of its firmware, of the fw_cfg device whose files this reads and writes, and of the memory
+//! that both and the guest's other processors act on.
 //!
 //! `Event` is one step of the firmware, the device or another processor, `Stage` is how far the firmware is, and `Reading` is what it reads
 //! by one transfer. The definitions stand in `specs/`: the places that the firmware works in (`Guarded`), the state of a load (`LoadState`),

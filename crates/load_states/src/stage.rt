@@ -10,6 +10,12 @@ pub enum Stage {
     Awaits(Reading),
     /// It comes to the command of an index, or to the script's end.
     AtCommand(u32),
+    /// It awaits the skip to where the WritePointer of an index writes, for which it asked in the step that came to the command.
+    AwaitsSkip(u32),
+    /// It asks for the write of the WritePointer of an index.
+    AsksWrite(u32),
+    /// It awaits that write.
+    AwaitsWrite(u32),
     /// It has carried out the whole script.
     Done,
     /// It has ended before the script did.

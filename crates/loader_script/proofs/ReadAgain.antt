@@ -1,5 +1,5 @@
 -- An entry is read again as it was written.
-use Rattle.std.proofs.Common.{◌≡◌, ℕ, inl, inr, false, List, eqb, length, refl, ap, ap₂, arith, sym, ◌∙◌}
+use Rattle.std.proofs.Common.{◌≡◌, ◌≢◌, ◌<◌, ℕ, inl, inr, false, List, eqb, length, refl, ap, ap₂, arith, sym, ◌∙◌}
 use Rattle.std.proofs.lemmas.Bool.{ne_eqb}
 use Rattle.std.specs.List.{AllByRecursion}
 use Rattle.vt_bytes.specs.View.{view_of}
@@ -14,7 +14,7 @@ use Rattle.vt_layout.proofs.Spelled.{spelled_shown}
 use Rattle.loader_script.specs.declared.entry.Entry.{Entry}
 use Rattle.loader_script.specs.declared.entry.Entry.TheVariants.{Allocate, AddPointer, AddChecksum, WritePointer, Misnamed, Skipped}
 use Rattle.loader_script.specs.Spelling.{command_rows, rows_of, entry_bytes, with_name, allocate_of, add_pointer_of, add_checksum_of, entry_of, Fits}
-use Rattle.loader_script.specs.Spelling.{IsReadAgain}
+use Rattle.loader_script.specs.Spelling.{write_pointer_of, CanBeWritten}
 
 -- the number of a command
 abbrev pub command_in : List ℕ → ℕ
@@ -36,10 +36,14 @@ pub entry_of-add_checksum : (bytes : List ℕ) → command_in bytes ≡ 3 → en
 unfolding entry_of
 entry_of-add_checksum bytes is = rw is
 
-pub entry_of-skipped : (bytes : List ℕ) (command : ℕ) → command_in bytes ≡ command → eqb command 1 ≡ false → eqb command 2 ≡ false
-    → eqb command 3 ≡ false → entry_of bytes ≡ Skipped command
+pub entry_of-write_pointer : (bytes : List ℕ) → command_in bytes ≡ 4 → entry_of bytes ≡ write_pointer_of bytes
 unfolding entry_of
-entry_of-skipped bytes command is one two three = rw (is, one, two, three)
+entry_of-write_pointer bytes is = rw is
+
+pub entry_of-skipped : (bytes : List ℕ) (command : ℕ) → command_in bytes ≡ command → eqb command 1 ≡ false → eqb command 2 ≡ false
+    → eqb command 3 ≡ false → eqb command 4 ≡ false → entry_of bytes ≡ Skipped command
+unfolding entry_of
+entry_of-skipped bytes command is one two three four = rw (is, one, two, three, four)
 
 -- no command has a hole, and each has 128 bytes
 no_hole : (entry : Entry) → AllByRecursion IsPlain (rows_of entry)
@@ -65,8 +69,8 @@ shown : (entry : Entry) → Fits entry → LayoutShown (view_of (entry_bytes ent
 shown entry fits = spelled_shown (rows_of entry) fits (no_hole entry)
 
 -- each entry that fits is read again
-pub entry-again : (entry : Entry) → Fits entry → IsReadAgain entry → entry_of (entry_bytes entry) ≡ entry
-entry-again (Allocate file align zone) fits again =
+pub entry-again : (entry : Entry) → Fits entry → CanBeWritten entry → entry_of (entry_bytes entry) ≡ entry
+entry-again (Allocate file align zone) fits can =
     let entry = Allocate file align zone in
     let bytes = entry_bytes entry in
     let rows = rows_of entry in
@@ -74,7 +78,7 @@ entry-again (Allocate file align zone) fits again =
     entry_of-allocate bytes (number_read bytes rows 0 4 are refl)
     ∙ ap (λ name. with_name 1 name (λ file. Allocate file (read_number 2 rows bytes) (read_number 3 rows bytes))) (name_read bytes rows 1 are tt)
     ∙ ap₂ (Allocate file) (number_read bytes rows 2 4 are refl) (number_read bytes rows 3 1 are refl)
-entry-again (AddPointer dest src offset size) fits again =
+entry-again (AddPointer dest src offset size) fits can =
     let entry = AddPointer dest src offset size in
     let bytes = entry_bytes entry in
     let rows = rows_of entry in
@@ -83,7 +87,7 @@ entry-again (AddPointer dest src offset size) fits again =
     ∙ ap₂ (λ first second. with_name 2 first (λ dest. with_name 2 second (λ src. AddPointer dest src (read_number 3 rows bytes) (read_number 4 rows bytes))))
     (name_read bytes rows 1 are tt) (name_read bytes rows 2 are tt)
     ∙ ap₂ (AddPointer dest src) (number_read bytes rows 3 4 are refl) (number_read bytes rows 4 1 are refl)
-entry-again (AddChecksum file offset start count) fits again =
+entry-again (AddChecksum file offset start count) fits can =
     let entry = AddChecksum file offset start count in
     let bytes = entry_bytes entry in
     let rows = rows_of entry in
@@ -93,12 +97,27 @@ entry-again (AddChecksum file offset start count) fits again =
     (name_read bytes rows 1 are tt)
     ∙ ap₂ (λ at from. AddChecksum file at from (read_number 4 rows bytes)) (number_read bytes rows 2 4 are refl) (number_read bytes rows 3 4 are refl)
     ∙ ap (AddChecksum file offset start) (number_read bytes rows 4 4 are refl)
-entry-again (WritePointer dest src dst_offset src_offset size) fits again = absurd again
-entry-again (Misnamed command) fits again = absurd again
-entry-again (Skipped command) fits again =
+entry-again (WritePointer dest src dst_offset src_offset size) fits can =
+    let entry = WritePointer dest src dst_offset src_offset size in
+    let bytes = entry_bytes entry in
+    let rows = rows_of entry in
+    let are = shown entry fits in
+    let at = read_number 3 rows bytes in
+    let from = read_number 4 rows bytes in
+    let width = read_number 5 rows bytes in
+    entry_of-write_pointer bytes (number_read bytes rows 0 4 are refl)
+    ∙ ap₂ (λ first second. with_name 4 first (λ dest. with_name 4 second (λ src. WritePointer dest src at from width)))
+    (name_read bytes rows 1 are tt) (name_read bytes rows 2 are tt)
+    ∙ ap₂ (λ m n. WritePointer dest src m n width) (number_read bytes rows 3 4 are refl) (number_read bytes rows 4 4 are refl)
+    ∙ ap (WritePointer dest src dst_offset src_offset) (number_read bytes rows 5 1 are refl)
+entry-again (Misnamed command) fits can = absurd can
+entry-again (Skipped command) fits can =
     let bytes = entry_bytes (Skipped command) in
     let is : command_in bytes ≡ command = number_read bytes (command_rows command) 0 4 (shown (Skipped command) fits) refl in
-    elim again as (λ _. entry_of bytes ≡ Skipped command) [
-      | inl none ↦ entry_of-skipped bytes command is (ne_eqb _ _ (λ same. omega arith)) (ne_eqb _ _ (λ same. omega arith)) (ne_eqb _ _ (λ same. omega arith))
-      | inr more ↦ entry_of-skipped bytes command is (ne_eqb _ _ (λ same. omega arith)) (ne_eqb _ _ (λ same. omega arith)) (ne_eqb _ _ (λ same. omega arith))
-    ]
+    let other : (n : ℕ) → n ≢ 0 → n < 5 → eqb command n ≡ false =
+    λ n some below. elim can as (λ _. eqb command n ≡ false) [
+      | inl none ↦ ne_eqb _ _ (λ same. omega arith)
+      | inr more ↦ ne_eqb _ _ (λ same. omega arith)
+    ] in
+    entry_of-skipped bytes command is (other 1 (omega arith) (omega arith)) (other 2 (omega arith) (omega arith)) (other 3 (omega arith) (omega arith))
+    (other 4 (omega arith) (omega arith))

@@ -5,7 +5,7 @@ use Rattle.std.specs.Simd.{first_chunks}
 use Rattle.std.proofs.lemmas.List.{take_at, drop_at}
 use Rattle.std.proofs.lemmas.List.Concat.{flat_map-cons}
 use Rattle.loader_script.specs.declared.entry.Entry.{Entry}
-use Rattle.loader_script.specs.Spelling.{entry_of, entries_of, entry_bytes, Fits, IsReadAgain}
+use Rattle.loader_script.specs.Spelling.{entry_of, entries_of, entry_bytes, Fits, CanBeWritten}
 use Rattle.loader_script.proofs.ReadAgain.{entry-again, length-entry_bytes}
 
 -- the entries of a script are those of its parts of 128 bytes
@@ -22,14 +22,14 @@ length-script (entry ∷ script) fits =
     omega (arith, length-append (entry_bytes entry) (flat_map entry_bytes script), length-entry_bytes entry fits.0, length-script script fits.1)
 
 -- and read again
-pub script-again : (script : List Entry) → AllByRecursion Fits script → AllByRecursion IsReadAgain script
+pub script-again : (script : List Entry) → AllByRecursion Fits script → AllByRecursion CanBeWritten script
     → entries_of (length script) (flat_map entry_bytes script) ≡ script
-script-again [] fits again = refl
-script-again (entry ∷ script) fits again =
+script-again [] fits can = refl
+script-again (entry ∷ script) fits can =
     let rest = flat_map entry_bytes script in
     let long : length (entry_bytes entry) ≡ 128 = length-entry_bytes entry fits.0 in
     let first : entry_of (take 128 (entry_bytes entry ++ rest)) ≡ entry = ap entry_of (take_at (entry_bytes entry) rest 128 long)
-    ∙ entry-again entry fits.0 again.0 in
+    ∙ entry-again entry fits.0 can.0 in
     let others : entries_of (length script) (drop 128 (entry_bytes entry ++ rest)) ≡ script =
-    ap (entries_of (length script)) (drop_at (entry_bytes entry) rest 128 long) ∙ script-again script fits.1 again.1 in
+    ap (entries_of (length script)) (drop_at (entry_bytes entry) rest 128 long) ∙ script-again script fits.1 can.1 in
     ap (entries_of (suc (length script))) (flat_map-cons entry_bytes entry script) ∙ ap₂ (λ (e : Entry) (es : List Entry). e ∷ es) first others

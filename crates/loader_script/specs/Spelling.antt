@@ -50,7 +50,7 @@ abbrev pub with_name : ℕ → Result (List ℕ) NameFault → (List ℕ → Ent
 with_name command (Ok name) entry = entry name
 with_name command (Err fault) entry = Misnamed command
 
--- The entries of the commands 1, 2 and 3, read at the rows of each.
+-- The entries of the commands 1 to 4, read at the rows of each.
 abbrev pub allocate_of : List ℕ → Entry
 allocate_of bytes =
     let rows = allocate_rows [] 0 0 in
@@ -68,13 +68,20 @@ add_checksum_of bytes =
     with_name 3 (read_name 1 rows bytes)
     (λ file. AddChecksum file (read_number 2 rows bytes) (read_number 3 rows bytes) (read_number 4 rows bytes))
 
--- The entry that 128 bytes are. A command of another number is skipped, WRITE_POINTER (4) too, which no load carries out.
+abbrev pub write_pointer_of : List ℕ → Entry
+write_pointer_of bytes =
+    let rows = write_pointer_rows [] [] 0 0 0 in
+    with_name 4 (read_name 1 rows bytes) (λ dest. with_name 4 (read_name 2 rows bytes)
+    (λ src. WritePointer dest src (read_number 3 rows bytes) (read_number 4 rows bytes) (read_number 5 rows bytes)))
+
+-- The entry that 128 bytes are. A command of another number is skipped.
 unfoldable pub entry_of : List ℕ → Entry
 entry_of bytes =
     let command = read_number 0 (command_rows 0) bytes in
     if command == 1 then allocate_of bytes
     else (if command == 2 then add_pointer_of bytes
-    else (if command == 3 then add_checksum_of bytes else Skipped command))
+    else (if command == 3 then add_checksum_of bytes
+    else (if command == 4 then write_pointer_of bytes else Skipped command)))
 
 -- the entries of a script of so many entries
 abbrev pub entries_of : ℕ → List ℕ → List Entry
@@ -88,17 +95,8 @@ is_script_length size = size % 128 == 0 && nat_le size 1048576
 -- an entry that can be written: its command says what it is, and its names are names
 abbrev pub CanBeWritten : Entry → Type 0
 CanBeWritten (Misnamed command) = ⊥
-CanBeWritten (Skipped command) = (command ≡ 0) ⊎ (4 ≤ command)
+CanBeWritten (Skipped command) = (command ≡ 0) ⊎ (5 ≤ command)
 CanBeWritten (Allocate file align zone) = Unit {0}
 CanBeWritten (AddPointer dest src offset size) = Unit {0}
 CanBeWritten (AddChecksum file offset start count) = Unit {0}
 CanBeWritten (WritePointer dest src dst_offset src_offset size) = Unit {0}
-
--- an entry that is read again as it was written
-abbrev pub IsReadAgain : Entry → Type 0
-IsReadAgain (WritePointer dest src dst_offset src_offset size) = ⊥
-IsReadAgain (Misnamed command) = ⊥
-IsReadAgain (Skipped command) = (command ≡ 0) ⊎ (4 ≤ command)
-IsReadAgain (Allocate file align zone) = Unit {0}
-IsReadAgain (AddPointer dest src offset size) = Unit {0}
-IsReadAgain (AddChecksum file offset start count) = Unit {0}

@@ -34,7 +34,7 @@ pub enum Entry {
         /// How many bytes the range has.
         length: u32,
     },
-    /// Writes the place of `src` plus an offset into the file `dest` of fw_cfg, as a little-endian number. `decode_entry` never gives it.
+    /// Writes the place of `src` plus an offset into the file `dest` of fw_cfg, as a little-endian number.
     WritePointer {
         /// The file of fw_cfg that is written.
         dest: Name,

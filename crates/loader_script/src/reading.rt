@@ -1,9 +1,12 @@
 ghost use Rattle.std.specs.Prelude.{◌≡◌, ◌/◌, ◌↔◌, false, length, Err, IfOk};
 ghost use Rattle.loader_script.specs.Spelling.{entry_of, entries_of, is_script_length, allocate_of, add_pointer_of, add_checksum_of};
+ghost use Rattle.loader_script.specs.Spelling.{write_pointer_of};
 ghost use Rattle.loader_script.specs.declared.reading.ScriptFault.TheVariants.{OutOfMemory as NoMemory};
 
 use crate::entry::Entry;
-use crate::rows::{add_checksum_rows, add_pointer_rows, allocate_rows, command_rows};
+use crate::rows::{
+    add_checksum_rows, add_pointer_rows, allocate_rows, command_rows, write_pointer_rows,
+};
 use std::alloc::Global;
 use vt_layout::{blank_name, read_name, read_u8, read_u32};
 use vt_outside::{List, OutOfMemory};
@@ -31,9 +34,9 @@ impl From<OutOfMemory> for ScriptFault {
     }
 }
 
-/// Decodes `bytes` as one entry. It takes no memory and never fails. Commands 1, 2 and 3 give `Allocate`, `AddPointer` and
-/// `AddChecksum`, or `Misnamed` where the field of a name holds no file name. Every other command gives `Skipped`,
-/// WRITE_POINTER (4) among them. Only names are checked here: `refusal` checks the rest.
+/// Decodes `bytes` as one entry. It takes no memory and never fails. Commands 1 to 4 give `Allocate`, `AddPointer`,
+/// `AddChecksum` and `WritePointer`, or `Misnamed` where the field of a name holds no file name. Every other command gives
+/// `Skipped`. Only names are checked here: `refusal` checks the rest.
 pub fn decode_entry(bytes: &[u8; 128]) -> Entry
     ensures { result ≡ entry_of bytes.now }
 {
@@ -41,6 +44,7 @@ pub fn decode_entry(bytes: &[u8; 128]) -> Entry
         1 => allocate(bytes),
         2 => add_pointer(bytes),
         3 => add_checksum(bytes),
+        4 => write_pointer(bytes),
         command => Entry::Skipped(command),
     }
 }
@@ -108,5 +112,25 @@ fn add_checksum(bytes: &[u8; 128]) -> Entry
         offset: read_u32(bytes, &rows, 2),
         start: read_u32(bytes, &rows, 3),
         length: read_u32(bytes, &rows, 4),
+    }
+}
+
+fn write_pointer(bytes: &[u8; 128]) -> Entry
+    ensures { result ≡ write_pointer_of bytes.now }
+{
+    let blank = blank_name();
+    let rows = write_pointer_rows(&blank, &blank, 0, 0, 0);
+    let Ok(dest) = read_name(bytes, &rows, 1) else {
+        return Entry::Misnamed(4);
+    };
+    let Ok(src) = read_name(bytes, &rows, 2) else {
+        return Entry::Misnamed(4);
+    };
+    Entry::WritePointer {
+        dest,
+        src,
+        dst_offset: read_u32(bytes, &rows, 3),
+        src_offset: read_u32(bytes, &rows, 4),
+        size: read_u8(bytes, &rows, 5),
     }
 }

@@ -12,7 +12,7 @@ use vt_layout::{Row, put_rows, size_of};
 use vt_outside::{Bytes, OutOfMemory};
 
 /// Encodes `script` as 128 bytes for each entry, in memory from `alloc`. `script` must hold no `Misnamed`, and the number of
-/// each `Skipped` must be 0 or at least 4. It fails with `OutOfMemory` only where memory runs out.
+/// each `Skipped` must be 0 or at least 5. It fails with `OutOfMemory` only where memory runs out.
 pub fn encode_script(alloc: Global, script: &[Entry]) -> Result<Bytes, OutOfMemory>
     requires { AllByRecursion CanBeWritten script.now }
     ensures spelled { IfOk result (λ bytes. bytes ≡ flat_map entry_bytes script.now) }

@@ -52,7 +52,8 @@ pub(crate) fn items_end(
 pub(crate) fn end_of<'a>(case: &Case<'a>) -> End<'a> {
     End {
         answer: case.answer,
-        reads: &[],
+        transfers: &[],
+        contents: &[],
         left: case.left,
         changed: Some(bytes_changed(case.left)),
     }

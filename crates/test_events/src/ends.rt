@@ -36,6 +36,7 @@ fn ends_unread(
 ) -> Result<(), Fail> {
     let last = File {
         name,
+        writable: false,
         bytes: &[0; 100][..count.min(100)],
     };
     let items = items_with(alloc, &SMALL_FILES, 0, &[last])?;
@@ -145,7 +146,8 @@ fn ends_so(
 ) -> Result<(), Fail> {
     let end = End {
         answer,
-        reads: first_reads(count),
+        transfers: first_reads(count),
+        contents: &[],
         left,
         changed: Some(bytes_changed(left)),
     };

@@ -9,10 +9,11 @@ use vt_outside::{Bytes, Name, OutOfMemory};
 /// The name of a script's file.
 pub(crate) const LOADER: &str = "etc/table-loader";
 
-/// A file of a container: its name and its bytes.
+/// A file of a container: its name, whether the guest may write it, and its bytes.
 #[derive(Clone, Copy)]
 pub(crate) struct File<'a> {
     pub(crate) name: &'a str,
+    pub(crate) writable: bool,
     pub(crate) bytes: &'a [u8],
 }
 
@@ -21,14 +22,17 @@ pub(crate) struct File<'a> {
 pub(crate) static SMALL_FILES: [File<'static>; 3] = [
     File {
         name: "etc/anchor",
+        writable: false,
         bytes: b"\x41\x42\x05\0\0\0\x77\x88\0",
     },
     File {
         name: "etc/tables",
+        writable: false,
         bytes: b"\xc1\xc2\xc3\xc4\xc5",
     },
     File {
         name: "etc/spare",
+        writable: false,
         bytes: b"\x99",
     },
 ];
@@ -38,23 +42,47 @@ pub(crate) static SMALL_FILES: [File<'static>; 3] = [
 pub(crate) static FILES: [File<'static>; 5] = [
     File {
         name: "etc/holder",
+        writable: false,
         bytes: b"\x11\x22\x08\0\0\0\x33\x44\x55",
     },
     File {
         name: "etc/target",
+        writable: false,
         bytes: b"\xa1\xa2\xa3",
     },
     File {
         name: "etc/edge",
+        writable: false,
         bytes: b"\xff\xff\xff\xfc\0\0\0\xfd",
     },
     File {
         name: "etc/ones",
+        writable: false,
         bytes: b"\xff\xff\xff\xff\xff\xff\xff\xff",
     },
     File {
         name: "etc/empty",
+        writable: false,
         bytes: b"",
+    },
+];
+
+/// The files of loads that write: one that the guest may write, one whose place is written, and another that it may write.
+pub(crate) static WRITTEN_FILES: [File<'static>; 3] = [
+    File {
+        name: "etc/cell",
+        writable: true,
+        bytes: b"\x10\x11\x12\x13\x14\x15\x16\x17\x18\x19\x1a\x1b",
+    },
+    File {
+        name: "etc/goal",
+        writable: false,
+        bytes: b"\xe1\xe2\xe3\xe4\xe5",
+    },
+    File {
+        name: "etc/word",
+        writable: true,
+        bytes: b"\x71\x72\x73\x74\x75\x76\x77\x78",
     },
 ];
 
@@ -68,6 +96,7 @@ pub(crate) fn items_of(
     let script = script_of(alloc, lines)?;
     let loader = File {
         name: LOADER,
+        writable: false,
         bytes: script.as_slice(),
     };
     items_with(alloc, files, empties, &[loader])
@@ -92,9 +121,9 @@ fn container_with(
 ) -> Result<Bytes, Fail> {
     let mut container = Bytes::new(alloc);
     put_directory(&mut container, files, empties, last)?;
-    put_flags(&mut container, files.len())?;
-    put_flags(&mut container, usize::from(empties))?;
-    put_flags(&mut container, last.len())?;
+    put_flags(&mut container, files)?;
+    container.extend(&[0; 255][..usize::from(empties)])?;
+    put_flags(&mut container, last)?;
     put_contents(&mut container, files)?;
     put_contents(&mut container, last)?;
     Ok(container)
@@ -157,10 +186,10 @@ fn empty_name(number: u8) -> [u8; 56] {
     name
 }
 
-// A flag for each of so many files, by which it is only read.
-fn put_flags(container: &mut Bytes, count: usize) -> Result<(), OutOfMemory> {
-    for _ in 0..count {
-        container.push(0)?;
+// A flag for each file, which is 1 where the guest may write it.
+fn put_flags(container: &mut Bytes, files: &[File<'_>]) -> Result<(), OutOfMemory> {
+    for file in files {
+        container.push(u8::from(file.writable))?;
     }
     Ok(())
 }

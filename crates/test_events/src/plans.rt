@@ -5,7 +5,8 @@ ghost use Rattle.load_states.specs.Loads.{IsBegun};
 ghost use Rattle.load_states.specs.LoadState.{memory_of};
 
 use crate::files::{SMALL_FILES, items_of};
-use crate::rig::{End, FILL, Held, Read, begin, ends};
+use crate::rig::Transfer::{self, Read};
+use crate::rig::{End, FILL, Held, begin, ends};
 use crate::scripts::Line::{self, AddChecksum, AddPointer, Allocate, Zeros};
 use crate::scripts::{FSEG, HIGH};
 use cfg_directory::Items;
@@ -49,8 +50,8 @@ pub(crate) fn begin_small(alloc: Global, world: &mut World) -> Result<(), Fail>
     Ok(())
 }
 
-// The transfers of the small load at its lowest places: the number of files, the entries of four files, five commands, and both files.
-static READS: [Read; 5] = [
+/// The transfers of the small load at its lowest places: the number of files, the entries of four files, five commands, and both files.
+pub(crate) static READS: [Transfer; 5] = [
     Read(0x19, 0, 4, 0x8000),
     Read(0x19, 4, 256, 0x8000),
     Read(0x23, 0, 640, 0x8000),
@@ -59,12 +60,12 @@ static READS: [Read; 5] = [
 ];
 
 /// Returns the first so many of them.
-pub(crate) fn first_reads(count: usize) -> &'static [Read] {
+pub(crate) fn first_reads(count: usize) -> &'static [Transfer] {
     &READS[..count.min(5)]
 }
 
 /// Returns them where both files go elsewhere.
-pub(crate) fn reads_to(anchor: u64, tables: u64) -> [Read; 5] {
+pub(crate) fn reads_to(anchor: u64, tables: u64) -> [Transfer; 5] {
     let [number, entries, script, ..] = READS;
     [
         number,
@@ -184,7 +185,8 @@ fn small_load_ends(
 ) -> Result<(), Fail> {
     let end = End {
         answer: Ok(()),
-        reads: first_reads(5),
+        transfers: first_reads(5),
+        contents: &[],
         left,
         changed: None,
     };
@@ -192,9 +194,9 @@ fn small_load_ends(
     ends(rt, alloc, items, &[], schedule, &end)
 }
 
-// Makes a plan of so many rounds, all of which are left: a step of the firmware and a piece of so many bytes, and behind each of them
-// the round's number, modulo 256, is written at these addresses.
-fn plan_of(
+/// Makes a plan of so many rounds, all of which are left: a step of the firmware and a piece of so many bytes, and behind each of them
+/// the round's number, modulo 256, is written at these addresses.
+pub(crate) fn plan_of(
     alloc: Global,
     count: u16,
     bytes: u32,
@@ -243,8 +245,8 @@ fn put_event(
     Ok(())
 }
 
-// How many events are left of a plan, which has at most 2,000.
-fn count_left(plan: &mut ListSchedule) -> u32 {
+/// How many events are left of a plan, which has at most 2,000.
+pub(crate) fn count_left(plan: &mut ListSchedule) -> u32 {
     let mut count = 0u32;
     for _ in 0..2000 {
         count = count.saturating_add(u32::from(plan.next().is_some()));

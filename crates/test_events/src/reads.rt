@@ -2,7 +2,8 @@
 
 use crate::files::{SMALL_FILES, items_of};
 use crate::plans::{ANCHOR, PLACE_ANCHOR, PLACE_TABLES, POINT, SUM, TABLES};
-use crate::rig::{End, Read, ends_without_events};
+use crate::rig::Transfer::{self, Read};
+use crate::rig::{End, ends_without_events};
 use crate::scripts::Line::{self, Zeros};
 use std::test::Fail;
 
@@ -18,7 +19,7 @@ static LINES: [Line; 7] = [
 ];
 
 // The entries of 131 files have 8,384 bytes.
-static READS: [Read; 9] = [
+static READS: [Transfer; 9] = [
     Read(0x19, 0, 4, 0x8000),
     Read(0x19, 4, 4096, 0x8000),
     Read(0x19, 4100, 4096, 0x8000),
@@ -35,7 +36,8 @@ fn several_reads(rt: HostRuntime) -> Result<(), Fail> {
     let items = items_of(rt.alloc(), &SMALL_FILES, 127, &LINES)?;
     let end = End {
         answer: Ok(()),
-        reads: &READS,
+        transfers: &READS,
+        contents: &[],
         left: &[ANCHOR, TABLES],
         changed: Some(14),
     };

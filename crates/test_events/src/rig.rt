@@ -21,14 +21,20 @@ pub(crate) const TOP: u32 = 0x400_0000;
 /// What each byte of RAM holds before a load.
 pub(crate) const FILL: u8 = 0xA5;
 
-/// A read that is over: the selector, the offset in the item, how many bytes, and their address.
+/// A transfer that is over, and didn't fail.
 #[derive(Clone, Copy)]
-pub(crate) struct Read(
-    pub(crate) u16,
-    pub(crate) u32,
-    pub(crate) u32,
-    pub(crate) u64,
-);
+pub(crate) enum Transfer {
+    /// A read: the selector, the offset in the item, how many bytes, and their address.
+    Read(u16, u32, u32, u64),
+    /// A skip from the start of an item: the selector, and how many bytes.
+    Skip(u16, u32),
+    /// A write from the buffer: the selector, the offset in the item, and how many bytes.
+    Write(u16, u32, u32),
+}
+
+/// All that a file of the device holds: its selector, and the bytes.
+#[derive(Clone, Copy)]
+pub(crate) struct Content<'a>(pub(crate) u16, pub(crate) &'a [u8]);
 
 /// Bytes that memory holds from an address on.
 #[derive(Clone, Copy)]
@@ -39,12 +45,13 @@ pub(crate) const NO_DESCRIPTOR: Held = Held(0x7000, &[FILL; 16]);
 
 pub(crate) const NO_BUFFER: Held = Held(0x8000, &[FILL; 4096]);
 
-/// How a load ends: its answer, the reads that are over, bytes that are left in memory, and how many bytes of RAM outside of the work
-/// range aren't the fill byte. Where no read is listed, or no number, they aren't looked at.
+/// How a load ends: its answer, the transfers that are over, what files of the device hold, bytes that are left in memory, and how many
+/// bytes of RAM outside of the work range aren't the fill byte. Where no transfer is listed, or no number, they aren't looked at.
 #[derive(Clone, Copy)]
 pub(crate) struct End<'a> {
     pub(crate) answer: Result<(), LoadFault>,
-    pub(crate) reads: &'a [Read],
+    pub(crate) transfers: &'a [Transfer],
+    pub(crate) contents: &'a [Content<'a>],
     pub(crate) left: &'a [Held],
     pub(crate) changed: Option<u64>,
 }
@@ -186,10 +193,15 @@ fn is_so(rt: &impl Abort, world: &World, end: &End<'_>)
     requires { IsSome world.now }
 {
     is_in(rt, world, state_after(end.answer));
-    if !end.reads.is_empty() {
-        has_read(rt, world.device(), end.reads);
-    }
+    is_moved(rt, world.device(), end);
     is_left(rt, world.memory(), end);
+}
+
+fn is_moved(rt: &impl Abort, device: &Device, end: &End<'_>) {
+    if !end.transfers.is_empty() {
+        has_moved(rt, device, end.transfers);
+    }
+    contain(rt, device, end.contents);
 }
 
 // A load that is done leaves the fill byte in the work range.
@@ -271,24 +283,47 @@ pub(crate) fn is_in(rt: &impl Abort, world: &World, state: State) {
 }
 
 /// These transfers are over.
-pub(crate) fn has_read(rt: &impl Abort, device: &Device, reads: &[Read]) {
-    assert_eq!(rt; device.finished().len(), reads.len());
-    for (finished, read) in device.finished().iter().zip(reads) {
-        is_read(rt, finished, read);
+pub(crate) fn has_moved(rt: &impl Abort, device: &Device, transfers: &[Transfer]) {
+    assert_eq!(rt; device.finished().len(), transfers.len());
+    for (finished, transfer) in device.finished().iter().zip(transfers) {
+        assert_eq!(rt; *finished, finished_of(*transfer));
     }
 }
 
-fn is_read(rt: &impl Abort, finished: &Finished, read: &Read) {
-    let Read(select, offset, length, address) = *read;
-    let expected = Finished {
-        kind: Kind::Read,
+fn finished_of(transfer: Transfer) -> Finished {
+    match transfer {
+        Transfer::Read(select, offset, length, address) => {
+            moved(Kind::Read, select, offset, length, address)
+        }
+        Transfer::Skip(select, length) => moved(Kind::Skip, select, 0, length, 0),
+        Transfer::Write(select, offset, length) => {
+            moved(Kind::Write, select, offset, length, 0x8000)
+        }
+    }
+}
+
+fn moved(kind: Kind, select: u16, offset: u32, length: u32, address: u64) -> Finished {
+    Finished {
+        kind,
         select,
         offset,
         length,
         address,
         error: false,
-    };
-    assert_eq!(rt; *finished, expected);
+    }
+}
+
+/// Files of the device hold these bytes.
+pub(crate) fn contain(rt: &impl Abort, device: &Device, contents: &[Content<'_>]) {
+    for content in contents {
+        contains(rt, device, content);
+    }
+}
+
+fn contains(rt: &impl Abort, device: &Device, content: &Content<'_>) {
+    let Content(select, bytes) = *content;
+    let item = device.item(select).expect(rt, "a file of this selector");
+    assert_eq!(rt; item.bytes.as_slice(), bytes, "of {select}");
 }
 
 /// Memory holds these bytes.

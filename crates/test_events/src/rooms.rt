@@ -102,7 +102,8 @@ static LARGE: [(u8, End<'static>); 2] = [
         0,
         End {
             answer: Ok(()),
-            reads: &[],
+            transfers: &[],
+            contents: &[],
             left: &[Held(0x300_0000, &[BYTE; 16]), Held(0x3FF_FFF0, &[BYTE; 16])],
             changed: Some(16_777_216),
         },
@@ -111,7 +112,8 @@ static LARGE: [(u8, End<'static>); 2] = [
         1,
         End {
             answer: Err(LoadFault::NoRoom { index: 0 }),
-            reads: &[],
+            transfers: &[],
+            contents: &[],
             left: &[Held(0x300_0000, &[FILL; 16]), Held(0x3FF_FFF0, &[FILL; 16])],
             changed: Some(0),
         },
@@ -141,10 +143,12 @@ fn items_with_large(alloc: Global, large: &[u8]) -> Result<Items, Fail> {
     let script = script_of(alloc, &LARGE_SCRIPT)?;
     let loader = File {
         name: LOADER,
+        writable: false,
         bytes: script.as_slice(),
     };
     let file = File {
         name: "etc/large",
+        writable: false,
         bytes: large,
     };
     items_with(alloc, &FILES, 0, &[loader, file])

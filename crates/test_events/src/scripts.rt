@@ -22,6 +22,8 @@ pub(crate) enum Line {
     AddPointer(&'static str, &'static str, u32, u8),
     /// A file, an offset, a start and a length.
     AddChecksum(&'static str, u32, u32, u32),
+    /// The file that is written, the one whose place is written, an offset in each, and a size.
+    WritePointer(&'static str, &'static str, u32, u32, u8),
     /// A command's number, with zeros behind it, which are no name.
     Number(u32),
     /// So many zeros, of which 128 are a command that changes nothing.
@@ -37,7 +39,8 @@ pub(crate) fn script_of(alloc: Global, lines: &[Line]) -> Result<Bytes, Fail> {
     Ok(script)
 }
 
-fn put_line(alloc: Global, script: &mut Bytes, line: &Line) -> Result<(), Fail> {
+/// Appends the bytes of a line.
+pub(crate) fn put_line(alloc: Global, script: &mut Bytes, line: &Line) -> Result<(), Fail> {
     match line {
         Line::Number(number) => put_number(script, *number),
         Line::Zeros(count) => put_zeros(script, *count),
@@ -49,6 +52,10 @@ fn put_line(alloc: Global, script: &mut Bytes, line: &Line) -> Result<(), Fail> 
         }
         Line::AddChecksum(file, offset, start, length) => {
             put_entry(alloc, script, add_checksum(file, *offset, *start, *length))
+        }
+        Line::WritePointer(dest, src, dst_offset, src_offset, size) => {
+            let entry = write_pointer(dest, src, *dst_offset, *src_offset, *size);
+            put_entry(alloc, script, entry)
         }
     }
 }
@@ -82,6 +89,26 @@ fn add_checksum(file: &str, offset: u32, start: u32, length: u32) -> Result<Entr
         offset,
         start,
         length,
+    })
+}
+
+fn write_pointer(
+    dest: &str,
+    src: &str,
+    dst_offset: u32,
+    src_offset: u32,
+    size: u8,
+) -> Result<Entry, NameFault>
+    ensures { IfOk result CanBeWritten }
+{
+    let dest = Name::of(dest)?;
+    let src = Name::of(src)?;
+    Ok(Entry::WritePointer {
+        dest,
+        src,
+        dst_offset,
+        src_offset,
+        size,
     })
 }
 

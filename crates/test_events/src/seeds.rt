@@ -62,7 +62,8 @@ fn all_end(
 ) -> Result<(), Fail> {
     let end = End {
         answer: Ok(()),
-        reads: &reads_to(left[0].0, left[1].0),
+        transfers: &reads_to(left[0].0, left[1].0),
+        contents: &[],
         left,
         changed: None,
     };

@@ -6,8 +6,13 @@ ghost use Rattle.command_acts.specs.FilesInMemory.{placed_ranges};
 ghost use Rattle.load_states.specs.Loads.{IsBegun};
 ghost use Rattle.load_states.specs.LoadState.{memory_of};
 
-use crate::plans::{ANCHOR, TABLES, begin_small, first_reads};
-use crate::rig::{Held, NO_BUFFER, NO_DESCRIPTOR, TOP, are_held, begin_zones, has_read, is_in};
+use crate::plans::{ANCHOR, READS, TABLES, small_items};
+use crate::rig::{
+    Content, Held, NO_BUFFER, NO_DESCRIPTOR, TOP, Transfer, are_held, begin, begin_zones, contain,
+    has_moved, is_in,
+};
+use cfg_directory::Items;
+use cfg_dma::Device as CfgDevice;
 use firmware_load::Event::{Device, Firmware, Other};
 use firmware_load::{Event, State, World};
 use std::alloc::Global;
@@ -15,12 +20,19 @@ use std::process::Abort;
 use std::test::Fail;
 use zone_alloc::{Policy, ShelfAlloc, ZoneAlloc};
 
-// What is seen of a world: its state, whether a transfer is in flight, how many of the small load are over, and bytes of memory.
+/// What is seen of a world: its state, whether a transfer is in flight, how many of the load are over, bytes of memory, and what files of
+/// the device hold.
 #[derive(Clone, Copy)]
-struct Seen(State, bool, usize, &'static [Held]);
+pub(crate) struct Seen(
+    pub(crate) State,
+    pub(crate) bool,
+    pub(crate) usize,
+    pub(crate) &'static [Held],
+    pub(crate) &'static [Content<'static>],
+);
 
 // Before its first step, and after a piece with nothing in flight.
-const BEGUN: Seen = Seen(State::Running, false, 0, &[NO_DESCRIPTOR, NO_BUFFER]);
+const BEGUN: Seen = Seen(State::Running, false, 0, &[NO_DESCRIPTOR, NO_BUFFER], &[]);
 
 // The descriptor of a read of 4 bytes of the directory into the buffer.
 const ASKED: Seen = Seen(
@@ -28,6 +40,7 @@ const ASKED: Seen = Seen(
     true,
     0,
     &[Held(0x7000, b"\0\x19\0\x0a\0\0\0\x04\0\0\0\0\0\0\x80\0")],
+    &[],
 );
 
 // The transfer is over: its control word is 0, and the number of files is in the buffer.
@@ -39,6 +52,7 @@ const OVER: Seen = Seen(
         Held(0x7000, b"\0\0\0\0\0\0\0\x04\0\0\0\0\0\0\x80\0"),
         Held(0x8000, b"\0\0\0\x04\xa5"),
     ],
+    &[],
 );
 
 const DONE: Seen = Seen(
@@ -46,12 +60,21 @@ const DONE: Seen = Seen(
     false,
     5,
     &[NO_DESCRIPTOR, NO_BUFFER, ANCHOR, TABLES],
+    &[],
 );
 
-// Events, how often they come in turn, and what is seen then.
-struct Turns(u8, &'static [Event], Seen);
+/// Events, how often they come in turn, and what is seen then.
+pub(crate) struct Turns(pub(crate) u8, pub(crate) &'static [Event], pub(crate) Seen);
 
-const WHOLE: Event = Device(u32::MAX);
+/// How a load goes on: all of its transfers, and what is seen from its beginning on.
+#[derive(Clone, Copy)]
+pub(crate) struct Walk<'a> {
+    pub(crate) transfers: &'a [Transfer],
+    pub(crate) turns: &'a [Turns],
+}
+
+/// A piece as long as any transfer.
+pub(crate) const WHOLE: Event = Device(u32::MAX);
 
 // The firmware waits until the transfer is over. It then takes a step for the number of files, two each for the entries, the script and
 // both files, and one for each command behind these and for the end.
@@ -78,25 +101,46 @@ static TURNS: [Turns; 7] = [
 
 #[test]
 fn steps(rt: HostRuntime) -> Result<(), Fail> {
+    let items = small_items(rt.alloc())?;
+    let walk = Walk {
+        transfers: &READS,
+        turns: &TURNS,
+    };
+    walks(&rt, rt.alloc(), items, &walk)
+}
+
+/// The load of `items` goes on so, with the least places.
+pub(crate) fn walks(
+    rt: &impl Abort,
+    alloc: Global,
+    items: Items,
+    walk: &Walk<'_>,
+) -> Result<(), Fail> {
     let mut world = World::idle();
-    let done = begins_and_goes_on(&rt, rt.alloc(), &mut world);
+    let done = begins_and_goes_on(rt, alloc, &mut world, items, walk);
     drop(world);
     done
 }
 
-fn begins_and_goes_on(rt: &impl Abort, alloc: Global, world: &mut World) -> Result<(), Fail> {
+fn begins_and_goes_on(
+    rt: &impl Abort,
+    alloc: Global,
+    world: &mut World,
+    items: Items,
+    walk: &Walk<'_>,
+) -> Result<(), Fail> {
     is_in(rt, world, State::Idle);
-    begin_small(alloc, world)?;
-    goes_on(rt, alloc, world)
+    begin(alloc, world, items)?;
+    goes_on(rt, alloc, world, walk)
 }
 
 // The world that was begun goes on as it should, with the least places.
-fn goes_on(rt: &impl Abort, alloc: Global, world: &mut World) -> Result<(), Fail>
+fn goes_on(rt: &impl Abort, alloc: Global, world: &mut World, walk: &Walk<'_>) -> Result<(), Fail>
     requires fresh { IsSomeAnd world.old (λ w. IsBegun w.attached.device.items (memory_of w).top (memory_of w).fill w) }
     requires top { IfSome world.old (λ w. (memory_of w).top ≡ 0x4000000) }
 {
     let mut shelf = ShelfAlloc::new();
-    let done = goes_on_with(rt, alloc, world, &mut shelf);
+    let done = goes_on_with(rt, alloc, world, &mut shelf, walk);
     drop(shelf);
     done
 }
@@ -106,25 +150,26 @@ fn goes_on_with<A: ZoneAlloc>(
     alloc: Global,
     world: &mut World,
     place: &mut A,
+    walk: &Walk<'_>,
 ) -> Result<(), Fail>
     requires fresh { IsSomeAnd world.old (λ w. IsBegun w.attached.device.items (memory_of w).top (memory_of w).fill w) }
     requires top { IfSome world.old (λ w. (memory_of w).top ≡ 0x4000000) }
 {
     begin_zones(alloc, place, Policy::Low)?;
-    goes(rt, world, place);
+    goes(rt, world, place, walk);
     Ok(())
 }
 
 // The world goes on as it should.
-fn goes<A: ZoneAlloc>(rt: &impl Abort, world: &mut World, place: &mut A)
+fn goes<A: ZoneAlloc>(rt: &impl Abort, world: &mut World, place: &mut A, walk: &Walk<'_>)
     requires some { IsSome world.old }
     requires begun { (A.state place.old).begun.ready ≡ true }
     requires zones { AreZonesOf 0x4000000 (A.state place.old).begun.zones }
     requires handed { IfSome world.old (λ w. (A.state place.old).handed ≡ placed_ranges w.placed) }
 {
-    for Turns(count, events, seen) in &TURNS {
+    for Turns(count, events, seen) in walk.turns {
         take_turns(rt, world, place, *count, events);
-        is_seen(rt, world, seen);
+        is_seen(rt, world, walk.transfers, seen);
     }
 }
 
@@ -180,12 +225,23 @@ fn take<A: ZoneAlloc>(rt: &impl Abort, world: &mut World, place: &mut A, event: 
     world.step(place, event);
 }
 
-fn is_seen(rt: &impl Abort, world: &World, seen: &Seen)
+// This is seen of the world; the transfers are all of its load's.
+fn is_seen(rt: &impl Abort, world: &World, transfers: &[Transfer], seen: &Seen)
     requires { IsSome world.now }
 {
-    let Seen(state, busy, count, held) = *seen;
+    let Seen(state, busy, count, held, contents) = *seen;
     is_in(rt, world, state);
-    assert_eq!(rt; world.device().busy(), busy);
-    has_read(rt, world.device(), first_reads(count));
     are_held(rt, world.memory(), held);
+    has_come_to(rt, world.device(), busy, first(transfers, count));
+    contain(rt, world.device(), contents);
+}
+
+fn has_come_to(rt: &impl Abort, device: &CfgDevice, busy: bool, transfers: &[Transfer]) {
+    assert_eq!(rt; device.busy(), busy);
+    has_moved(rt, device, transfers);
+}
+
+// The first so many.
+fn first(transfers: &[Transfer], count: usize) -> &[Transfer] {
+    &transfers[..count.min(transfers.len())]
 }

@@ -1,6 +1,8 @@
 //! Commands that are refused, each for its first cause, and what the commands before them left.
 
-use crate::containers::{ANCHOR, Command, EMPTY_FILE, TARGET, container_of_files, files_end};
+use crate::containers::{
+    ANCHOR, CELL, Command, EMPTY_FILE, SCRIPT, TARGET, container_of_files, files_end,
+};
 use crate::endings::refused_at;
 use fixtures::{Ending, Run, ends_in, is_same, load};
 use loader_script::Cause;
@@ -19,8 +21,8 @@ const PLACED: [Command; 2] = [
 // A cause, its line, and commands that are refused for it.
 type Refusal = (Cause, &'static [u8], &'static [Command<'static>]);
 
-// Those that are refused behind the two that place files.
-static REFUSED: [Refusal; 8] = [
+// Those that are refused behind the two that place files. The first WritePointers of each cause have the later causes too.
+static REFUSED: [Refusal; 9] = [
     (
         Cause::BadName,
         b"command 2: cause 1\n",
@@ -28,6 +30,9 @@ static REFUSED: [Refusal; 8] = [
             Command::Allocate("", 16, 2),
             Command::AddPointer(ANCHOR, "\x7F", 8, 4),
             Command::AddChecksum("", 0, 0, 0),
+            Command::WritePointer("", NONE, 99, 99, 3),
+            Command::WritePointer(NONE, "\x7F", 99, 99, 3),
+            Command::WritePointer("etc/\x1F", TARGET, 0, 0, 4),
         ],
     ),
     (
@@ -38,6 +43,9 @@ static REFUSED: [Refusal; 8] = [
             Command::AddPointer(NONE, TARGET, 8, 3),
             Command::AddPointer(EMPTY_FILE, NONE, 8, 3),
             Command::AddChecksum(NONE, 12, 0, 0),
+            Command::WritePointer(NONE, CELL, 99, 99, 3),
+            Command::WritePointer(ANCHOR, NONE, 99, 99, 3),
+            Command::WritePointer(CELL, NONE, 0, 0, 4),
         ],
     ),
     (
@@ -52,6 +60,8 @@ static REFUSED: [Refusal; 8] = [
             Command::AddPointer(EMPTY_FILE, TARGET, 0, 3),
             Command::AddPointer(ANCHOR, EMPTY_FILE, 8, 3),
             Command::AddChecksum(EMPTY_FILE, 0, 0, 0),
+            Command::WritePointer(ANCHOR, EMPTY_FILE, 99, 99, 3),
+            Command::WritePointer(CELL, CELL, 0, 0, 4),
         ],
     ),
     (
@@ -66,6 +76,19 @@ static REFUSED: [Refusal; 8] = [
             Command::AddPointer(ANCHOR, TARGET, 12, 0),
             Command::AddPointer(ANCHOR, TARGET, 12, 3),
             Command::AddPointer(ANCHOR, TARGET, 0, 16),
+            Command::WritePointer(ANCHOR, TARGET, 99, 99, 0),
+            Command::WritePointer(ANCHOR, TARGET, 99, 99, 3),
+            Command::WritePointer(CELL, TARGET, 0, 0, 16),
+        ],
+    ),
+    (
+        Cause::ReadOnly,
+        b"command 2: cause 9\n",
+        &[
+            Command::WritePointer(ANCHOR, TARGET, 99, 99, 1),
+            Command::WritePointer(EMPTY_FILE, TARGET, 0, 0, 1),
+            Command::WritePointer(TARGET, TARGET, 0, 0, 4),
+            Command::WritePointer(SCRIPT, TARGET, 0, 0, 8),
         ],
     ),
     (
@@ -77,15 +100,27 @@ static REFUSED: [Refusal; 8] = [
             Command::AddChecksum(ANCHOR, 12, 0, 12),
             Command::AddChecksum(ANCHOR, 4, 1, 12),
             Command::AddChecksum(ANCHOR, 4, 0xFFFF_FFFF, 0xFFFF_FFFF),
+            Command::WritePointer(CELL, TARGET, 8, 0, 1),
+            Command::WritePointer(CELL, TARGET, 5, 0, 4),
+            Command::WritePointer(CELL, TARGET, 1, 0, 8),
+            Command::WritePointer(CELL, TARGET, 0xFFFF_FFFF, 0, 8),
+            Command::WritePointer(CELL, TARGET, 0, 5, 1),
+            Command::WritePointer(CELL, TARGET, 0, 5, 4),
+            Command::WritePointer(CELL, ANCHOR, 0, 12, 8),
+            Command::WritePointer(CELL, TARGET, 0, 0xFFFF_FFFF, 8),
         ],
     ),
-    // 0x03000004 needs 26 bits
+    // 0x03000000 and 0x03000004 need 26 bits, and 0xF0000 needs 20
     (
         Cause::TooFar,
         b"command 2: cause 11\n",
         &[
             Command::AddPointer(ANCHOR, TARGET, 8, 1),
             Command::AddPointer(ANCHOR, TARGET, 8, 2),
+            Command::WritePointer(CELL, TARGET, 7, 4, 1),
+            Command::WritePointer(CELL, TARGET, 6, 0, 2),
+            Command::WritePointer(CELL, ANCHOR, 0, 0, 1),
+            Command::WritePointer(CELL, ANCHOR, 0, 0, 2),
         ],
     ),
 ];
@@ -98,6 +133,7 @@ static REFUSED_AT_ONCE: [Refusal; 3] = [
         &[
             Command::AddPointer(ANCHOR, TARGET, 8, 4),
             Command::AddChecksum(ANCHOR, 4, 0, 12),
+            Command::WritePointer(CELL, TARGET, 0, 0, 4),
         ],
     ),
     (

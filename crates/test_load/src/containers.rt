@@ -1,7 +1,9 @@
 //! Containers that are put together from their files and the commands of their script, runs that load one, and the files that most of them
 //! have.
 
-use fixtures::{Ending, Run, ends, put_allocate, put_checksum, put_entry, put_pointer};
+use fixtures::{
+    Ending, Run, ends, put_allocate, put_checksum, put_entry, put_pointer, put_write_pointer,
+};
 use std::alloc::Global;
 use std::test::Fail;
 use vt_outside::{Bytes, OutOfMemory};
@@ -17,6 +19,8 @@ pub(crate) enum Command<'a> {
     AddPointer(&'a str, &'a str, u32, u8),
     // file, offset, start and length
     AddChecksum(&'a str, u32, u32, u32),
+    // dest, src, an offset in each, and size
+    WritePointer(&'a str, &'a str, u32, u32, u8),
     // zeros, as QEMU pads its script with
     Skipped,
 }
@@ -29,13 +33,17 @@ pub(crate) const TARGET: &str = "etc/target";
 
 pub(crate) const EMPTY_FILE: &str = "etc/empty";
 
+// The only file that the guest may write.
+pub(crate) const CELL: &str = "etc/cell";
+
 // A byte for a sum at 4, and four bytes at 8 for a pointer to the fifth byte of the target.
 pub(crate) const ANCHOR_BYTES: [u8; 12] = [0x41, 0x42, 0x43, 0x44, 0, 0, 0, 0, 4, 0, 0, 0];
 
-pub(crate) static FILES: [FileOf; 3] = [
+pub(crate) static FILES: [FileOf; 4] = [
     (ANCHOR, &ANCHOR_BYTES),
     (EMPTY_FILE, &[]),
     (TARGET, &[0xA1, 0xA2, 0xA3, 0xA4, 0xA5]),
+    (CELL, &[0xC1, 0xC2, 0xC3, 0xC4, 0xC5, 0xC6, 0xC7, 0xC8]),
 ];
 
 // Makes the run with the container of these files and commands for its input, and tells where it doesn't end as `ending` says.
@@ -72,7 +80,7 @@ pub(crate) fn container_of_files(
     container_of(alloc, &FILES, commands)
 }
 
-// The container of these files and the script of these commands, its last file. A guest may write none of them.
+// The container of these files and the script of these commands, its last file.
 fn container_of(
     alloc: Global,
     files: &[FileOf],
@@ -114,8 +122,8 @@ fn put_entries(bytes: &mut Bytes, files: &[FileOf]) -> Result<(), OutOfMemory> {
 
 // A flag for each file, and one for the script.
 fn put_flags(bytes: &mut Bytes, files: &[FileOf]) -> Result<(), OutOfMemory> {
-    for _ in files {
-        bytes.extend(&[0])?;
+    for (name, _) in files {
+        bytes.extend(&[u8::from(*name == CELL)])?;
     }
     bytes.extend(&[0])
 }
@@ -143,6 +151,9 @@ fn put_command(script: &mut Bytes, command: &Command) -> Result<(), OutOfMemory>
         }
         Command::AddChecksum(name, offset, start, length) => {
             put_checksum(script, name, offset, start, length)
+        }
+        Command::WritePointer(dest, src, dst_offset, src_offset, size) => {
+            put_write_pointer(script, dest, src, dst_offset, src_offset, size)
         }
         Command::Skipped => script.extend(&[0; 128]),
     }

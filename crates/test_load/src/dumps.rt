@@ -35,13 +35,13 @@ const IN_HIGH_MEMORY: [Command; 4] = [
     Command::AddChecksum(ANCHOR, 4, 0, 12),
 ];
 
-const LINKED_DUMP: &str = "top 04000000 fill 00
+pub(crate) const LINKED_DUMP: &str = "top 04000000 fill 00
 000f0000 41424344ef0000000400000300000000
 03000000 a1a2a3a4a50000000000000000000000
 end
 ";
 
-const FILLED_DUMP: &str = "top 08000000 fill a5
+pub(crate) const FILLED_DUMP: &str = "top 08000000 fill a5
 000f0000 41424344eb00000004000007a5a5a5a5
 07000000 a1a2a3a4a5a5a5a5a5a5a5a5a5a5a5a5
 end
@@ -56,7 +56,7 @@ end
 
 // The target at the highest place of high memory that 64 divides, and the anchor at the highest below 0x00100000 that 16 divides. The bytes
 // of the pointer 0x03FFFFC4 sum to c5, so that the checksum is 31.
-const TOP_DUMP: &str = "top 04000000 fill 00
+pub(crate) const TOP_DUMP: &str = "top 04000000 fill 00
 000ffff0 4142434431000000c4ffff0300000000
 03ffffc0 a1a2a3a4a50000000000000000000000
 end
@@ -133,7 +133,8 @@ fn is_loaded(alloc: Global, words: &[&str]) -> Result<(), Fail> {
     files_end(alloc, &run, &LINKED, &BOOTED)
 }
 
-fn is_dumped<'a>(
+// The load of these commands with the files above is done, and is dumped so.
+pub(crate) fn is_dumped<'a>(
     alloc: Global,
     case: &'a str,
     words: &'a [&'a str],

@@ -1,5 +1,6 @@
 //! Tests of the command `load`: the dumps of containers that are put together here, of which each is worked by hand, the containers,
-//! scripts and commands that are refused, files for which there is no room, and the machines of which `build` makes a container.
+//! scripts and commands that are refused, files for which there is no room, files of fw_cfg that are written, and the machines of which
+//! `build` makes a container.
 #![tactic(auto)]
 
 #[cfg(test)]
@@ -18,3 +19,5 @@ mod places;
 mod refusals;
 #[cfg(test)]
 mod streams;
+#[cfg(test)]
+mod writes;

@@ -5,3 +5,5 @@
 mod limits;
 #[cfg(test)]
 mod scripts;
+#[cfg(test)]
+mod write_pointers;

@@ -1,6 +1,6 @@
 //! Loader scripts as bytes, and why a command is refused.
 
-ghost use Rattle.std.specs.Prelude.{◌≡◌, codes};
+ghost use Rattle.std.specs.Prelude.{◌≡◌, ◌+◌, ◌^◌, ◌≤◌, codes};
 
 use loader_script::{
     Cause, Entry, FileInfo, ScriptFault, decode_entry, decode_script, encode_script, entry_size,
@@ -41,7 +41,15 @@ fn entries_have_128_bytes(rt: HostRuntime) {
 
 #[test]
 fn commands_of_other_numbers(rt: HostRuntime) {
-    for (number, is_skipped) in [(0, true), (1, false), (4, true), (0xFF, true)] {
+    for (number, is_skipped) in [
+        (0, true),
+        (1, false),
+        (2, false),
+        (3, false),
+        (4, false),
+        (5, true),
+        (0xFF, true),
+    ] {
         let mut entry = allocate();
         entry[0] = number;
         assert_eq!(rt;
@@ -50,10 +58,49 @@ fn commands_of_other_numbers(rt: HostRuntime) {
             "at {number}"
         );
     }
-    // a name of 56 bytes without a NUL
-    let mut entry = allocate();
-    entry[4..60].fill(0x41);
-    assert!(rt; matches!(decode_entry(&entry), Entry::Misnamed(1)));
+}
+
+// A field that holds no file name: it has no NUL, begins with one, or has a byte that isn't printable before one.
+#[test]
+fn fields_with_no_name(rt: HostRuntime) {
+    for no_name in [field(b'A', b'A'), field(0, b'A'), field(0x1F, 0)] {
+        for (command, has_two_names) in [(1, false), (2, true), (3, false), (4, true)] {
+            assert_eq!(rt;
+                misnamed(&with_names(command, &no_name, &field(b'b', 0))),
+                Some(u32::from(command)),
+                "at the first of {command}"
+            );
+            assert_eq!(rt;
+                misnamed(&with_names(command, &field(b'a', 0), &no_name)),
+                has_two_names.then_some(u32::from(command)),
+                "at the second of {command}"
+            );
+        }
+    }
+}
+
+// A field of a byte and as many others as it has room for.
+fn field(first: u8, others: u8) -> [u8; 56] {
+    let mut field = [others; 56];
+    field[0] = first;
+    field
+}
+
+// A command of a number, with two fields where names stand.
+fn with_names(number: u8, first: &[u8; 56], second: &[u8; 56]) -> [u8; 128] {
+    let mut entry = [0; 128];
+    entry[0] = number;
+    entry[4..60].copy_from_slice(first);
+    entry[60..116].copy_from_slice(second);
+    entry
+}
+
+// The number of a command that is read as misnamed.
+fn misnamed(entry: &[u8; 128]) -> Option<u32> {
+    match decode_entry(entry) {
+        Entry::Misnamed(command) => Some(command),
+        _ => None,
+    }
 }
 
 #[test]
@@ -82,10 +129,16 @@ fn causes_of_refusal(rt: HostRuntime) {
         refusal(&Entry::Misnamed(2), &[], &[]),
         Some(Cause::BadName)
     );
+    assert_eq!(rt;
+        refusal(&Entry::Misnamed(4), &[], &[]),
+        Some(Cause::BadName)
+    );
 }
 
-// Of two files "a", of 16 bytes at 0x03000000, and "b", of 8 bytes, writable and not placed.
-fn cause_of(entry: &Entry) -> Option<Cause> {
+// Of two files "a", of 16 bytes at an address, and "b", of 8 bytes, writable and not placed.
+pub(crate) fn cause_at(place: u64, entry: &Entry) -> Option<Cause>
+    requires { place + 16 ≤ 2 ^ 32 }
+{
     refusal(
         entry,
         &[
@@ -100,17 +153,17 @@ fn cause_of(entry: &Entry) -> Option<Cause> {
                 writable: true,
             },
         ],
-        &[Some(0x0300_0000), None],
+        &[Some(place), None],
     )
 }
 
-fn a() -> Name
+pub(crate) fn a() -> Name
     ensures { result ≡ codes "a" }
 {
     Name::of("a").unwrap()
 }
 
-fn b() -> Name
+pub(crate) fn b() -> Name
     ensures { result ≡ codes "b" }
 {
     Name::of("b").unwrap()
@@ -138,9 +191,9 @@ fn pointers(rt: &impl Abort, a: Name, b: Name) {
     is_cause(rt, &add_pointer(a, b, 8, 8), Some(Cause::NotPlaced));
 }
 
-// The command is refused for this cause, or not refused.
-fn is_cause(rt: &impl Abort, entry: &Entry, cause: Option<Cause>) {
-    assert_eq!(rt; cause_of(entry), cause, "at {entry:?}");
+// The command is refused for this cause, or not refused, where "a" is at 0x03000000.
+pub(crate) fn is_cause(rt: &impl Abort, entry: &Entry, cause: Option<Cause>) {
+    assert_eq!(rt; cause_at(0x0300_0000, entry), cause, "at {entry:?}");
 }
 
 fn allocate_of(file: Name, align: u32, zone: u8) -> Entry {

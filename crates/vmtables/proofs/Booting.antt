@@ -9,7 +9,7 @@ use Rattle.desc_toml.specs.Reading.{Reads}
 use Rattle.loader_script.specs.declared.entry.Entry.{Entry}
 use Rattle.vt_outside.specs.File.{File}
 use Rattle.loader_script.specs.Left.{range_of}
-use Rattle.loader_script.specs.Run.{Placed, Progress, End, Done, Command, NoRoom, place_of, run}
+use Rattle.loader_script.specs.Run.{Placed, Progress, End, Done, Command, NoRoom, opening, place_of, run}
 use Rattle.cfg_directory.specs.declared.item.Item.{Item}
 use Rattle.cfg_directory.specs.Files.{files_of}
 use Rattle.image_files.specs.Script.{allocation, linking}
@@ -27,13 +27,13 @@ use Rattle.image_files.specs.Items.{image_limit}
 use Rattle.command_acts.specs.Allocators.{AreZonesOf}
 use Rattle.command_acts.specs.declared.fault.LoadFault.{LoadFault}
 use Rattle.command_acts.specs.declared.fault.LoadFault.TheVariants as load
-use Rattle.command_acts.specs.Runs.{Answers, EndsWith, IsRun, at_files, request_at, result_of}
+use Rattle.command_acts.specs.Runs.{Answers, EndsWith, IsRun, at_files, with_places, request_at, result_of}
 use Rattle.command_acts.specs.Script.{script_in}
 use Rattle.command_acts.proofs.PlainRuns.{starts}
 use Rattle.cfg_dma.specs.Device.{DeviceState}
 use Rattle.load_states.specs.declared.event.Event.{Event}
 use Rattle.load_states.specs.Loads.{HasRun, IsLoadedOver}
-use Rattle.load_states.specs.LoadState.{memory_of, files_now}
+use Rattle.load_states.specs.LoadState.{memory_of, files_now, progress_of}
 use Rattle.load_states.specs.LoadState.{LoadState as Loading}
 use Rattle.vmtables.specs.Boot.{IsBooted, BootMakes, without_room, without_memory}
 use Rattle.vmtables.specs.Calls.{Answering, Seen}
@@ -60,31 +60,33 @@ script_split : (m : Machine) → image_script m ≡ plain_script m
 unfolding plain_script
 script_split m = append-nil (flat_map allocation (image_files m) ++ linking (image_files m))
 
--- a run that isn't without room isn't refused, and its places are lawful
-pub record IsLawfulRun (m : Machine) (places : List ℕ) (end : End) (placed : List Placed) : Type 0 where
+-- a run that isn't without room isn't refused, writes to no file of fw_cfg, and its places are lawful
+pub record IsLawfulRun (m : Machine) (places : List ℕ) (end : End) (final : Progress) : Type 0 where
   pub done : end ≡ Done
+  pub files : final.files ≡ files_of (image_items m)
   pub lawful : ArePlaces (top_of m) [] (image_files m) places
-  pub linked : AreLinked (place_of placed) (image_files m) places placed
+  pub linked : AreLinked (place_of final.placed) (image_files m) places final.placed
 
-extended_of : (m : Machine) (items : List Item) (script : List Entry) (built : IsBuilt m items script) (May : Answers) (end : End) (placed : List Placed)
-    → GivesFree May (top_of m) → EndsWith May (files_of (image_items m)) 0 (image_script m) [] end placed
-    → Extends May (top_of m) (files_of (image_items m)) (plain_script m) 0 [] (image_files m) [] placed end
+extended_of : (m : Machine) (items : List Item) (script : List Entry) (built : IsBuilt m items script) (May : Answers) (end : End) (final : Progress)
+    → GivesFree May (top_of m) → EndsWith May 0 (image_script m) (opening (files_of (image_items m)) []) end final
+    → Extends May (top_of m) (files_of (image_items m)) (plain_script m) 0 [] (image_files m) [] final.placed end
 unfolding plain_script
-extended_of m items script built May end placed free ends =
-    extends May (top_of m) (files_of (image_items m)) (linking (image_files m)) (all_link (image_files m)) free (image_files m) [] 0 [] end placed
+extended_of m items script built May end final free ends =
+    extends May (top_of m) (files_of (image_items m)) (linking (image_files m)) (all_link (image_files m)) free (image_files m) [] 0 [] end final
     (rw built.items_are at built.there) refl (room_from (top_of m) (image_files m) built.room)
-    (subst (λ those. EndsWith May (files_of (image_items m)) 0 those [] end placed) (script_split m) ends)
+    (subst (λ those. EndsWith May 0 those (opening (files_of (image_items m)) []) end final) (script_split m) ends)
 
 lawful_so : (m : Machine) (items : List Item) (script : List Entry) (built : IsBuilt m items script) (May : Answers) (handed : List Range) (end : End)
-    (placed : List Placed) → GivesFree May (top_of m) → IsRun May (files_of (image_items m)) (image_script m) handed end placed
-    → ((at : ℕ) → end ≡ NoRoom at → ⊥) → IsLawfulRun m (map (λ (r : Range). r.start) handed) end placed
-lawful_so m items script built May handed end placed free ran room =
+    (final : Progress) → GivesFree May (top_of m) → IsRun May (files_of (image_items m)) (image_script m) handed end final
+    → ((at : ℕ) → end ≡ NoRoom at → ⊥) → IsLawfulRun m (map (λ (r : Range). r.start) handed) end final
+lawful_so m items script built May handed end final free ran room =
+    let placed : List Placed = final.placed in
     let extended : Extends May (top_of m) (files_of (image_items m)) (plain_script m) 0 [] (image_files m) [] placed end =
-    extended_of m items script built May end placed free ran.answered in
+    extended_of m items script built May end final free ran.answered in
     let same : map (λ (r : Range). r.start) handed ≡ extended.given =
     ap (map (λ (r : Range). r.start)) ran.handed_are ∙ starts placed ∙ extended.stand in
     let loaded = built.loaded (extended.given ++ extended.extra) extended.lawful in
-    let both : ending end (at_files (files_of (image_items m)) placed extended.extra) ≡ ending Done (at_files (files_of (image_items m)) loaded.0 []) =
+    let both : ending end (with_places final extended.extra) ≡ ending Done (at_files (files_of (image_items m)) loaded.0 []) =
     sym (ran.goes_on room extended.extra) ∙ ap (λ ps. run (files_of (image_items m)) (image_script m) (ps ++ extended.extra)) same ∙ loaded.2 in
     let left = its_progress end Done _ _ both in
     let none : extended.extra ≡ [] = ap (λ (p : Progress). p.places) left in
@@ -93,6 +95,7 @@ lawful_so m items script built May handed end placed free ran room =
     ap (λ ps. extended.given ++ ps) none ∙ append-nil extended.given ∙ sym same in
     record {
       done = ap (λ (e : End × Progress). e.0) both;
+      files = ap (λ (p : Progress). p.files) left;
       lawful = subst (ArePlaces (top_of m) [] (image_files m)) given extended.lawful;
       linked = subst (λ ps. AreLinked (place_of placed) (image_files m) ps placed) given
           (subst (λ fs. AreLinked (place_of fs) (image_files m) (extended.given ++ extended.extra) fs) (sym files) loaded.1);
@@ -160,8 +163,8 @@ booted Gives setting bytes m items script before after free read built small scr
     let run : HasRun May (image_items m) (image_script m) after.place.handed (Ok tt) world =
     run_of m May after.place.handed (Ok tt) world script_read leaves.ran in
     let done : run.0 ≡ Done = ended_done run.0 run.2 in
-    let is : IsLawfulRun m (map (λ (r : Range). r.start) after.place.handed) run.0 (files_now world) =
-    lawful_so m items script built May after.place.handed run.0 (files_now world)
+    let is : IsLawfulRun m (map (λ (r : Range). r.start) after.place.handed) run.0 (progress_of world) =
+    lawful_so m items script built May after.place.handed run.0 (progress_of world)
     (gives_free Gives after.place.begun (top_of m) free loaded.zones) run.1 (has_room run.0 done) in
     let holds : HoldsFiles (memory_of world) (files_now world) =
     holds_files May (image_items m) (top_of m) setting.fill loaded.load.taken after.place.handed (Ok tt) world leaves in
@@ -171,8 +174,8 @@ booted Gives setting bytes m items script before after free read built small scr
       small = small;
       loaded = loaded;
       script = script_read;
-      placed = files_now world;
-      ran = subst (λ end. IsRun May (files_of (image_items m)) (image_script m) after.place.handed end (files_now world)) done run.1;
+      ran = subst (λ end. IsRun May (files_of (image_items m)) (image_script m) after.place.handed end (progress_of world)) done run.1;
+      files = is.files;
       lawful = is.lawful;
       holds = holds;
       others = λ address ram no_work outside.
@@ -222,8 +225,8 @@ fails_for_room Gives setting m items script why before after free built script_r
     let frees : GivesFree May (top_of m) = gives_free Gives after.place.begun (top_of m) free loaded.zones in
     subst (λ those. EndsSo May (top_of m) (files_of (image_items m)) those (files_now world) why) (sym (script_split m))
     (room_of May (top_of m) (files_of (image_items m)) (plain_script m) (files_now world) run.0 why run.2
-    (λ room. (lawful_so m items script built May after.place.handed run.0 (files_now world) frees run.1 room).done)
-    (extended_of m items script built May run.0 (files_now world) frees run.1.answered).no_room)
+    (λ room. (lawful_so m items script built May after.place.handed run.0 (progress_of world) frees run.1 room).done)
+    (extended_of m items script built May run.0 (progress_of world) frees run.1.answered).no_room)
 
 -- the last request that an allocator refused is that of the command that found no room
 refused_last : (Gives : Answering) (setting : Setting) (m : Machine) (why : LoadFault) (index : ℕ) (before after : Seen)

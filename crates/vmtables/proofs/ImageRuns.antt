@@ -22,7 +22,7 @@ use Rattle.image_files.specs.Script.{allocation, place_command, add_pointer, add
 use Rattle.image_files.specs.Places.{range_at, MayStand, ArePlaces}
 use Rattle.image_files.specs.Linked.{BeginsWith}
 use Rattle.image_files.proofs.InTurn.{each_flat_map}
-use Rattle.command_acts.specs.Runs.{Answers, EndsWith, done, refused, without_room, allocated, carried, placed_at, request_of, request_at}
+use Rattle.command_acts.specs.Runs.{Answers, EndsWith, done, refused, without_room, allocated, carried, at_files, placed_at, request_of, request_at}
 use Rattle.command_acts.proofs.PlainRuns.{places_of_placed, carried_any}
 use Rattle.vmtables.specs.Loading.{IsRefusedFree}
 use Rattle.vmtables.proofs.PlacesMore.{AfterPlacing, RoomFrom, RoomBy, known, some_places}
@@ -61,19 +61,19 @@ abbrev placing_commands : ImageFile → Option Placing → List Entry
 placing_commands file placing = option_map_or (λ p. place_command file.name p ∷ []) placing []
 
 -- a run of commands that link files places none, and has room
-pub record LinksOnly (placed final : List Placed) (end : End) : Type 0 where
-  pub stand : places_of_placed final ≡ places_of_placed placed
+pub record LinksOnly (p final : Progress) (end : End) : Type 0 where
+  pub stand : places_of_placed final.placed ≡ places_of_placed p.placed
   pub room : (at : ℕ) → end ≡ NoRoom at → ⊥
 
-links_only : {May : Answers} {files : List File} {index : ℕ} {script : List Entry} {placed : List Placed} {end : End} {final : List Placed}
-    → EndsWith May files index script placed end final → AllByRecursion Links script → LinksOnly placed final end
+links_only : {May : Answers} {index : ℕ} {script : List Entry} {p final : Progress} {end : End}
+    → EndsWith May index script p end final → AllByRecursion Links script → LinksOnly p final end
 links_only done all = record { stand = refl; room = λ at is. cc }
 links_only (refused is) all = record { stand = refl; room = λ at is. cc }
 links_only (without_room none may) all = absurd all.0
 links_only (allocated place none may rest) all = absurd all.0
-links_only {files = files} {placed = placed} (carried {entry = entry} {next = next} none goes rest) all =
+links_only {p = p} (carried {entry = entry} {next = next} none goes rest) all =
     let later = links_only rest all.1 in
-    record { stand = later.stand ∙ (carried_any entry files placed next [] goes).stand; room = later.room }
+    record { stand = later.stand ∙ (carried_any entry p next [] goes).stand; room = later.room }
 
 -- The command at an index, of a script whose first command has another, asks for a place and is refused one though a place is free.
 pub record IsStuck (May : Answers) (top : ℕ) (loaded : List File) (script : List Entry) (index : ℕ) (final : List Placed) (at : ℕ) : Type 0 where
@@ -109,17 +109,18 @@ its_request loaded file placing bytes =
 
 module _ (May : Answers) (top : ℕ) (loaded : List File) (commands : List Entry) (links : AllByRecursion Links commands) (free : GivesFree May top) where
   -- one file that is placed, and those behind it
-  extends_one : {index : ℕ} {placed : List Placed} {end : End} {final : List Placed} (file : ImageFile) (files : List ImageFile)
+  extends_one : {index : ℕ} {placed : List Placed} {end : End} {final : Progress} (file : ImageFile) (files : List ImageFile)
       (placing : Placing) (handed : List Range) → file.placing ≡ Some placing → bytes_of loaded file.name ≡ file.blob.bytes
       → map range_of placed ≡ handed
       → RoomFrom top handed (file ∷ files)
       → ((place index : ℕ) → map range_of (placed ++ placed_at loaded file.name place ∷ []) ≡ handed ++ range_at file place ∷ []
       → RoomFrom top (handed ++ range_at file place ∷ []) files
-      → EndsWith May loaded index (flat_map allocation files ++ commands) (placed ++ placed_at loaded file.name place ∷ []) end final
+      → EndsWith May index (flat_map allocation files ++ commands) (at_files loaded (placed ++ placed_at loaded file.name place ∷ []) []) end final
       → Extends May top loaded (flat_map allocation files ++ commands) index (handed ++ range_at file place ∷ []) files
-      (placed ++ placed_at loaded file.name place ∷ []) final end)
-      → EndsWith May loaded index (place_command file.name placing ∷ flat_map allocation files ++ commands) placed end final
-      → Extends May top loaded (place_command file.name placing ∷ flat_map allocation files ++ commands) index handed (file ∷ files) placed final end
+      (placed ++ placed_at loaded file.name place ∷ []) final.placed end)
+      → EndsWith May index (place_command file.name placing ∷ flat_map allocation files ++ commands) (at_files loaded placed []) end final
+      → Extends May top loaded (place_command file.name placing ∷ flat_map allocation files ++ commands) index handed (file ∷ files) placed final.placed
+      end
   unfolding carried_out
   extends_one {placed = placed} file files placing handed is bytes ranges room later (refused stops) =
       let some = some_places top handed (file ∷ files) room in
@@ -169,18 +170,18 @@ module _ (May : Answers) (top : ℕ) (loaded : List File) (commands : List Entry
   extends_one file files placing handed is bytes ranges room later (carried none goes rest) = absurd (none-some _ goes)
 
   -- the run of a file's commands and of those behind them, by how the file is placed, and that it extends so
-  abbrev Ending : ImageFile → List ImageFile → ℕ → List Placed → End → List Placed → Option Placing → Type 0
+  abbrev Ending : ImageFile → List ImageFile → ℕ → List Placed → End → Progress → Option Placing → Type 0
   Ending file files index placed end final placing =
-      EndsWith May loaded index ((placing_commands file placing ++ flat_map allocation files) ++ commands) placed end final
+      EndsWith May index ((placing_commands file placing ++ flat_map allocation files) ++ commands) (at_files loaded placed []) end final
 
   abbrev Extending : ImageFile → List ImageFile → ℕ → List Range → List Placed → List Placed → End → Option Placing → Type 0
   Extending file files index handed placed final end placing =
       Extends May top loaded ((placing_commands file placing ++ flat_map allocation files) ++ commands) index handed (file ∷ files) placed final end
 
-  pub extends : (files : List ImageFile) (handed : List Range) (index : ℕ) (placed : List Placed) (end : End) (final : List Placed)
+  pub extends : (files : List ImageFile) (handed : List Range) (index : ℕ) (placed : List Placed) (end : End) (final : Progress)
       → BeginsWith loaded files → map range_of placed ≡ handed → RoomFrom top handed files
-      → EndsWith May loaded index (flat_map allocation files ++ commands) placed end final
-      → Extends May top loaded (flat_map allocation files ++ commands) index handed files placed final end
+      → EndsWith May index (flat_map allocation files ++ commands) (at_files loaded placed []) end final
+      → Extends May top loaded (flat_map allocation files ++ commands) index handed files placed final.placed end
   extends [] handed index placed end final begins ranges room ends =
       let only = links_only ends links in
       record {
@@ -191,11 +192,11 @@ module _ (May : Answers) (top : ℕ) (loaded : List File) (commands : List Entry
         no_room = λ at is. absurd (only.room at is);
       }
   extends (file ∷ files) handed index placed end final begins ranges room ends =
-      elim (known file.placing) as (λ _. Extending file files index handed placed final end file.placing) [
+      elim (known file.placing) as (λ _. Extending file files index handed placed final.placed end file.placing) [
         | inl is ↦
             let on = extends files handed index placed end final begins.1 ranges (subst (RoomBy top handed file files) is room)
             (subst (Ending file files index placed end final) is ends) in
-            subst (Extending file files index handed placed final end) (sym is) (record {
+            subst (Extending file files index handed placed final.placed end) (sym is) (record {
               given = on.given;
               extra = on.extra;
               stand = on.stand;
@@ -204,7 +205,7 @@ module _ (May : Answers) (top : ℕ) (loaded : List File) (commands : List Entry
             })
         | inr (placing, is) ↦
             let bytes : bytes_of loaded file.name ≡ file.blob.bytes = ap (λ found. option_map_or (λ (f : File). f.bytes) found []) begins.0 in
-            subst (Extending file files index handed placed final end) (sym is)
+            subst (Extending file files index handed placed final.placed end) (sym is)
             (extends_one file files placing handed is bytes ranges room
             (λ place at more still rest. extends files (handed ++ range_at file place ∷ []) at (placed ++ placed_at loaded file.name place ∷ []) end final
             begins.1 more still rest)

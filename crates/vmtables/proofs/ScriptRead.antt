@@ -18,7 +18,7 @@ use Rattle.image_files.specs.declared.file.Placing.{Placing}
 use Rattle.image_files.proofs.InTurn.{each_flat_map}
 use Rattle.loader_script.specs.declared.entry.Entry.{Entry}
 use Rattle.vt_outside.specs.File.{File}
-use Rattle.loader_script.specs.Spelling.{Fits, IsReadAgain, entries_of, entry_bytes, is_script_length}
+use Rattle.loader_script.specs.Spelling.{Fits, CanBeWritten, entries_of, entry_bytes, is_script_length}
 use Rattle.loader_script.proofs.Named.{find-map}
 use Rattle.loader_script.proofs.Scripts.{length-script, script-again}
 use Rattle.machine_desc.specs.declared.machine.Machine.{Machine}
@@ -30,25 +30,25 @@ use Rattle.firmware_load.proofs.RoomOfLoads.{named_small}
 
 -- the commands that place and link files are read again
 placing_again : (file : ImageFile) (placing : Option Placing)
-    → file.placing ≡ placing → AllByRecursion IsReadAgain (allocation file)
+    → file.placing ≡ placing → AllByRecursion CanBeWritten (allocation file)
 placing_again file None is = rw is tt
 placing_again file (Some placing) is = rw is (tt, tt)
 
-each_file : (commands : ImageFile → List Entry) → ((file : ImageFile) → AllByRecursion IsReadAgain (commands file)) → (files : List ImageFile)
-    → AllByRecursion (λ file. AllByRecursion IsReadAgain (commands file)) files
+each_file : (commands : ImageFile → List Entry) → ((file : ImageFile) → AllByRecursion CanBeWritten (commands file)) → (files : List ImageFile)
+    → AllByRecursion (λ file. AllByRecursion CanBeWritten (commands file)) files
 each_file commands again [] = tt
 each_file commands again (file ∷ files) = (again file, each_file commands again files)
 
-script_again : (files : List ImageFile) → AllByRecursion IsReadAgain (script_of files [])
+script_again : (files : List ImageFile) → AllByRecursion CanBeWritten (script_of files [])
 script_again files =
-    each_append IsReadAgain (flat_map allocation files ++ linking files) []
-    (each_append IsReadAgain (flat_map allocation files) (linking files)
-    (each_flat_map IsReadAgain allocation files (each_file allocation (λ file. placing_again file file.placing refl) files))
-    (each_append IsReadAgain (flat_map add_pointers (by_name files)) (flat_map add_checksums files)
-    (each_flat_map IsReadAgain add_pointers (by_name files)
-    (each_file add_pointers (λ file. each_map IsReadAgain (add_pointer file.name) (λ hole. tt) file.blob.pointers) (by_name files)))
-    (each_flat_map IsReadAgain add_checksums files
-    (each_file add_checksums (λ file. each_map IsReadAgain (add_checksum file.name) (λ hole. tt) file.blob.sums) files)))) tt
+    each_append CanBeWritten (flat_map allocation files ++ linking files) []
+    (each_append CanBeWritten (flat_map allocation files) (linking files)
+    (each_flat_map CanBeWritten allocation files (each_file allocation (λ file. placing_again file file.placing refl) files))
+    (each_append CanBeWritten (flat_map add_pointers (by_name files)) (flat_map add_checksums files)
+    (each_flat_map CanBeWritten add_pointers (by_name files)
+    (each_file add_pointers (λ file. each_map CanBeWritten (add_pointer file.name) (λ hole. tt) file.blob.pointers) (by_name files)))
+    (each_flat_map CanBeWritten add_checksums files
+    (each_file add_checksums (λ file. each_map CanBeWritten (add_checksum file.name) (λ hole. tt) file.blob.sums) files)))) tt
 
 -- the item of a name, of the file of that name
 item_found : (found : Option Item) (file : File) → option_map (λ (item : Item). record { name = item.name; bytes = item.bytes; writable = item.writable }) found ≡ Some file
@@ -62,7 +62,7 @@ eqb_same a b = (Decides-eqb a b).1
 
 -- bytes that spell a script are read as it
 spelled_read : (script : List Entry) (bytes : List ℕ) → bytes ≡ flat_map entry_bytes script → AllByRecursion Fits script
-    → AllByRecursion IsReadAgain script → length bytes ≤ 409600 → script_read_of bytes ≡ Ok script
+    → AllByRecursion CanBeWritten script → length bytes ≤ 409600 → script_read_of bytes ≡ Ok script
 spelled_read script bytes is fits again few =
     let long : length bytes ≡ 128 * length script = ap length is ∙ length-script script fits in
     let count : length bytes / 128 ≡ length script = omega (arith, long) in
@@ -77,7 +77,7 @@ script_read m items script built few =
     let spelled = rw built.items_are at built.spelled in
     let found = item_found (named (image_items m) loader_name) _ (sym (find-map (λ (item : Item). record { name = item.name; bytes = item.bytes; writable = item.writable })
     (λ (file : File). bytes_eq file.name loader_name) (image_items m)) ∙ spelled) in
-    let again : AllByRecursion IsReadAgain script = subst (AllByRecursion IsReadAgain) (sym built.script_is) (script_again (image_files m)) in
+    let again : AllByRecursion CanBeWritten script = subst (AllByRecursion CanBeWritten) (sym built.script_is) (script_again (image_files m)) in
     ap script_from found.1
     ∙ spelled_read script found.0.bytes found.2 built.fits again (omega (arith, named_small (image_items m) loader_name found.0 found.1, few))
     ∙ ap Ok built.script_is

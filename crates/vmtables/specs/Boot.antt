@@ -3,7 +3,7 @@ use Rattle.std.specs.Prelude.{◌≡◌, ℕ, ◌≤◌, false, List, [], Ok, Er
 use Rattle.vt_outside.specs.Placement.{Range}
 use Rattle.machine_desc.specs.declared.machine.Machine.{Machine}
 use Rattle.desc_toml.specs.Reading.{Reads}
-use Rattle.loader_script.specs.Run.{Placed, Done}
+use Rattle.loader_script.specs.Run.{Done}
 use Rattle.loader_script.specs.Left.{IsOutside}
 use Rattle.cfg_directory.specs.Items.{total_size}
 use Rattle.cfg_directory.specs.Files.{files_of}
@@ -19,7 +19,7 @@ use Rattle.command_acts.specs.declared.fault.LoadFault.TheVariants.{NoRoom}
 use Rattle.vt_words.specs.declared.setting.Setting.{Setting}
 use Rattle.load_states.specs.Guarded.{is_work}
 use Rattle.load_states.specs.Kept.{IsCleared}
-use Rattle.load_states.specs.LoadState.{memory_of}
+use Rattle.load_states.specs.LoadState.{memory_of, items_now, files_now, progress_of}
 use Rattle.load_states.specs.Runs.{left_by_others}
 use Rattle.vmtables.specs.Calls.{Answering, Made, Seen}
 use Rattle.vmtables.specs.Build.{CannotBeBuilt}
@@ -30,19 +30,20 @@ use Rattle.vmtables.specs.declared.fault.Fault.TheVariants as fault
 
 -- The machine of a description is booted, with this setting: the machine is read from the bytes, the items of its image,
 -- which have few bytes, are loaded over the plan's events of its seed, their script is its script, which is carried out whole with the files
--- at lawful places, and memory holds them. The rest is as the other processors left it over the events that were taken, but for the
--- firmware's work range, which holds the fill byte. Memory shows, from its RSDP and its anchor, exactly the machine's inventory.
+-- at lawful places and writes to no file of fw_cfg, and memory holds them. The rest is as the other processors left it over the events that
+-- were taken, but for the firmware's work range, which holds the fill byte. Memory shows, from its RSDP and its anchor, exactly the machine's inventory.
 pub record IsBooted (Gives : Answering) (setting : Setting) (bytes : List ℕ) (before after : Seen) : Type 0 where
   pub machine : Machine
   pub read : Reads bytes machine
   pub small : total_size (image_items machine) ≤ image_limit
   pub loaded : IsImageLoaded Gives (image_items machine) (top_of machine) setting (Ok tt) before after
   pub script : script_in (image_items machine) ≡ Ok (image_script machine)
-  pub placed : List Placed
-  pub ran : IsRun (Gives after.place.begun) (files_of (image_items machine)) (image_script machine) after.place.handed Done placed
+  pub ran : IsRun (Gives after.place.begun) (files_of (image_items machine)) (image_script machine) after.place.handed Done (progress_of loaded.world)
+  pub files : files_of (items_now loaded.world) ≡ files_of (image_items machine)
   pub lawful : ArePlaces (top_of machine) [] (image_files machine) (map (λ (r : Range). r.start) after.place.handed)
-  pub holds : HoldsFiles (memory_of loaded.world) placed
-  pub others : (address : ℕ) → IsRam (top_of machine) address → is_work address ≡ false → IsOutside placed address
+  pub holds : HoldsFiles (memory_of loaded.world) (files_now loaded.world)
+  pub others : (address : ℕ) → IsRam (top_of machine) address → is_work address ≡ false
+      → IsOutside (files_now loaded.world) address
       → at (memory_of loaded.world) address ≡ left_by_others (top_of machine) setting.fill loaded.load.taken address
   pub cleared : IsCleared (memory_of loaded.world)
   pub shown : Shows (memory_of loaded.world).top (seen (memory_of loaded.world)) (inventory_of machine)

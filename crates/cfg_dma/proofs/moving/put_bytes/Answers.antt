@@ -33,7 +33,7 @@ loop-done-preserved c =
     record {
       within = omega arith;
       so_far = written_more c.args.items.now c.loop-done.items c.write_at.new.self c.args.memory.now c.args.select c.args.offset c.args.address
-          c.loop-done.done (length part) c.args.count part c.requires.lawful.distinct c.requires.fits (omega arith)
+          c.loop-done.done (length part) part
           (c.part_in_frame-part.ensures.value ∙ ap (λ k. bytes_at c.args.memory.now (c.args.address + k) (length part)) c.from.ensures)
           c.loop-done.invariant.so_far c.write_at.ensures;
     }

@@ -11,5 +11,6 @@ returns c =
       c.pieces_of.ensures.value,
       c.pieces_of-2.ensures.value,
       ap pieces_of c.script_size.ensures.size,
+      c.most_commands-commands.ensures.value,
       ap length c.all.ensures.items,
     )

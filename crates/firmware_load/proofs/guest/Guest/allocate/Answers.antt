@@ -36,7 +36,7 @@ pub place-requires-clause-size : goal.place-requires-clause-size
 place-requires-clause-size g c = (asked_for g c).some
 
 pub bring-requires-clause-room : goal.bring-requires-clause-room
-bring-requires-clause-room g c = c.requires.ready.room (given_place g c).fewer
+bring-requires-clause-room g c = c.requires.ready.room
 
 pub bring-requires-clause-distinct : goal.bring-requires-clause-distinct
 bring-requires-clause-distinct g c =

@@ -10,7 +10,7 @@ use Rattle.firmware_load.proofs.LoadStates.{load_moved}
 use Rattle.firmware_load.proofs.loading.Loading.ask.Goals as goal
 
 pub start-requires-clause-room : goal.start-requires-clause-room
-start-requires-clause-room c = reading_starts c.requires.inside.kept c.requires.stage
+start-requires-clause-room c = reading_starts c.requires.inside.1.kept c.requires.stage
 
 pub returns-clause-after : goal.returns-clause-after
 returns-clause-after c =

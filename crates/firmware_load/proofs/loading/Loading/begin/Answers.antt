@@ -45,5 +45,5 @@ returns c =
     record {
       begun = begun;
       kept = begun_keeps NoAnswer c.args.items c.args.top c.args.fill (load_of l) begun;
-      inside = opening_inside c.args.items c.args.top c.args.fill l opening;
+      inside = (c.args.items, opening_inside c.args.items c.args.top c.args.fill l opening);
     }

@@ -12,21 +12,23 @@ use Rattle.firmware_load.proofs.loading.Loading.close.Goals as goal
 pub loop-self-init : goal.loop-self-init
 loop-self-init g c = record {
   inside = c.requires.inside;
+  begun_so = λ items inside. inside;
   closes = closes_none (MayAnswer g.A.ZoneAlloc.state g.A.ZoneAlloc.gives (g.A.ZoneAlloc.state c.args.place.now).begun) (load_of c.args.self.now);
-  asks = asks_nothing c.args.self.now (g.A.ZoneAlloc.state c.args.place.now);
+  asks = λ items inside. asks_nothing items c.args.self.now (g.A.ZoneAlloc.state c.args.place.now);
   handed = c.requires.handed;
   begun = refl;
 }
 
 pub take_turn-requires-clause-zones : goal.take_turn-requires-clause-zones
-take_turn-requires-clause-zones g c = rw (c.loop-self.invariant.begun, c.loop-self.invariant.asks.top) c.requires.zones
+take_turn-requires-clause-zones g c =
+    rw (c.loop-self.invariant.begun, (c.loop-self.invariant.asks c.requires.inside.0 c.requires.inside.1).top) c.requires.zones
 
 pub loop-self-smaller : goal.loop-self-smaller
 loop-self-smaller g c =
     let state = c.loop-self in
     turn_less_inside (MayAnswer g.A.ZoneAlloc.state g.A.ZoneAlloc.gives (g.A.ZoneAlloc.state state.place).begun) state.self c.take_turn.new.self
     (answers_are_lawful g.A.ZoneAlloc.state g.A.ZoneAlloc.gives (g.A.ZoneAlloc.state state.place).begun state.self.guest.memory.top
-    (rw (state.invariant.begun, state.invariant.asks.top) c.requires.zones)) state.invariant.inside (sym c.loop-self-test.ensures)
+    (rw (state.invariant.begun, (state.invariant.asks c.requires.inside.0 c.requires.inside.1).top) c.requires.zones)) state.invariant.inside (sym c.loop-self-test.ensures)
     c.take_turn.ensures.turn
 
 pub loop-self-preserved : goal.loop-self-preserved
@@ -40,10 +42,13 @@ loop-self-preserved g c =
     let running = sym c.loop-self-test.ensures in
     record {
       inside = c.take_turn.ensures.inside;
+      begun_so = λ items inside. c.take_turn.ensures.begun_so items (state.invariant.begun_so items inside);
       closes = closes_more May (load_of c.args.self.now) (load_of state.self) (load_of c.take_turn.new.self) lawful
-          (λ over. true≢false (sym (ap has_ended (state.invariant.asks.ended over).0 ∙ over) ∙ running)) state.invariant.closes running turn;
-      asks = asks_through c.args.self.now state.self c.take_turn.new.self alloc (g.A.ZoneAlloc.state state.place)
-          (g.A.ZoneAlloc.state c.take_turn.new.place) running state.invariant.asks c.take_turn.ensures.asks;
+          (λ over. true≢false (sym (ap has_ended ((state.invariant.asks c.requires.inside.0 c.requires.inside.1).ended over).0 ∙ over) ∙ running)) state.invariant.closes running turn;
+      asks = λ items inside.
+          asks_through items c.args.self.now state.self c.take_turn.new.self alloc (g.A.ZoneAlloc.state state.place)
+          (g.A.ZoneAlloc.state c.take_turn.new.place) running (state.invariant.asks items inside)
+          (c.take_turn.ensures.asks items (state.invariant.begun_so items inside));
       handed = c.take_turn.ensures.handed;
       begun = c.take_turn.ensures.begun ∙ state.invariant.begun;
     }

@@ -1,8 +1,9 @@
-use Rattle.std.proofs.Common.{◌≡◌}
+use Rattle.std.proofs.Common.{◌≡◌, List}
+use Rattle.cfg_directory.specs.declared.item.Item.{Item}
 use Rattle.command_acts.specs.Allocators.{MayAnswer}
 use Rattle.command_acts.specs.FilesInMemory.{placed_ranges}
 use Rattle.command_acts.specs.Runs.{Answers}
-use Rattle.firmware_load.specs.Inside.{load_of, IsInside, AsksOnTheWay}
+use Rattle.firmware_load.specs.Inside.{load_of, IsInside, KeepsInside, StaysBegun, AsksOnTheWay}
 use Rattle.firmware_load.proofs.Turns.{Closes, turns_left}
 use Rattle.firmware_load.proofs.loading.Loading.close.Given as goal
 
@@ -13,9 +14,11 @@ abbrev pub invariant-loop-self : goal.invariant-loop-self
 invariant-loop-self g l =
     let May : Answers = MayAnswer g.A.ZoneAlloc.state g.A.ZoneAlloc.gives (g.A.ZoneAlloc.state l.initial.place).begun in
     record {
-      inside : IsInside l.self;
+      inside : KeepsInside l.self;
+      begun_so : StaysBegun l.initial.self l.self;
       closes : Closes May (load_of l.initial.self) (load_of l.self);
-      asks : AsksOnTheWay l.initial.self l.self (g.A.ZoneAlloc.state l.initial.place) (g.A.ZoneAlloc.state l.place);
+      asks : (items : List Item) → IsInside items l.initial.self
+          → AsksOnTheWay items l.initial.self l.self (g.A.ZoneAlloc.state l.initial.place) (g.A.ZoneAlloc.state l.place);
       handed : (g.A.ZoneAlloc.state l.place).handed ≡ placed_ranges l.self.guest.placements.placed.items;
       begun : (g.A.ZoneAlloc.state l.place).begun ≡ (g.A.ZoneAlloc.state l.initial.place).begun;
     }

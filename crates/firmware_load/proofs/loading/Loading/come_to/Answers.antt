@@ -12,11 +12,11 @@ carry_out-self-requires-clause-ready g c =
     let entry = c.in-Some.entry.now in
     let read = c.in-Some.ensures.lookup in
     let found = command_found c.deref.result.now l.script.items c.args.index entry c.deref.ensures.value read.3.0 read.1 in
-    subst (λ (listed : List Listed). IsReady l.guest listed entry) (sym c.deref-in-Some.ensures.value)
+    subst (λ (listed : List Listed). IsReady l.guest listed) (sym c.deref-in-Some.ensures.value)
     (is_ready l c.args.index entry c.requires.inside c.requires.stage found)
 
 pub carry_out-self-requires-clause-index : goal.carry_out-self-requires-clause-index
-carry_out-self-requires-clause-index g c = omega (arith, command_small c.requires.inside.kept c.requires.stage)
+carry_out-self-requires-clause-index g c = omega (arith, command_small c.requires.inside.1.kept c.requires.stage)
 
 pub returns-in-Some-clause-steps : goal.returns-in-Some-clause-steps
 returns-in-Some-clause-steps g c =

@@ -9,7 +9,8 @@ use Rattle.firmware_load.proofs.OnRun.{follows_more, follows_all, asks_through, 
 use Rattle.firmware_load.proofs.loading.Loading.follow.Goals as goal
 
 pub step-requires-clause-zones : goal.step-requires-clause-zones
-step-requires-clause-zones g c = rw (c.loop-plan.invariant.begun, c.loop-plan.invariant.asks.top) c.requires.zones
+step-requires-clause-zones g c =
+    rw (c.loop-plan.invariant.begun, (c.loop-plan.invariant.asks c.requires.inside.0 c.requires.inside.1).top) c.requires.zones
 
 pub loop-plan-preserved : goal.loop-plan-preserved
 loop-plan-preserved g c =
@@ -25,14 +26,17 @@ loop-plan-preserved g c =
     let given = left_taken (g.C.Schedule.plan state.plan) (g.C.Schedule.plan c.next.new.self) c.in-Some.event c.in-Some.ensures.taken in
     record {
       inside = c.step.ensures.inside;
+      begun_so = λ items inside. c.step.ensures.begun_so items (state.invariant.begun_so items inside);
       follows = follows_more May (load_of c.args.self.now) (load_of state.self) (load_of c.step.new.self) c.in-Some.event
           (g.C.Schedule.plan c.args.plan.now).left (g.C.Schedule.plan state.plan).left (g.C.Schedule.plan c.next.new.self).left lawful
           state.invariant.follows
           given.0 running steps;
       events = given.1 ∙ state.invariant.events;
-      asks = asks_through c.args.self.now state.self c.step.new.self alloc alloc_then alloc_now running state.invariant.asks
-          (step_asks May c.in-Some.event state.self c.step.new.self alloc_then alloc_now (rw state.invariant.asks.top lawful) state.invariant.inside running
-          steps c.step.ensures.no_room c.step.ensures.sound);
+      asks = λ items inside.
+          let asked = state.invariant.asks items inside in
+          asks_through items c.args.self.now state.self c.step.new.self alloc alloc_then alloc_now running asked
+          (step_asks May items c.in-Some.event state.self c.step.new.self alloc_then alloc_now (rw asked.top lawful)
+          (state.invariant.begun_so items inside) running steps c.step.ensures.no_room c.step.ensures.sound);
       handed = c.step.ensures.handed;
       begun = c.step.ensures.begun ∙ state.invariant.begun;
     }

@@ -2,8 +2,12 @@ use Rattle.command_acts.specs.Allocators.{MayAnswer}
 use Rattle.command_acts.specs.Runs.{Answers}
 use Rattle.firmware_load.specs.Inside.{load_of}
 use Rattle.firmware_load.proofs.Loaded.{IsClosed, load_over, asks_in_all, without_room}
-use Rattle.firmware_load.proofs.Opening.{opening_on_run}
+use Rattle.firmware_load.proofs.Opening.{opening_on_run, opening_inside_own}
 use Rattle.firmware_load.proofs.loading.Loading.load.Goals as goal
+
+pub close-requires-clause-zones : goal.close-requires-clause-zones
+close-requires-clause-zones g c =
+    rw (c.follow.ensures.begun, (c.follow.ensures.asks c.requires.inside.0 c.requires.inside.1).top) c.requires.zones
 
 pub returns-clause-loaded : goal.returns-clause-loaded
 returns-clause-loaded g c =
@@ -19,14 +23,18 @@ pub returns-clause-no_room : goal.returns-clause-no_room
 returns-clause-no_room g c =
     let alloc = g.A.ZoneAlloc.state c.args.place.now in
     let alloc_now = g.A.ZoneAlloc.state c.close.new.place in
-    (without_room c.args.self.now c.close.new.self alloc alloc_now c.answer.result
-    (asks_in_all c.args.self.now c.follow.new.self c.close.new.self alloc (g.A.ZoneAlloc.state c.follow.new.place) alloc_now c.follow.ensures.asks
-    c.close.ensures.asks) c.requires.fresh.stage c.answer.ensures).0
+    let items = c.args.self.now.guest.device.items in
+    let own = opening_inside_own c.args.self.now c.requires.inside c.requires.fresh.stage in
+    (without_room items c.args.self.now c.close.new.self alloc alloc_now c.answer.result
+    (asks_in_all items c.args.self.now c.follow.new.self c.close.new.self alloc (g.A.ZoneAlloc.state c.follow.new.place) alloc_now
+    (c.follow.ensures.asks items own) (c.close.ensures.asks items (c.follow.ensures.begun_so items own))) c.requires.fresh.stage c.answer.ensures).0
 
 pub returns-clause-sound : goal.returns-clause-sound
 returns-clause-sound g c =
     let alloc = g.A.ZoneAlloc.state c.args.place.now in
     let alloc_now = g.A.ZoneAlloc.state c.close.new.place in
-    (without_room c.args.self.now c.close.new.self alloc alloc_now c.answer.result
-    (asks_in_all c.args.self.now c.follow.new.self c.close.new.self alloc (g.A.ZoneAlloc.state c.follow.new.place) alloc_now c.follow.ensures.asks
-    c.close.ensures.asks) c.requires.fresh.stage c.answer.ensures).1
+    let items = c.args.self.now.guest.device.items in
+    let own = opening_inside_own c.args.self.now c.requires.inside c.requires.fresh.stage in
+    (without_room items c.args.self.now c.close.new.self alloc alloc_now c.answer.result
+    (asks_in_all items c.args.self.now c.follow.new.self c.close.new.self alloc (g.A.ZoneAlloc.state c.follow.new.place) alloc_now
+    (c.follow.ensures.asks items own) (c.close.ensures.asks items (c.follow.ensures.begun_so items own))) c.requires.fresh.stage c.answer.ensures).1

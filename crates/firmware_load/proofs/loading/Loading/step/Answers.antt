@@ -2,23 +2,50 @@ use Rattle.load_states.specs.declared.event.Event.TheVariants.{Device, Firmware,
 use Rattle.firmware_load.proofs.StepInside.{inside_after}
 use Rattle.firmware_load.proofs.loading.Loading.step.Goals as goal
 
+pub returns-in-Device-clause-begun_so : goal.returns-in-Device-clause-begun_so
+returns-in-Device-clause-begun_so g c =
+    let A = g.A.ZoneAlloc in
+    let place = c.args.place.now in
+    inside_after {A = g.row.A.Denot} A.state A.gives (A.state place).begun c.args.self.now c.move_piece.new.self (Device c.in-Device.bytes)
+    c.requires.zones c.move_piece.ensures.steps c.move_piece.ensures.rooms
+
 pub returns-in-Device-clause-inside : goal.returns-in-Device-clause-inside
 returns-in-Device-clause-inside g c =
     let A = g.A.ZoneAlloc in
+    let place = c.args.place.now in (
+      c.requires.inside.0,
+      inside_after {A = g.row.A.Denot} A.state A.gives (A.state place).begun c.args.self.now c.move_piece.new.self (Device c.in-Device.bytes)
+          c.requires.zones c.move_piece.ensures.steps c.move_piece.ensures.rooms c.requires.inside.0 c.requires.inside.1,
+    )
+
+pub returns-in-Firmware-clause-begun_so : goal.returns-in-Firmware-clause-begun_so
+returns-in-Firmware-clause-begun_so g c =
+    let A = g.A.ZoneAlloc in
     let place = c.args.place.now in
-    inside_after {A = g.row.A.Denot} A.state A.gives (A.state place).begun c.args.self.now c.move_piece.new.self
-    (Device c.in-Device.bytes) c.requires.zones c.requires.inside c.move_piece.ensures.steps c.move_piece.ensures.rooms
+    inside_after {A = g.row.A.Denot} A.state A.gives (A.state place).begun c.args.self.now c.firmware_step.new.self Firmware
+    c.requires.zones c.firmware_step.ensures.steps c.firmware_step.ensures.rooms
 
 pub returns-in-Firmware-clause-inside : goal.returns-in-Firmware-clause-inside
 returns-in-Firmware-clause-inside g c =
     let A = g.A.ZoneAlloc in
+    let place = c.args.place.now in (
+      c.requires.inside.0,
+      inside_after {A = g.row.A.Denot} A.state A.gives (A.state place).begun c.args.self.now c.firmware_step.new.self Firmware
+          c.requires.zones c.firmware_step.ensures.steps c.firmware_step.ensures.rooms c.requires.inside.0 c.requires.inside.1,
+    )
+
+pub returns-in-Other-clause-begun_so : goal.returns-in-Other-clause-begun_so
+returns-in-Other-clause-begun_so g c =
+    let A = g.A.ZoneAlloc in
     let place = c.args.place.now in
-    inside_after {A = g.row.A.Denot} A.state A.gives (A.state place).begun c.args.self.now c.firmware_step.new.self Firmware
-    c.requires.zones c.requires.inside c.firmware_step.ensures.steps c.firmware_step.ensures.rooms
+    inside_after {A = g.row.A.Denot} A.state A.gives (A.state place).begun c.args.self.now c.write_by_other.new.self (Other c.in-Other.addr c.in-Other.byte)
+    c.requires.zones c.write_by_other.ensures.steps c.write_by_other.ensures.rooms
 
 pub returns-in-Other-clause-inside : goal.returns-in-Other-clause-inside
 returns-in-Other-clause-inside g c =
     let A = g.A.ZoneAlloc in
-    let place = c.args.place.now in
-    inside_after {A = g.row.A.Denot} A.state A.gives (A.state place).begun c.args.self.now c.write_by_other.new.self
-    (Other c.in-Other.addr c.in-Other.byte) c.requires.zones c.requires.inside c.write_by_other.ensures.steps c.write_by_other.ensures.rooms
+    let place = c.args.place.now in (
+      c.requires.inside.0,
+      inside_after {A = g.row.A.Denot} A.state A.gives (A.state place).begun c.args.self.now c.write_by_other.new.self (Other c.in-Other.addr c.in-Other.byte)
+          c.requires.zones c.write_by_other.ensures.steps c.write_by_other.ensures.rooms c.requires.inside.0 c.requires.inside.1,
+    )

@@ -8,8 +8,8 @@ overflow_cast-count c =
     omega (
       arith,
       count_small c.args.self.now.guest.device.items (load_of c.args.self.now) c.buffered.result.now c.get_be-count.result
-          c.requires.inside.kept.lawful
-          (over_at c.requires.inside.kept c.requires.stage c.requires.over) c.buffered.ensures.bytes c.get_be-count.ensures,
+          c.requires.inside.1.kept.device.items
+          (over_at c.requires.inside.1.kept c.requires.stage c.requires.over) c.buffered.ensures.bytes c.get_be-count.ensures,
     )
 
 pub overflow_mul-self : goal.overflow_mul-self
@@ -17,6 +17,6 @@ overflow_mul-self c =
     omega (
       arith,
       count_small c.args.self.now.guest.device.items (load_of c.args.self.now) c.buffered.result.now c.get_be-count.result
-          c.requires.inside.kept.lawful
-          (over_at c.requires.inside.kept c.requires.stage c.requires.over) c.buffered.ensures.bytes c.get_be-count.ensures,
+          c.requires.inside.1.kept.device.items
+          (over_at c.requires.inside.1.kept c.requires.stage c.requires.over) c.buffered.ensures.bytes c.get_be-count.ensures,
     )

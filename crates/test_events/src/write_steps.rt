@@ -1,0 +1,148 @@
+//! Single steps of a WritePointer: the skip, the write in pieces, and what memory and the file hold between them.
+
+use crate::files::{WRITTEN_FILES, items_of};
+use crate::rig::Transfer::{self, Read, Skip, Write};
+use crate::rig::{Content, Held, NO_BUFFER, NO_DESCRIPTOR};
+use crate::scripts::HIGH;
+use crate::scripts::Line::{self, Allocate, WritePointer};
+use crate::steps::{Seen, Turns, WHOLE, Walk, walks};
+use firmware_load::Event::{Device, Firmware, Other};
+use firmware_load::{Event, State};
+use std::test::Fail;
+
+// The number is 0x3000000 + 3.
+static SCRIPT: [Line; 2] = [
+    Allocate("etc/goal", 64, HIGH),
+    WritePointer("etc/cell", "etc/goal", 2, 3, 4),
+];
+
+static TRANSFERS: [Transfer; 6] = [
+    Read(0x19, 0, 4, 0x8000),
+    Read(0x19, 4, 256, 0x8000),
+    Read(0x23, 0, 256, 0x8000),
+    Read(0x21, 0, 5, 0x300_0000),
+    Skip(0x20, 2),
+    Write(0x20, 2, 4),
+];
+
+const UNWRITTEN: Content<'static> = Content(
+    0x20,
+    b"\x10\x11\x12\x13\x14\x15\x16\x17\x18\x19\x1a\x1b",
+);
+
+// Three bytes of the number are moved, and then all.
+const PARTLY: Content<'static> = Content(0x20, b"\x10\x11\x03\0\0\x15\x16\x17\x18\x19\x1a\x1b");
+
+const WHOLLY: Content<'static> = Content(0x20, b"\x10\x11\x03\0\0\x03\x16\x17\x18\x19\x1a\x1b");
+
+// The buffer begins with the script's first command, and then with the number and what is left of that.
+const COMMAND: Held = Held(0x8000, b"\x01\0\0\0etc/goal\0");
+
+const NUMBER: Held = Held(0x8000, b"\x03\0\0\x03etc/goal\0");
+
+// The file is placed, and its read is over.
+const PLACED: Seen = Seen(
+    State::Running,
+    false,
+    4,
+    &[
+        Held(0x7000, b"\0\0\0\0\0\0\0\x05\0\0\0\0\x03\0\0\0"),
+        COMMAND,
+    ],
+    &[UNWRITTEN],
+);
+
+// The skip of 2 bytes is over at once.
+const SKIPPED: Seen = Seen(
+    State::Running,
+    false,
+    5,
+    &[Held(0x7000, b"\0\0\0\0\0\0\0\x02\0\0\0\0\0\0\0\0"), COMMAND],
+    &[UNWRITTEN],
+);
+
+const ASKED: Seen = Seen(
+    State::Running,
+    true,
+    5,
+    &[
+        Held(0x7000, b"\0\0\0\x10\0\0\0\x04\0\0\0\0\0\0\x80\0"),
+        NUMBER,
+    ],
+    &[UNWRITTEN],
+);
+
+const IN_PIECES: Seen = Seen(
+    State::Running,
+    true,
+    5,
+    &[
+        Held(0x7000, b"\0\0\0\x10\0\0\0\x04\0\0\0\0\0\0\x80\0"),
+        NUMBER,
+    ],
+    &[PARTLY],
+);
+
+const WRITTEN: Seen = Seen(
+    State::Running,
+    false,
+    6,
+    &[
+        Held(0x7000, b"\0\0\0\0\0\0\0\x04\0\0\0\0\0\0\x80\0"),
+        NUMBER,
+    ],
+    &[WHOLLY],
+);
+
+const DONE: Seen = Seen(
+    State::Done,
+    false,
+    6,
+    &[
+        NO_DESCRIPTOR,
+        NO_BUFFER,
+        Held(0x300_0000, b"\xe1\xe2\xe3\xe4\xe5\xa5"),
+    ],
+    &[WHOLLY],
+);
+
+// Writes of other processors, which have no effect: to the lowest byte of the control word, and to both ends of the number.
+const CONTROL: Event = Other {
+    addr: 0x7003,
+    byte: 0,
+};
+
+const FIRST: Event = Other {
+    addr: 0x8000,
+    byte: 0xEE,
+};
+
+const LAST: Event = Other {
+    addr: 0x8003,
+    byte: 0xEE,
+};
+
+// It takes two steps each for the number of files, the entries, the script and the placed file; then one that comes to the WritePointer and
+// skips, one that sees this, one that asks for the write, steps that look until it is over, and one for the end.
+static TURNS: [Turns; 10] = [
+    Turns(8, &[Firmware, WHOLE], PLACED),
+    Turns(1, &[Firmware], SKIPPED),
+    Turns(1, &[Device(9), Firmware, Device(9)], SKIPPED),
+    Turns(1, &[Firmware], ASKED),
+    Turns(2, &[Firmware, Device(0), CONTROL, FIRST, LAST], ASKED),
+    Turns(3, &[Device(1), FIRST, LAST, Firmware, CONTROL], IN_PIECES),
+    Turns(2, &[Firmware, Device(0)], IN_PIECES),
+    Turns(1, &[Device(1), Device(9)], WRITTEN),
+    Turns(1, &[Firmware], WRITTEN),
+    Turns(2, &[Firmware, WHOLE], DONE),
+];
+
+#[test]
+fn steps_of_a_write(rt: HostRuntime) -> Result<(), Fail> {
+    let items = items_of(rt.alloc(), &WRITTEN_FILES, 0, &SCRIPT)?;
+    let walk = Walk {
+        transfers: &TRANSFERS,
+        turns: &TURNS,
+    };
+    walks(&rt, rt.alloc(), items, &walk)
+}
