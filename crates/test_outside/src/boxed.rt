@@ -18,9 +18,10 @@ enum Tree {
 
 #[test]
 fn a_value_in_a_box(rt: HostRuntime) -> Result<(), Fail> {
-    let boxed = Boxed::new(rt.alloc(), 7u32)?;
+    let mut boxed = Boxed::new(rt.alloc(), 7u32)?;
     assert_eq!(rt; *boxed.get(), 7);
-    assert_eq!(rt; boxed.into_inner(), 7);
+    *boxed.get_mut() = 8;
+    assert_eq!(rt; boxed.into_inner(), 8);
     Ok(())
 }
 
