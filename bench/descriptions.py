@@ -5,9 +5,9 @@ product.
 usage: descriptions.py FOLDER
 
 `greatest.toml` has as much of everything as a description may have: each list is full, and each processor and each NMI has the longer of its
-two entries. Its texts have 64 bytes, but those of sockets, modules and slots 24, since an image has no room for more. `half.toml` has half as
-much of each list; bench/run.sh doesn't run it, it is there to count instructions by hand. judges/run.sh has the tables of `greatest.toml`
-judged, too.
+two entries. Its texts have 64 bytes, but those of sockets, modules and slots 24, and it has no id of its generation, since an image has no
+room for more. `half.toml` has half as much of each list; bench/run.sh doesn't run it, it is there to count instructions by hand.
+judges/run.sh has the tables of `greatest.toml` judged, too.
 
 `bridge.toml` has no lists but the windows and the routes of a bridge, both full, and `processors.toml` as many processors beside as there
 may be; neither has a text.

@@ -9,7 +9,7 @@ FACP.expected, FACS.expected and DSDT.expected, where it has the table apic APIC
 SLIT.expected, where its bridge has an ecam MCFG.expected, and where it has the table hpet HPET.expected: the lines that the tool must print, in
 this order, without what stands before them in the line. A text that the description leaves out gives no line. Of an FADT the addresses of
 the FACS and of the DSDT give none either, since they aren't described: there is such a table for iasl only where dump_tables.py finds one at
-the address.
+the address. Nor does in a DSDT the address of the id of the machine's generation.
 """
 
 import pathlib
@@ -516,7 +516,8 @@ def hpet_lines(hpet):
 
 # The lines of a DSDT, which iasl prints as a text that can be compiled.
 
-def dsdt_lines(machine):
+def dsdt_lines(machine, id_address=None):
+    """With the line of the address of the id of the machine's generation, where that is known."""
     oem_id, oem_table_id = machine["acpi"].get("oem_id", "BOCHS").ljust(6), machine["acpi"].get("oem_table_id", "BXPC").ljust(8)
     return [
         '*     Signature        "DSDT"',
@@ -528,7 +529,7 @@ def dsdt_lines(machine):
         "*     Compiler Version 0x00000001 (1)",
         f'DefinitionBlock ("", "DSDT", 2, "{oem_id}", "{oem_table_id}", 0x00000001)',
         *["{", r"Scope (\_SB)", "{"],
-        *(line for device in devices_of(machine) for line in device_lines(device)),
+        *(line for device in devices_of(machine, id_address) for line in device_lines(device)),
         *["}", "}"],
     ]
 

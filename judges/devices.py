@@ -1,12 +1,13 @@
 """The devices that a guest finds in the DSDT of a description (docs/FORMATS.md), and what iasl and acpiexec print of them: what described.py
 and judge_dsdt.py share.
 
-A device has a name of four characters and named values in order. A value is a number, a text, an id in EISA form, resources, or routes.
+A device has a name of four characters and named values in order. A value is a number, a text, an id in EISA form, resources, routes, or an
+address.
 """
 
 from typing import NamedTuple
 
-# iasl's words for ids, and for the names that the standard has (ACPI 6.5, 5.6.8).
+# iasl's words for ids that it knows, and for the names that the standard has (ACPI 6.5, 5.6.8).
 IDS = {
     "PNP0103": "HPET System Timer",
     "PNP0303": "IBM Enhanced Keyboard (101/102-key, PS/2 Mouse)",
@@ -63,6 +64,12 @@ class Routes(NamedTuple):
     routes: list
 
 
+class Address(NamedTuple):
+    """An address as a package of its two halves, the low one first; None where it isn't known."""
+
+    number: int | None
+
+
 class Device(NamedTuple):
     name: str
     values: dict
@@ -70,7 +77,8 @@ class Device(NamedTuple):
 
 # The devices of a description, in order.
 
-def devices_of(machine):
+def devices_of(machine, id_address=None):
+    """With the address of the id of the machine's generation, where that is known: no description tells it."""
     power = machine.get("power", {"rtc": False, "keyboard": False})
     bridge, timer = machine.get("bridge"), machine.get("hpet")
     return [
@@ -80,6 +88,7 @@ def devices_of(machine):
         *([KEYBOARD] if power.get("keyboard", True) else []),
         *([event_timer(timer)] if timer is not None else []),
         *(processor(number) for number in range(len(machine.get("cpu", [])))),
+        *([generation_id(id_address)] if "generation" in machine else []),
     ]
 
 
@@ -109,6 +118,11 @@ def processor(number):
     return Device(f"{0xC000 + number:04X}", {"_HID": "ACPI0007", "_UID": number})
 
 
+def generation_id(address):
+    """The names and the texts are those of QEMU's device (docs/specs/vmgenid.rst)."""
+    return Device("VGEN", {"_HID": "QEMUVGID", "_CID": "VM_Gen_Counter", "ADDR": Address(address)})
+
+
 def bare(name):
     """A name as both programs print it in a path, without the underscores at its end."""
     return name.rstrip("_")
@@ -129,8 +143,10 @@ def value_lines(name, value):
             return name_lines(name, "Package (0x00) {}")
         case Routes(routes):
             return opened_lines(name, f"Package ({hexadecimal(len(routes))})", route_lines(routes))
+        case Address(number):
+            return opened_lines(name, "Package (0x02)", half_lines(number))
         case str():
-            return name_lines(name, f'"{value}" /* {IDS[value]} */')
+            return name_lines(name, f'"{value}" /* {IDS[value]} */' if value in IDS else f'"{value}"')
         case int():
             return name_lines(name, number_text(value))
         case list():
@@ -138,12 +154,21 @@ def value_lines(name, value):
 
 
 def name_lines(name, value):
-    return [f"Name ({name}, {value})  // {name}: {NAMES[name]}"]
+    return [f"Name ({name}, {value}){comment(name)}"]
 
 
 def opened_lines(name, value, inside):
     """A name whose value goes on inside braces."""
-    return [f"Name ({name}, {value}  // {name}: {NAMES[name]}", "{", *inside, "})"]
+    return [f"Name ({name}, {value}{comment(name)}", "{", *inside, "})"]
+
+
+def comment(name):
+    return f"  // {name}: {NAMES[name]}" if name in NAMES else ""
+
+
+def half_lines(number):
+    """An address below 4 GiB has a low half alone, which is a double word; where it isn't known that line is left out."""
+    return ["Zero"] if number is None else [f"0x{number:08X}, ", "Zero"]
 
 
 def number_text(number):
@@ -212,6 +237,8 @@ def object_text(value):
             return f"Integer = {eisa_number(text):016X}"
         case Routes(routes):
             return f"Package Elements {len(routes):02X}"
+        case Address():
+            return "Package Elements 02"
         case str():
             return f'String Len {len(value):02X} "{value}"'
         case int():

@@ -4,17 +4,22 @@ judges/run.sh alone.
 
 usage: judge_dsdt.py DESCRIPTION FOLDER
 
-FOLDER has what tools/dump_tables.py cuts out of the dump of a machine with power management, DSDT.aml and FACP.aml among it. What must hold:
+FOLDER has the dump of a machine with power management, as `dump`, and what tools/dump_tables.py cuts out of it, DSDT.aml and FACP.aml among
+it. What must hold:
 
 - both pointers of the FADT to the DSDT lead to one place (ACPI 6.5, 5.2.9);
-- `iasl -d` prints the devices of the description (judges/devices.py), line by line, and nothing else;
-- that text, compiled again by `iasl -on`, which leaves out nothing, is the same table, but for the checksum and what tells of the compiler;
+- where an id of the machine's generation is described, the low half of the address that `ADDR` tells is where it stands in memory, its first
+  three fields low byte first (QEMU, docs/specs/vmgenid.rst);
+- `iasl -d` prints the devices of the description (judges/devices.py), with that address, line by line, and nothing else;
+- that text, compiled again by `iasl -on`, which leaves out nothing, is the same table, but for the checksum and what tells of the compiler.
+  iasl is told to take an id that doesn't end in hexadecimal digits, as the one that QEMU's device has;
 - acpiexec loads the table without an error, its namespace has the devices with their values, and no others of the table; and it decodes each
   `_PRT` and each `_CRS` to what is described. It warns of a `_PRT` without routes, and of nothing else.
 
-Then some bits are flipped, each in a copy that still sums to zero: of the last address of a range, of a GSI, of an IRQ, of a `_UID` and of a
-device's name, as far as there are such. `iasl -d` must print something else of each, and acpiexec of a copy with all of them. And where the
-table's first package length has a byte more than it needs, the text compiled again must not be the same table.
+Then some bits are flipped, each in a copy that still sums to zero: of the last address of a range, of a GSI, of an IRQ, of a `_UID`, of a
+device's name and of the address of the id, as far as there are such. `iasl -d` must print something else of each, and acpiexec of a copy with
+all of them but the last, which it doesn't print. The id mustn't be found at its address with a bit flipped. And where the table's first package
+length has a byte more than it needs, the text compiled again must not be the same table.
 
 Status 0: all of this holds; 1: something doesn't, each with a line; 2: a file isn't there; 3: a program isn't there.
 """
@@ -27,13 +32,14 @@ import subprocess
 import sys
 import tempfile
 import tomllib
+import uuid
 
 sys.path.append(str(pathlib.Path(__file__).resolve().parent.parent / "tools"))  # whose modules the judges share
 
 from described import dsdt_lines
 from devices import decoded_lines, devices_of, namespace_lines
 from made_roots import summed
-from memory_dump import number_at
+from memory_dump import NotADump, NotFound, number_at, read_dump
 
 TOOLS = ["iasl", "acpiexec"]
 SHOWN = 5  # of the faults
@@ -41,6 +47,11 @@ SHOWN = 5  # of the faults
 CHECKSUM = 9
 COMPILERS = [CHECKSUM, *range(28, 36)]  # the bytes of a header that a compiler makes: the checksum, its id and its revision
 SCOPE = 36  # where the only term begins
+TAKEN = ["-vw", "6035"]  # of iasl, what it doesn't complain of: an id that doesn't end in hexadecimal digits
+ID_SIZE = 16
+
+# The address of the id of a machine's generation: a name whose value is a package of two values, a double word and zero (20.2.5.4).
+ID_ADDRESS = re.compile(rb"\x08ADDR\x12\x08\x02\x0c(.{4})\x00", re.DOTALL)
 
 # What acpiexec says that is no error: a device has no _SRS, and a bridge may have no routes.
 KNOWN = [re.compile(r"AcpiSetCurrentResources failed: AE_NOT_FOUND"), re.compile(r"ACPI Warning: .*_PRT: Return Package has no elements .*")]
@@ -62,8 +73,10 @@ FLIPS = {
     "an IRQ": rb"\x22.(?=.\x79\x00)",
     "a _UID": rb"\x08_UID(?:[\x00\x01]|\x0a.|\x0b..)",
     "a device's name": rb"\x5b\x82(?:[\x00-\x3f]|[\x40-\x4f].|[\x80-\x8f]..).{4}",
+    "the address of the id": rb"\x08ADDR\x12\x08\x02\x0c.",
 }
 IN_NAMESPACE = ["a _UID", "a device's name"]
+IN_TEXT = ["the address of the id"]  # which iasl alone prints
 
 
 def run(folder, *words):
@@ -87,9 +100,19 @@ def inside(text):
 
 
 class Judge:
-    def __init__(self, machine):
-        self.devices = devices_of(machine)
-        self.lines = inside("\n".join(dsdt_lines(machine)))
+    def __init__(self, machine, memory, id_address):
+        self.devices = devices_of(machine, id_address)
+        self.lines = inside("\n".join(dsdt_lines(machine, id_address)))
+        self.id = id_of(machine)
+        self.memory = memory
+        self.id_address = id_address
+
+    def id_faults(self, address):
+        """What is wrong with the id of the machine's generation, where it is told to be at an address."""
+        if (self.id is None) != (address is None):
+            yield "ADDR tells an address, and no id is described" if self.id is None else "no ADDR tells where the id is"
+        elif self.id is not None and (found := self.memory.read(address, ID_SIZE, "the id")) != self.id:
+            yield f"at {address:#x}, which ADDR tells, stands {found.hex()}, and not the id {self.id.hex()}"
 
     def text_faults(self, folder):
         """What is wrong with the text that iasl makes of the table in a folder."""
@@ -102,7 +125,7 @@ class Judge:
 
     def again_faults(self, folder):
         """What is wrong with that text compiled again."""
-        status, said = run(folder, "iasl", "-on", "-p", "again", "DSDT.dsl")
+        status, said = run(folder, "iasl", "-on", *TAKEN, "-p", "again", "DSDT.dsl")
         if status != 0 or "0 Errors, 0 Warnings" not in said:
             yield f"iasl -on ends with status {status}: {said}"
             return
@@ -145,6 +168,7 @@ class Judge:
             "an IRQ": "Interrupt" in kinds,
             "a _UID": any("_UID" in device.values for device in self.devices),
             "a device's name": bool(self.devices),
+            "the address of the id": self.id is not None,
         }
 
     def flips(self, table):
@@ -160,18 +184,31 @@ class Judge:
         for what, at in flips.items():
             if at is None or not self.faults_of(flipped(table, at), self.text_faults):
                 yield f"no judge: iasl -d finds nothing wrong with {what} at byte {at}"
-        ends = [at for what, at in flips.items() if what not in IN_NAMESPACE]
+        ends = [at for what, at in flips.items() if what not in IN_NAMESPACE + IN_TEXT]
         names = [at for what, at in flips.items() if what in IN_NAMESPACE]
         for what, places, kind in ("resources", ends, self.resource_faults), ("namespace", names, self.namespace_faults):
             if places and not self.faults_of(flipped(table, *places), kind):
                 yield f"no judge: acpiexec -b {what} finds nothing wrong with bytes {places}"
         if not self.faults_of(longer(table), self.text_faults, self.again_faults):
             yield "no judge: iasl -on finds nothing wrong with a longer spelling"
+        if self.id is not None and not [*self.id_faults(self.id_address ^ 1)]:
+            yield "no judge: the id is found at an address with a bit flipped, too"
 
     def all_faults(self, table, fadt):
-        faults = [*pointer_faults(fadt)]
+        faults = [*pointer_faults(fadt), *self.id_faults(self.id_address)]
         faults += self.faults_of(table, self.text_faults, self.again_faults, self.namespace_faults, self.resource_faults)
         return faults or [*self.flip_faults(table)]
+
+
+def id_of(machine):
+    """The id of a machine's generation as it stands in memory, or None."""
+    return uuid.UUID(machine["generation"]).bytes_le if "generation" in machine else None
+
+
+def id_address_in(table):
+    """The low half of the address of that id, which a table tells, or None."""
+    found = ID_ADDRESS.search(table)
+    return None if found is None else number_at(found[1], 0, 4)
 
 
 def object_line(level, name, kind, value):
@@ -217,18 +254,23 @@ def main(description, folder):
         return 3
     try:
         machine = tomllib.loads(pathlib.Path(description).read_text())
-        table, fadt = (pathlib.Path(folder, name).read_bytes() for name in ("DSDT.aml", "FACP.aml"))
-    except OSError as refusal:
+        table, fadt, dump = (pathlib.Path(folder, name).read_bytes() for name in ("DSDT.aml", "FACP.aml", "dump"))
+        memory = read_dump(dump)
+    except (OSError, NotADump) as refusal:
         print(f"judge_dsdt.py: {refusal}", file=sys.stderr)
         return 2
-    judge = Judge(machine)
-    faults = judge.all_faults(table, fadt)
+    judge = Judge(machine, memory, id_address_in(table))
+    try:
+        faults = judge.all_faults(table, fadt)
+    except NotFound as refusal:
+        faults = [str(refusal)]
     for line in faults[:SHOWN]:
         print(line)
     if faults[SHOWN:]:
         print(f"and {len(faults) - SHOWN} more")
     if not faults:
-        print(f"{len(judge.devices)} devices as described, {len(table)} bytes that are compiled again, and each flipped bit is found")
+        its_id = "" if judge.id is None else f", the id at {judge.id_address:#x}"
+        print(f"{len(judge.devices)} devices as described{its_id}, {len(table)} bytes that are compiled again, and each flipped bit is found")
     return 1 if faults else 0
 
 

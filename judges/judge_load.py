@@ -2,42 +2,54 @@
 """Judges the dump that `vmtables load` makes of a container (docs/FORMATS.md has both). It is no part of the product: it serves the
 checks of judges/run.sh alone.
 
-usage: judge_load.py CONTAINER DUMP TOP_MIB FILL
+usage: judge_load.py CONTAINER DUMP TOP_MIB FILL [MACHINE]
 
-What must hold is what a firmware has to make of the files by QEMU's docs/specs/fw_cfg and hw/acpi/bios-linker-loader.c:
+MACHINE is pc or q35, where the container has the files of that machine of QEMU (tools/qemu_machine.py). What must hold is what a firmware has to make of the files by QEMU's docs/specs/fw_cfg and hw/acpi/bios-linker-loader.c:
 
 - each file that a command allocates stands at one place of its zone, aligned and apart from the others, with its bytes but for
   its pointers and its sums, and all other memory holds FILL;
 - each pointer is the place of the file that it leads to plus the number that it held;
 - each range that a command sums is zero in sum, and so are the RSDP and each ACPI table that it leads to (ACPI 6.5, 5.2), but
-  for the FACS, which has no sum.
+  for the FACS, which has no sum;
+- where MACHINE has an id of its generation, the number `VGIA` of an SSDT and 40 more are where it stands, its first three fields low byte
+  first (QEMU's hw/acpi/vmgenid.c and docs/specs/vmgenid.rst).
 
-Then it must find a fault wherever one of these bits is flipped: of the first byte of a file, of each pointer and each sum, and of
-the first and the last byte of memory.
+Then it must find a fault wherever one of these bits is flipped: of the first byte of a file, of each pointer and each sum, of the first and
+the last byte of memory, and of the id.
 
 Status 0: all of this holds; 1: something doesn't, each with a line; 2: CONTAINER is no container, or DUMP is no dump.
 """
 
 import pathlib
 import sys
+import uuid
 
 sys.path.append(str(pathlib.Path(__file__).resolve().parent.parent / "tools"))  # whose modules the judges share
 
 from fw_cfg_files import SCRIPT, AddChecksum, AddPointer, Allocate, NotAContainer, read_container, read_script
 from memory_dump import NotADump, NotFound, byte_sum, number_at, reachable_tables, read_dump, root_pointer, root_table
+from qemu_machine import MACHINES
 
 RSDP = "etc/acpi/rsdp"
 HIGH, F_SEGMENT = 1, 2
 HIGH_SIZE = 16 << 20
 
+# The number of an SSDT, a double word, that is the place of the file with the id of a generation, where the id is in that file, how many
+# bytes it has, and how QEMU is asked to have one.
+PLACE_OF_ID, ID_OFFSET, ID_SIZE = b"\x08VGIA\x0c", 40, 16
+ASKED_ID = "vmgenid,guid="
+
 
 class Image:
-    """The files of a container, the commands of their script, and which bytes of a file no command changes."""
+    """The files of a container, the commands of their script, which bytes of a file no command changes, and the id of a generation to which
+    a table must lead, or None.
+    """
 
-    def __init__(self, files):
+    def __init__(self, files, generation=None):
         if SCRIPT not in files:
             raise NotAContainer(f"it has no {SCRIPT}")
         self.files = files
+        self.generation = generation
         script = read_script(files[SCRIPT])
         self.allocates = [command for command in script if isinstance(command, Allocate)]
         self.pointers = [command for command in script if isinstance(command, AddPointer)]
@@ -183,6 +195,29 @@ def acpi_faults(image, memory):
             yield f"the ACPI table {table[:4]!r} sums to {byte_sum(table):#x}"
 
 
+def id_asked(machine):
+    """The id of the generation that a machine of QEMU is asked to have, as it stands in memory, or None."""
+    asked = (option.removeprefix(ASKED_ID) for option in MACHINES[machine] if option.startswith(ASKED_ID))
+    return next((uuid.UUID(guid).bytes_le for guid in asked), None)
+
+
+def id_address(memory):
+    """Where an SSDT says that the id of the generation is."""
+    for table in tables_of(memory):
+        at = table.find(PLACE_OF_ID)
+        if table[:4] == b"SSDT" and at >= 0:
+            return number_at(table, at + len(PLACE_OF_ID), 4) + ID_OFFSET
+    raise NotFound("no SSDT leads to the id of the generation")
+
+
+def id_faults(image, memory):
+    if image.generation is not None:
+        at = id_address(memory)
+        found = memory.read(at, ID_SIZE, "the id of the generation")
+        if found != image.generation:
+            yield f"at {at:#x}, to which an SSDT leads, stands {found.hex()}, and not the id {image.generation.hex()}"
+
+
 def each_fault(image, memory):
     places = places_of(image, memory)
     spans = spans_of(image, places)
@@ -192,6 +227,7 @@ def each_fault(image, memory):
     yield from pointer_faults(image, memory, places)
     yield from sum_faults(image, memory, places)
     yield from acpi_faults(image, memory)
+    yield from id_faults(image, memory)
 
 
 def faults_of(image, memory):
@@ -212,6 +248,8 @@ def flips(image, memory):
         yield from (place + start for start, _ in image.kept[file][:1])
     yield from (places[pointer.dest] + pointer.offset for pointer in image.pointers)
     yield from (places[total.file] + total.offset for total in image.sums)
+    if image.generation is not None:
+        yield id_address(memory)
 
 
 def head_faults(memory, top_mib, fill):
@@ -229,13 +267,14 @@ def judge(image, memory):
         return 1
     names = " ".join(table[:4].decode("latin-1") for table in tables_of(memory))
     counts = f"files: {len(image.allocates)}, pointers: {len(image.pointers)}, sums: {len(image.sums)}"
-    print(f"{counts}, ACPI tables: {names or 'none'}; all as they should be, and each flipped bit is found")
+    its_id = "" if image.generation is None else f", the id of the generation: at {id_address(memory):#x}"
+    print(f"{counts}, ACPI tables: {names or 'none'}{its_id}; all as they should be, and each flipped bit is found")
     return 0
 
 
-def main(container, dump, top_mib, fill):
+def main(container, dump, top_mib, fill, machine=None):
     try:
-        image = Image(read_container(pathlib.Path(container).read_bytes()))
+        image = Image(read_container(pathlib.Path(container).read_bytes()), None if machine is None else id_asked(machine))
         memory = read_dump(pathlib.Path(dump).read_bytes())
     except (OSError, NotAContainer, NotADump) as refusal:
         print(f"judge_load.py: {refusal}", file=sys.stderr)
@@ -247,6 +286,6 @@ def main(container, dump, top_mib, fill):
 
 
 if __name__ == "__main__":
-    if len(sys.argv) != 5:
-        sys.exit("usage: judge_load.py CONTAINER DUMP TOP_MIB FILL")
+    if len(sys.argv) not in (5, 6) or not {*sys.argv[5:]} <= MACHINES.keys():
+        sys.exit("usage: judge_load.py CONTAINER DUMP TOP_MIB FILL [pc|q35]")
     sys.exit(main(*sys.argv[1:]))

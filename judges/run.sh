@@ -35,6 +35,7 @@ kernels=(linux-image-cloud-amd64 linux-image-amd64)            # the packages th
 asked=()                                                       # the judges that were asked
 checksum=9                                                     # the byte of an ACPI table that is its checksum
 machines=(pc q35)                                              # the machines of QEMU whose files are loaded
+of_machine=                                                    # the one whose files are loaded, where they are of one
 guest_top=2048                                                 # the top of memory of those whose firmware runs, in MiB
 wrong_lines=(2 4)                                              # lines of a dump that a program gets wrong: of the RSDP, and of another file
 policies=(low top scatter)                                     # the policies of places, and the seeds of events, with which descriptions boot
@@ -230,12 +231,12 @@ judge_devices() {
 }
 
 # judge_load TOP FILL [WORD..]: has the program load the folder's container with the words, and judges the dump, which must be one
-# of that top, in MiB, and that fill byte.
+# of that top, in MiB, and that fill byte. The container is of the machine of QEMU that of_machine names, if it names one.
 judge_load() {
     local said top=$1 fill=$2 words="load ${*:3}"
     words=${words% }
     said=$("$program" load "${@:3}" 2>&1 >"$folder/loaded" <"$folder/container") || { fault vmtables "$words" "$said"; return 1; }
-    said=$(python3 "$here/judge_load.py" "$folder/container" "$folder/loaded" "$top" "$fill" 2>&1) ||
+    said=$(python3 "$here/judge_load.py" "$folder/container" "$folder/loaded" "$top" "$fill" ${of_machine:+"$of_machine"} 2>&1) ||
         { fault judge_load.py "$words" "$said"; return 1; }
     echo "  $words: $said"
 }
@@ -291,7 +292,7 @@ judge_bad_dumps() {
 
 # judge_machine NAME: has the program load the files of a machine of QEMU, with the default words and with others.
 judge_machine() {
-    local said
+    local said of_machine=$1
     description="the machine $1 of QEMU"
     folder=$work/qemu-$1
     echo "$description"

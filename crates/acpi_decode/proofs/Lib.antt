@@ -10,6 +10,7 @@ pub mod Headed
 pub mod Facses
 pub mod TermsOfTrees
 pub mod Dsdts
+pub mod ReadDsdts
 pub mod LedTo
 pub mod KnownAt
 pub mod FadtRows

@@ -63,8 +63,8 @@ pub passing_leads : (k : KnownKind) (view : View) (address : ℕ) (entries : Lis
 passing_leads Fadt view address entries room whole pass =
     let found = targets_found view (links_at view address) pass in
     (found.0, subst (λ links. LeadTo view links found.0) (sym (links_told view address entries (long_fadt view address room whole))) found.1)
-passing_leads Madt view address entries room whole pass = (no_targets, (refl, refl))
-passing_leads Srat view address entries room whole pass = (no_targets, (refl, refl))
-passing_leads Slit view address entries room whole pass = (no_targets, (refl, refl))
-passing_leads Mcfg view address entries room whole pass = (no_targets, (refl, refl))
-passing_leads Hpet view address entries room whole pass = (no_targets, (refl, refl))
+passing_leads Madt view address entries room whole pass = (no_targets, (refl, refl, refl))
+passing_leads Srat view address entries room whole pass = (no_targets, (refl, refl, refl))
+passing_leads Slit view address entries room whole pass = (no_targets, (refl, refl, refl))
+passing_leads Mcfg view address entries room whole pass = (no_targets, (refl, refl, refl))
+passing_leads Hpet view address entries room whole pass = (no_targets, (refl, refl, refl))

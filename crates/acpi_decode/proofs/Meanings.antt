@@ -1,6 +1,6 @@
 -- A memory is read in one way: its tables are shown, or there is one first fault.
 use Rattle.std.proofs.Common.{◌≡◌, ℕ, ◌⊎◌, inl, inr, ⊎_elim, List, [], ◌∷◌, ◌++◌}
-use Rattle.std.proofs.Common.{Result, Ok, Err, IfOk, IfErr, None, refl, ap, sym, subst, ◌∙◌, append_assoc, append-nil}
+use Rattle.std.proofs.Common.{Option, Result, Ok, Err, IfOk, IfErr, refl, ap, sym, subst, ◌∙◌, append_assoc, append-nil}
 use Rattle.vt_bytes.specs.View.{View}
 use Rattle.vt_bytes.proofs.AtMostOne.{IsOne}
 use Rattle.acpi_records.specs.declared.header.Head.{Head}
@@ -10,7 +10,7 @@ use Rattle.acpi_model.specs.declared.acpi.OtherTable.{OtherTable}
 use Rattle.acpi_model.specs.declared.acpi.Table.{Table}
 use Rattle.acpi_model.specs.Rsdp.{IsRsdp, HasRsdp}
 use Rattle.acpi_model.specs.Xsdt.{IsXsdt}
-use Rattle.acpi_model.specs.Acpi.{gathered, no_targets, AreFound, AreTold, LeadsToAcpi, IsFoundBehind, with_table, with_other}
+use Rattle.acpi_model.specs.Acpi.{AreFound, AreTold, IsFoundBehind, with_other}
 use Rattle.acpi_model.proofs.OneAcpi.{one_found_all, one_led}
 use Rattle.acpi_model.proofs.OneRsdp.{one_rsdp}
 use Rattle.acpi_model.proofs.Xsdt.{one_xsdt}
@@ -23,10 +23,12 @@ use Rattle.acpi_decode.specs.Tests.{FirstFails}
 use Rattle.acpi_decode.specs.TableTests.{xsdt_tests}
 use Rattle.acpi_decode.specs.Faults.{IsFault, IsTableFault, First, IsWalked, Means, OrNoMemory}
 use Rattle.acpi_decode.specs.Read.{head_in, named_at}
+use Rattle.acpi_decode.specs.Taken.{with_found}
 use Rattle.acpi_decode.proofs.Kept.{IsKept, kept_with}
 use Rattle.acpi_decode.proofs.Firsts.{one_first, first_behind, behind_first, first_own, passes_or_fails}
 use Rattle.acpi_decode.proofs.TableFaults.{one_fault, never_found_at_fault, found_or_at_fault}
 use Rattle.acpi_decode.proofs.Xsdts.{xsdt_stands, xsdt_passes}
+use Rattle.acpi_decode.proofs.Walks.{begun_at}
 
 -- A list that is parted at an item, twice: at the same one, or one front goes on behind the item of the other.
 abbrev Agree : List ℕ → ℕ → List ℕ → ℕ → Type 0
@@ -80,13 +82,13 @@ one_table_fault view xsdt f g is also =
     (parts_agree is.before is.address is.after also.before also.address also.after same.1)
 
 -- tables that are shown have no fault
-none_shown : (view : View) (rsdp : ℕ) (t : AcpiTables) (fault : AcpiFault) → LeadsToAcpi view rsdp t → First view rsdp fault → ⊥
-none_shown view rsdp t fault leads first =
-    let root = one_rsdp view rsdp t.oem_id first.oem_id leads.xsdt first.xsdt leads.valid first.valid in
-    let listed = subst (λ x. IsXsdt view x t.xsdt leads.addresses) root.1 leads.listed in
+none_shown : (view : View) (rsdp : ℕ) (w : Walked) (fault : AcpiFault) → IsWalked view rsdp w → First view rsdp fault → ⊥
+none_shown view rsdp w fault leads first =
+    let root = one_rsdp view rsdp w.tables.oem_id first.oem_id leads.xsdt first.xsdt leads.valid first.valid in
+    let listed = subst (λ x. IsXsdt view x w.tables.xsdt leads.addresses) root.1 leads.listed in
     let faulty = first_behind (xsdt_tests view first.xsdt) (IsTableFault view first.xsdt) fault
-    (xsdt_passes view first.xsdt t.xsdt leads.addresses listed) first.is in
-    named_fault view first.xsdt t.xsdt leads.addresses leads.tables.tables leads.tables.targets t.others fault listed leads.tables.found faulty
+    (xsdt_passes view first.xsdt w.tables.xsdt leads.addresses listed) first.is in
+    named_fault view first.xsdt w.tables.xsdt leads.addresses leads.tables.tables leads.tables.targets w.tables.others fault listed leads.tables.found faulty
 
 one_first_fault : (view : View) (rsdp : ℕ) → IsOne (First view rsdp)
 one_first_fault view rsdp f g is also =
@@ -94,20 +96,19 @@ one_first_fault view rsdp f g is also =
     one_first (xsdt_tests view also.xsdt) (IsTableFault view also.xsdt) (one_table_fault view also.xsdt) f g
     (subst (λ x. FirstFails (xsdt_tests view x) (IsTableFault view x) f) root.1 is.is) also.is
 
-walked_from : AcpiTables → Walked
-walked_from t = record { tables = t; generation = None }
+walked_from : AcpiTables → Option (List ℕ) → Walked
+walked_from t id = record { tables = t; generation = id }
 
 one_walked : (view : View) (rsdp : ℕ) → IsOne (IsWalked view rsdp)
 unfolding walked_from
 one_walked view rsdp a b is also =
-    ap (λ generation. record { tables = a.tables; generation = generation }) is.generation
-    ∙ ap walked_from (one_led view rsdp a.tables b.tables is.leads also.leads)
-    ∙ ap (λ generation. record { tables = b.tables; generation = generation }) (sym also.generation)
+    let same = one_led view rsdp a.tables b.tables a.generation b.generation is also in
+    ap (λ t. walked_from t a.generation) same.0 ∙ ap (walked_from b.tables) same.1
 
 pub one_meaning : (view : View) (rsdp : ℕ) → IsOne (Means view rsdp)
 one_meaning view rsdp (Ok s) (Ok t) is also = ap Ok (one_walked view rsdp s t is also)
-one_meaning view rsdp (Ok s) (Err g) is also = absurd (none_shown view rsdp s.tables g is.leads also)
-one_meaning view rsdp (Err f) (Ok t) is also = absurd (none_shown view rsdp t.tables f also.leads is)
+one_meaning view rsdp (Ok s) (Err g) is also = absurd (none_shown view rsdp s g is also)
+one_meaning view rsdp (Err f) (Ok t) is also = absurd (none_shown view rsdp t f also is)
 one_meaning view rsdp (Err f) (Err g) is also = ap Err (one_first_fault view rsdp f g is also)
 
 -- what a memory is read as is what it means, unless memory runs out
@@ -130,27 +131,35 @@ record IsStopped (view : View) (all : List ℕ) (fault : AcpiFault) : Type 0 whe
   is : IsFault view address tables fault
 
 -- a table that is found is added to what was told
-grown_by : (view : View) (before : List ℕ) (address : ℕ) (t : AcpiTables) (told : AreTold view before t) → IsFoundBehind view address told.tables
-    → (more : AcpiTables) × IsKept t more × AreTold view (before ++ address ∷ []) more
-grown_by view before address t told (inl (known, targets, at, first, lead)) =
-    (with_table known targets t, kept_with known targets t, (table_grows view before t told address known targets at first lead).0)
-grown_by view before address t told (inr (other, is)) =
-    (with_other other t, record { oem_id = refl; xsdt = refl }, (other_grows view before t told address other is).0)
+grown_by : (view : View) (before : List ℕ) (address : ℕ) (w : Walked) (told : AreTold view before w.tables w.generation)
+    → IsFoundBehind view address told.tables
+    → (more : Walked) × IsKept w.tables more.tables × AreTold view (before ++ address ∷ []) more.tables more.generation
+grown_by view before address w told (inl (known, targets, at, first, lead)) = (
+  with_found known targets w,
+  kept_with known targets w.tables,
+  (table_grows view before w.tables w.generation told address known targets at first lead).0,
+)
+grown_by view before address w told (inr (other, is)) = (
+  record w { tables = with_other other w.tables },
+  record { oem_id = refl; xsdt = refl },
+  (other_grows view before w.tables w.generation told address other is).0,
+)
 
-abbrev AllToldOrStopped : View → List ℕ → AcpiTables → Type 0
+abbrev AllToldOrStopped : View → List ℕ → Walked → Type 0
 AllToldOrStopped view all begun =
-    ((t : AcpiTables) × IsKept begun t × AreTold view all t) ⊎ ((fault : AcpiFault) × IsStopped view all fault)
+    ((w : Walked) × IsKept begun.tables w.tables × AreTold view all w.tables w.generation) ⊎ ((fault : AcpiFault) × IsStopped view all fault)
 
 -- the first of those that are left is found, and so on
-told_or_stopped : (view : View) (begun : AcpiTables) (before rest : List ℕ) (t : AcpiTables) → IsKept begun t → AreTold view before t
-    → AllToldOrStopped view (before ++ rest) begun
-told_or_stopped view begun before [] t kept told = inl (t, kept, subst (λ all. AreTold view all t) (sym (append-nil before)) told)
-told_or_stopped view begun before (address ∷ rest) t kept told =
+told_or_stopped : (view : View) (begun : Walked) (before rest : List ℕ) (w : Walked) → IsKept begun.tables w.tables
+    → AreTold view before w.tables w.generation → AllToldOrStopped view (before ++ rest) begun
+told_or_stopped view begun before [] w kept told =
+    inl (w, kept, subst (λ all. AreTold view all w.tables w.generation) (sym (append-nil before)) told)
+told_or_stopped view begun before (address ∷ rest) w kept told =
     let onward : (before ++ address ∷ []) ++ rest ≡ before ++ address ∷ rest = append_assoc before (address ∷ []) rest in
     ⊎_elim
     (λ found.
-    let grown = grown_by view before address t told found in
-    let kept_on : IsKept begun grown.0 = record { oem_id = grown.1.oem_id ∙ kept.oem_id; xsdt = grown.1.xsdt ∙ kept.xsdt } in
+    let grown = grown_by view before address w told found in
+    let kept_on : IsKept begun.tables grown.0.tables = record { oem_id = grown.1.oem_id ∙ kept.oem_id; xsdt = grown.1.xsdt ∙ kept.xsdt } in
     subst (λ all. AllToldOrStopped view all begun) onward (told_or_stopped view begun (before ++ address ∷ []) rest grown.0 kept_on grown.2))
     (λ stopped. inr (
       stopped.0,
@@ -161,7 +170,7 @@ told_or_stopped view begun before (address ∷ rest) t kept told =
         parts = refl;
         tables = told.tables;
         targets = told.targets;
-        others = t.others;
+        others = w.tables.others;
         found = told.found;
         is = stopped.1;
       },
@@ -175,19 +184,16 @@ shown_or_refused view rsdp (oem_id, xsdt, valid) =
     (λ pass.
     let head = head_in (bytes_from view xsdt 36) in
     let listed = xsdt_stands view xsdt pass in
-    let begun = gathered oem_id head [] no_targets [] in
+    let begun = begun_at oem_id head in
     ⊎_elim
     (λ all. inl (
-      record { tables = all.0; generation = None },
+      all.0,
       record {
-        leads = record {
-          xsdt = xsdt;
-          valid = subst (λ o. IsRsdp view rsdp o xsdt) (sym all.1.oem_id) valid;
-          addresses = named_at view xsdt;
-          listed = subst (λ h. IsXsdt view xsdt h (named_at view xsdt)) (sym all.1.xsdt) listed;
-          tables = all.2;
-        };
-        generation = refl;
+        xsdt = xsdt;
+        valid = subst (λ o. IsRsdp view rsdp o xsdt) (sym all.1.oem_id) valid;
+        addresses = named_at view xsdt;
+        listed = subst (λ h. IsXsdt view xsdt h (named_at view xsdt)) (sym all.1.xsdt) listed;
+        tables = all.2;
       },
     ))
     (λ stopped. inr (

@@ -2,10 +2,10 @@
 use Rattle.std.proofs.Common.{◌≡◌, ℕ, zero, suc, ◌+◌, ◌-◌, ◌*◌, ◌<◌, ◌==◌, List, [], ◌∷◌, ◌++◌, inl, inr, arith, refl, ap, sym, subst, ◌∙◌, append-nil}
 use Rattle.std.proofs.lemmas.Bool.{cases_Bool, ne_eqb}
 use Rattle.vt_bytes.specs.View.{View}
-use Rattle.acpi_model.specs.declared.acpi.AcpiTables.{AcpiTables}
 use Rattle.acpi_model.specs.Xsdt.{given, IsXsdt}
 use Rattle.acpi_model.specs.Acpi.{AreTold}
 use Rattle.acpi_decode.specs.declared.fault.AcpiFault.{AcpiFault}
+use Rattle.acpi_decode.specs.declared.walked.Walked.{Walked}
 use Rattle.acpi_decode.specs.Seen.{bytes_from, number_at, total_at}
 use Rattle.acpi_decode.specs.Tests.{Pass}
 use Rattle.acpi_decode.specs.TableTests.{xsdt_tests}
@@ -51,13 +51,14 @@ numbers_split view address (suc i) count below =
     ∙ ap (λ n. numbers_at view (address + 8) i ++ number_at view (address + 8 * suc i) 8 ∷ numbers_at view (address + 8 * (suc i + 1)) n) left)
 
 -- The tables that so many entries name were added.
-pub record IsReached (view : View) (xsdt : ℕ) (begun now : AcpiTables) (index : ℕ) : Type 0 where
-  pub told : AreTold view [] begun → AreTold view (given (numbers_at view (xsdt + 36) index)) now
-  pub oem_id : now.oem_id ≡ begun.oem_id
-  pub header : now.xsdt ≡ begun.xsdt
+pub record IsReached (view : View) (xsdt : ℕ) (begun now : Walked) (index : ℕ) : Type 0 where
+  pub told : AreTold view [] begun.tables begun.generation
+      → AreTold view (given (numbers_at view (xsdt + 36) index)) now.tables now.generation
+  pub oem_id : now.tables.oem_id ≡ begun.tables.oem_id
+  pub header : now.tables.xsdt ≡ begun.tables.xsdt
 
 -- a zero entry is passed over
-pub passed_over : (view : View) (xsdt : ℕ) (begun now : AcpiTables) (index : ℕ) → number_at view (xsdt + 36 + 8 * index) 8 ≡ 0
+pub passed_over : (view : View) (xsdt : ℕ) (begun now : Walked) (index : ℕ) → number_at view (xsdt + 36 + 8 * index) 8 ≡ 0
     → IsReached view xsdt begun now index → IsReached view xsdt begun now (index + 1)
 passed_over view xsdt begun now index none reached =
     let same : given (numbers_at view (xsdt + 36) (index + 1)) ≡ given (numbers_at view (xsdt + 36) index) =
@@ -65,13 +66,13 @@ passed_over view xsdt begun now index none reached =
     ∙ ap (λ more. given (numbers_at view (xsdt + 36) index) ++ more) (given_none (number_at view (xsdt + 36 + 8 * index) 8) none)
     ∙ append-nil (given (numbers_at view (xsdt + 36) index)) in
     record {
-      told = λ begun_told. subst (λ those. AreTold view those now) (sym same) (reached.told begun_told);
+      told = λ begun_told. subst (λ those. AreTold view those now.tables now.generation) (sym same) (reached.told begun_told);
       oem_id = reached.oem_id;
       header = reached.header;
     }
 
 -- any other names a table
-pub reached_more : (view : View) (xsdt : ℕ) (begun now next : AcpiTables) (index address : ℕ) → address ≡ number_at view (xsdt + 36 + 8 * index) 8
+pub reached_more : (view : View) (xsdt : ℕ) (begun now next : Walked) (index address : ℕ) → address ≡ number_at view (xsdt + 36 + 8 * index) 8
     → 0 < address → IsTaken view address now next → IsReached view xsdt begun now index → IsReached view xsdt begun next (index + 1)
 reached_more view xsdt begun now next index address is some taken reached =
     let more : given (numbers_at view (xsdt + 36) (index + 1)) ≡ given (numbers_at view (xsdt + 36) index) ++ address ∷ [] =
@@ -80,13 +81,13 @@ reached_more view xsdt begun now next index address is some taken reached =
     ∙ ap (λ those. given (numbers_at view (xsdt + 36) index) ++ those) (given_one address some []) in
     record {
       told = λ begun_told.
-          subst (λ those. AreTold view those next) (sym more) (taken.told (given (numbers_at view (xsdt + 36) index)) (reached.told begun_told));
+          subst (λ those. AreTold view those next.tables next.generation) (sym more) (taken.told (given (numbers_at view (xsdt + 36) index)) (reached.told begun_told));
       oem_id = taken.oem_id ∙ reached.oem_id;
       header = taken.xsdt ∙ reached.header;
     }
 
 -- the next table is at fault
-pub next_refused : (view : View) (xsdt : ℕ) (begun now : AcpiTables) (index address : ℕ) (fault : AcpiFault) → Pass (xsdt_tests view xsdt)
+pub next_refused : (view : View) (xsdt : ℕ) (begun now : Walked) (index address : ℕ) (fault : AcpiFault) → Pass (xsdt_tests view xsdt)
     → index < entry_count (total_at view xsdt) → address ≡ number_at view (xsdt + 36 + 8 * index) 8 → 0 < address
     → IsReached view xsdt begun now index → IsRefused view address now fault → AreRefused view xsdt begun fault
 next_refused view xsdt begun now index address fault pass below is some reached refused begun_told =
@@ -105,7 +106,7 @@ next_refused view xsdt begun now index address fault pass below is some reached 
       listed = subst (IsXsdt view xsdt (head_in (bytes_from view xsdt 36))) parts (xsdt_stands view xsdt pass);
       tables = told.tables;
       targets = told.targets;
-      others = now.others;
+      others = now.tables.others;
       found = told.found;
       is = refused (given front) told;
     }

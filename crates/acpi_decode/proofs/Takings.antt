@@ -1,5 +1,5 @@
 -- A table that was read is added to what was told before it, or is at fault behind it.
-use Rattle.std.proofs.Common.{◌≡◌, ℕ, ◌≤◌, true, false, not, List, [], ◌∷◌, ◌++◌, Some, None, refl, ap, sym, subst, ◌∙◌}
+use Rattle.std.proofs.Common.{◌≡◌, ℕ, ◌≤◌, true, false, not, List, [], ◌∷◌, ◌++◌, Option, Some, None, refl, ap, sym, subst, ◌∙◌}
 use Rattle.vt_bytes.specs.View.{View}
 use Rattle.vt_layout.specs.Entries.{Entry}
 use Rattle.acpi_records.specs.Header.{IsTable}
@@ -9,12 +9,13 @@ use Rattle.acpi_model.specs.declared.acpi.OtherTable.{OtherTable}
 use Rattle.acpi_model.specs.declared.acpi.Table.{Table}
 use Rattle.acpi_model.specs.FadtKind.{links_of}
 use Rattle.acpi_model.specs.Found.{LeadTo}
-use Rattle.acpi_model.specs.Acpi.{kind_of as kind_for, IsAt, IsOther, is_first, AreTold, with_table, signature_of}
+use Rattle.acpi_model.specs.Acpi.{kind_of as kind_for, IsAt, IsOther, is_first, AreTold, signature_of}
 use Rattle.acpi_model.proofs.FoundInTurn.{table_grows, other_grows, fadt_apart, madt_apart, srat_apart, slit_apart, mcfg_apart, hpet_apart}
 use Rattle.acpi_decode.specs.declared.fault.AcpiFault.{AcpiFault}
 use Rattle.acpi_decode.specs.declared.fault.AcpiFault.TheVariants.{BadLength, TwiceGiven}
 use Rattle.acpi_decode.specs.declared.kind.KnownKind.{KnownKind}
 use Rattle.acpi_decode.specs.declared.kind.KnownKind.TheVariants.{Fadt, Madt, Srat, Slit, Mcfg, Hpet}
+use Rattle.acpi_decode.specs.declared.walked.Walked.{Walked}
 use Rattle.acpi_decode.specs.KnownKinds.{kind_of}
 use Rattle.acpi_decode.specs.Seen.{is_ram, bytes_from, signature_at, total_at}
 use Rattle.acpi_decode.specs.Tests.{FirstFails, Pass, NoFault}
@@ -22,7 +23,7 @@ use Rattle.acpi_decode.specs.TableTests.{header_tests, whole_tests}
 use Rattle.acpi_decode.specs.KindTests.{tests_behind, has_room, body_tests}
 use Rattle.acpi_decode.specs.Faults.{TargetFault, BadEntryOf, IsFault}
 use Rattle.acpi_decode.specs.Read.{head_in, table_at, IsRead}
-use Rattle.acpi_decode.specs.Taken.{IsTaken, IsRefused, has_kind}
+use Rattle.acpi_decode.specs.Taken.{IsTaken, IsRefused, has_kind, with_found}
 use Rattle.acpi_decode.proofs.Kept.{kept_with}
 use Rattle.acpi_decode.proofs.Firsts.{first_own, first_back, behind_first}
 use Rattle.acpi_decode.proofs.KindsListed.{is_known}
@@ -41,15 +42,16 @@ other_stands view address signature length signed told other long whole = record
       (headed_stands view address signature (sym signed) (subst (λ n. 36 ≤ n) told long) whole);
 }
 
-pub other_taken : (view : View) (address : ℕ) (before : AcpiTables) (others : List OtherTable) (signature : List ℕ) (length : ℕ)
+pub other_taken : (view : View) (address : ℕ) (before : Walked) (others : List OtherTable) (signature : List ℕ) (length : ℕ)
     → signature ≡ signature_at view address → length ≡ total_at view address → kind_for signature ≡ None → 36 ≤ length → Pass (whole_tests view address)
-    → others ≡ before.others ++ record { signature = signature; length = length } ∷ [] → IsTaken view address before (record before { others = others })
+    → others ≡ before.tables.others ++ record { signature = signature; length = length } ∷ []
+    → IsTaken view address before (record before { tables = record before.tables { others = others } })
 other_taken view address before others signature length signed told other long whole are =
     let its = other_stands view address signature length signed told other long whole in
     record {
       told = λ addresses is.
-          subst (λ those. AreTold view (addresses ++ address ∷ []) (record before { others = those })) (sym are)
-          (other_grows view addresses before is address (record { signature = signature; length = length }) its).0;
+          subst (λ those. AreTold view (addresses ++ address ∷ []) (record before.tables { others = those }) before.generation) (sym are)
+          (other_grows view addresses before.tables before.generation is address (record { signature = signature; length = length }) its).0;
       oem_id = refl;
       xsdt = refl;
     }
@@ -65,14 +67,14 @@ known_kind_fault k view address before fault header signed is =
     (BadEntryOf (Some (kind_of k)) view address) fault (header, tt) is)
 
 -- a table of a kind is told exactly where one was found before
-kind_apart : (k : KnownKind) (view : View) (addresses : List ℕ) (all : AcpiTables) (is : AreTold view addresses all)
+kind_apart : (k : KnownKind) (view : View) (addresses : List ℕ) (all : AcpiTables) (id : Option (List ℕ)) (is : AreTold view addresses all id)
     → is_first (kind_of k).signature is.tables ≡ not (has_kind k all)
-kind_apart Fadt view addresses all is = fadt_apart view addresses all is
-kind_apart Madt view addresses all is = madt_apart view addresses all is
-kind_apart Srat view addresses all is = srat_apart view addresses all is
-kind_apart Slit view addresses all is = slit_apart view addresses all is
-kind_apart Mcfg view addresses all is = mcfg_apart view addresses all is
-kind_apart Hpet view addresses all is = hpet_apart view addresses all is
+kind_apart Fadt view addresses all id is = fadt_apart view addresses all id is
+kind_apart Madt view addresses all id is = madt_apart view addresses all id is
+kind_apart Srat view addresses all id is = srat_apart view addresses all id is
+kind_apart Slit view addresses all id is = slit_apart view addresses all id is
+kind_apart Mcfg view addresses all id is = mcfg_apart view addresses all id is
+kind_apart Hpet view addresses all id is = hpet_apart view addresses all id is
 
 -- a table with a bad entry has no pointers
 no_tests_behind : (k : KnownKind) (view : View) (address : ℕ) (fault : AcpiFault) → BadEntryOf (Some (kind_of k)) view address fault
@@ -85,18 +87,18 @@ no_tests_behind Mcfg view address fault is = tt
 no_tests_behind Hpet view address fault is = tt
 
 -- what is tested of a table of a kind before it is read
-pub record IsSound (k : KnownKind) (view : View) (address : ℕ) (before : AcpiTables) : Type 0 where
+pub record IsSound (k : KnownKind) (view : View) (address : ℕ) (before : Walked) : Type 0 where
   pub header : is_ram view address 36 ≡ true
   pub signed : (kind_of k).signature ≡ signature_at view address
   pub room : has_room (kind_of k) view address ≡ true
   pub whole : Pass (whole_tests view address)
-  pub none : has_kind k before ≡ false
+  pub none : has_kind k before.tables ≡ false
 
-first_of_kind : (k : KnownKind) (view : View) (addresses : List ℕ) (all : AcpiTables) (is : AreTold view addresses all) → has_kind k all ≡ false
-    → is_first (kind_of k).signature is.tables ≡ true
-first_of_kind k view addresses all is none = kind_apart k view addresses all is ∙ ap not none
+first_of_kind : (k : KnownKind) (view : View) (addresses : List ℕ) (all : Walked) (is : AreTold view addresses all.tables all.generation)
+    → has_kind k all.tables ≡ false → is_first (kind_of k).signature is.tables ≡ true
+first_of_kind k view addresses all is none = kind_apart k view addresses all.tables all.generation is ∙ ap not none
 
-pub entry_refused : (k : KnownKind) (view : View) (address : ℕ) (before : AcpiTables) (fault : AcpiFault) → IsSound k view address before
+pub entry_refused : (k : KnownKind) (view : View) (address : ℕ) (before : Walked) (fault : AcpiFault) → IsSound k view address before
     → BadEntryOf (Some (kind_of k)) view address fault → IsRefused view address before fault
 entry_refused k view address before fault sound bad addresses is =
     known_kind_fault k view address is.tables fault sound.header sound.signed
@@ -116,7 +118,7 @@ target_told Slit view address entries fault room whole is = absurd is
 target_told Mcfg view address entries fault room whole is = absurd is
 target_told Hpet view address entries fault room whole is = absurd is
 
-pub target_refused : (k : KnownKind) (view : View) (address : ℕ) (before : AcpiTables) (t : Table) (fault : AcpiFault) → IsSound k view address before
+pub target_refused : (k : KnownKind) (view : View) (address : ℕ) (before : Walked) (t : Table) (fault : AcpiFault) → IsSound k view address before
     → IsRead (kind_of k) view address t → TargetFault view (links_of t) fault → IsRefused view address before fault
 target_refused k view address before t fault sound (entries, ends, is_read) faulty addresses is =
     let signature = (kind_of k).signature in
@@ -130,17 +132,17 @@ target_refused k view address before t fault sound (entries, ends, is_read) faul
     known_kind_fault k view address is.tables fault sound.header sound.signed
     (first_own (body_tests (Some (kind_of k)) view address is.tables) (BadEntryOf (Some (kind_of k)) view address) fault own)
 
-pub table_taken : (k : KnownKind) (view : View) (address : ℕ) (before : AcpiTables) (t : Table) (targets : FadtTargets) → IsSound k view address before
-    → IsRead (kind_of k) view address t → LeadTo view (links_of t) targets → IsTaken view address before (with_table t targets before)
+pub table_taken : (k : KnownKind) (view : View) (address : ℕ) (before : Walked) (t : Table) (targets : FadtTargets) → IsSound k view address before
+    → IsRead (kind_of k) view address t → LeadTo view (links_of t) targets → IsTaken view address before (with_found t targets before)
 table_taken k view address before t targets sound (entries, ends, is_read) lead =
     let known : IsKnownAt k view address entries =
     record { header = sound.header; signed = sym sound.signed; room = sound.room; whole = sound.whole; ends = ends } in
     let at = subst (IsAt view address) (sym is_read) (known_stands k view address entries known) in
-    let kept = kept_with t targets before in
+    let kept = kept_with t targets before.tables in
     let signed : (kind_of k).signature ≡ signature_of t = sym (ap signature_of is_read ∙ table_signed k view address entries) in
     record {
       told = λ addresses is.
-          (table_grows view addresses before is address t targets at
+          (table_grows view addresses before.tables before.generation is address t targets at
           (subst (λ s. is_first s is.tables ≡ true) signed (first_of_kind k view addresses before is sound.none)) lead).0;
       oem_id = kept.oem_id;
       xsdt = kept.xsdt;

@@ -55,10 +55,9 @@ pub record First (view : View) (rsdp : ℕ) (fault : AcpiFault) : Type 0 where
   pub valid : IsRsdp view rsdp oem_id xsdt
   pub is : FirstFails (xsdt_tests view xsdt) (IsTableFault view xsdt) fault
 
--- What is read from the RSDP at an address on: the tables, and no generation id, which no DSDT tells yet.
-pub record IsWalked (view : View) (rsdp : ℕ) (walked : Walked) : Type 0 where
-  pub leads : LeadsToAcpi view rsdp walked.tables
-  pub generation : walked.generation ≡ None
+-- What is read from the RSDP at an address on: the tables, and the id of the machine's generation, to which they lead.
+abbrev pub IsWalked : View → ℕ → Walked → Type 0
+IsWalked view rsdp walked = LeadsToAcpi view rsdp walked.tables walked.generation
 
 -- what a memory is read as
 abbrev pub Means : View → ℕ → Result Walked AcpiFault → Type 0

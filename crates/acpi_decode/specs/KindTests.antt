@@ -14,7 +14,8 @@ use Rattle.acpi_model.specs.Acpi.{kind_of, is_first}
 use Rattle.acpi_decode.specs.declared.fault.AcpiFault.TheVariants.{BadLength, TwiceGiven}
 use Rattle.acpi_decode.specs.Seen.{number_at, signature_at, total_at}
 use Rattle.acpi_decode.specs.Tests.{Test}
-use Rattle.acpi_decode.specs.TableTests.{header_tests, whole_tests, facs_tests, dsdt_tests}
+use Rattle.acpi_decode.specs.TableTests.{header_tests, whole_tests, facs_tests}
+use Rattle.acpi_decode.specs.IdTests.{read_dsdt_tests}
 
 -- the pointers of the FADT at an address (5.2.9)
 abbrev pub links_at : View → ℕ → FadtLinks
@@ -29,9 +30,9 @@ links_at view address = record {
 abbrev pub tests_at : (ℕ → List Test) → ℕ → List Test
 tests_at tests address = if address == 0 then [] else tests address
 
--- the tests of what pointers lead to
+-- the tests of what pointers lead to: of the FACS, and then of the DSDT and the id to which it leads
 abbrev pub target_tests : View → FadtLinks → List Test
-target_tests view links = tests_at (facs_tests view) (facs_address links) ++ tests_at (dsdt_tests view) (dsdt_address links)
+target_tests view links = tests_at (facs_tests view) (facs_address links) ++ tests_at (read_dsdt_tests view) (dsdt_address links)
 
 -- the tests of what the table at an address leads to, which has this signature: only an FADT has pointers
 abbrev pub tests_behind : List ℕ → View → ℕ → List Test

@@ -3,6 +3,7 @@ pub mod Seen
 pub mod Tests
 pub mod EntryFaults
 pub mod TableTests
+pub mod IdTests
 pub mod KindTests
 pub mod Faults
 -- what the functions tell one another

@@ -3,10 +3,12 @@ ghost use Rattle.acpi_decode.specs.declared.fault.AcpiFault.TheVariants.{OutOfMe
 
 use vt_outside::OutOfMemory;
 
-/// Why ACPI tables aren't read from a memory. Each address is that of the table at fault; that of `BadEntry` is the entry's.
+/// Why ACPI tables aren't read from a memory. Each address is that of the table at fault; that of `BadEntry` is the entry's, and that of
+/// `OutsideRam` may be that of the id of the machine's generation.
 #[derive(Clone, Copy, Debug, PartialEq, Eq)]
 pub enum AcpiFault {
-    /// The table's header isn't all RAM, or the whole table isn't; of a FACS, its 64 bytes.
+    /// The table's header isn't all RAM, or the whole table isn't; of a FACS, its 64 bytes. Or the id of the machine's generation at this
+    /// address, to which a DSDT leads, isn't: its 16 bytes.
     OutsideRam(u64),
     /// The bytes of the table don't sum to zero.
     BadSum(u64),

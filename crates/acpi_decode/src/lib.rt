@@ -2,7 +2,7 @@
 //!
 //! The contract of [`walk`] is that the tables are read exactly where the memory shows them, and that else the first test that fails is
 //! told, with the address of the table or of the entry. A DSDT is told as the terms that its definition block spells (20.2), or as one
-//! that spells none.
+//! that spells none. Where the terms lead to the id of the machine's generation, that is told, too, and they are told without its address.
 #![tactic(auto)]
 
 mod block;

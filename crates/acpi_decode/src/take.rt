@@ -1,9 +1,9 @@
 ghost use Rattle.std.specs.Prelude.{◌≡◌, ◌⊎◌, true, None, OnOk, IfErr};
-ghost use Rattle.acpi_model.specs.Acpi.{kind_of as kind_for, with_table};
+ghost use Rattle.acpi_model.specs.Acpi.{kind_of as kind_for};
 ghost use Rattle.acpi_decode.specs.declared.fault.AcpiFault.TheVariants.{OutOfMemory as NoMemory};
 ghost use Rattle.acpi_decode.specs.Seen.{is_ram, signature_at, total_at};
 ghost use Rattle.acpi_decode.specs.KnownKinds.{kind_of};
-ghost use Rattle.acpi_decode.specs.Taken.{IsTaken, IsRefused, has_kind};
+ghost use Rattle.acpi_decode.specs.Taken.{IsTaken, IsRefused, has_kind, with_found};
 
 use crate::fault::AcpiFault;
 use crate::front::{Front, test_header};
@@ -11,25 +11,26 @@ use crate::kind::{KnownKind, known_kind};
 use crate::table::{has_room, read_table};
 use crate::targets::read_targets;
 use crate::view::MemView;
+use crate::walked::Walked;
 use crate::whole::test_whole;
 use acpi_model::{AcpiTables, FadtTargets, HEADER_SIZE, OtherTable, Table};
 use std::alloc::Global;
 
-/// Reads the table at `address`, and what it leads to, and adds them to `tables`, which were found before it. The errors are those of
-/// [`walk`](crate::walk); after one, nothing is said of `tables`.
+/// Reads the table at `address`, and what it leads to, and adds them to `found`, which was found before it. The errors are those of
+/// [`walk`](crate::walk); after one, nothing is said of `found`.
 pub(crate) fn take_table<V: MemView>(
     alloc: Global,
     view: &V,
     address: u64,
-    tables: &mut AcpiTables,
+    found: &mut Walked,
 ) -> Result<(), AcpiFault>
-    ensures taken { OnOk result (IsTaken (V.seen view.now) address tables.old tables.new) }
-    ensures fault { IfErr result (λ fault. (fault ≡ NoMemory) ⊎ IsRefused (V.seen view.now) address tables.old fault) }
+    ensures taken { OnOk result (IsTaken (V.seen view.now) address found.old found.new) }
+    ensures fault { IfErr result (λ fault. (fault ≡ NoMemory) ⊎ IsRefused (V.seen view.now) address found.old fault) }
 {
     let front = test_header(view, address)?;
     match known_kind(&front.signature) {
-        Some(kind) => take_known(alloc, view, kind, address, front.length, tables),
-        None => take_other(view, address, front, tables),
+        Some(kind) => take_known(alloc, view, kind, address, front.length, found),
+        None => take_other(view, address, front, found),
     }
 }
 
@@ -38,21 +39,21 @@ fn take_other<V: MemView>(
     view: &V,
     address: u64,
     front: Front,
-    tables: &mut AcpiTables,
+    found: &mut Walked,
 ) -> Result<(), AcpiFault>
     requires header { is_ram (V.seen view.now) address 36 ≡ true }
     requires signed { front.signature ≡ signature_at (V.seen view.now) address }
     requires told { front.length ≡ total_at (V.seen view.now) address }
     requires other { kind_for front.signature ≡ None }
-    ensures taken { OnOk result (IsTaken (V.seen view.now) address tables.old tables.new) }
-    ensures fault { IfErr result (λ fault. (fault ≡ NoMemory) ⊎ IsRefused (V.seen view.now) address tables.old fault) }
+    ensures taken { OnOk result (IsTaken (V.seen view.now) address found.old found.new) }
+    ensures fault { IfErr result (λ fault. (fault ≡ NoMemory) ⊎ IsRefused (V.seen view.now) address found.old fault) }
 {
     if front.length < HEADER_SIZE {
         return Err(AcpiFault::BadLength(address));
     }
     test_whole(view, address, front.length)?;
     let signature = front.signature;
-    tables.others.push(OtherTable {
+    found.tables.others.push(OtherTable {
         signature,
         length: front.length,
     })?;
@@ -66,24 +67,24 @@ fn take_known<V: MemView>(
     kind: KnownKind,
     address: u64,
     length: u32,
-    tables: &mut AcpiTables,
+    found: &mut Walked,
 ) -> Result<(), AcpiFault>
     requires header { is_ram (V.seen view.now) address 36 ≡ true }
     requires signed { (kind_of kind).signature ≡ signature_at (V.seen view.now) address }
     requires told { length ≡ total_at (V.seen view.now) address }
-    ensures taken { OnOk result (IsTaken (V.seen view.now) address tables.old tables.new) }
-    ensures fault { IfErr result (λ fault. (fault ≡ NoMemory) ⊎ IsRefused (V.seen view.now) address tables.old fault) }
+    ensures taken { OnOk result (IsTaken (V.seen view.now) address found.old found.new) }
+    ensures fault { IfErr result (λ fault. (fault ≡ NoMemory) ⊎ IsRefused (V.seen view.now) address found.old fault) }
 {
     if !has_room(view, kind, address, length) {
         return Err(AcpiFault::BadLength(address));
     }
     test_whole(view, address, length)?;
-    if has_kind(tables, kind) {
+    if has_kind(&found.tables, kind) {
         return Err(AcpiFault::TwiceGiven(address));
     }
     let table = read_table(alloc, view, kind, address, length)?;
     let targets = read_targets(alloc, view, &table)?;
-    add_table(tables, table, targets);
+    add_table(found, table, targets);
     Ok(())
 }
 
@@ -101,15 +102,17 @@ fn has_kind(tables: &AcpiTables, kind: KnownKind) -> bool
     }
 }
 
-// Puts a table of a known kind, and what it leads to, in its place among `tables`.
-fn add_table(tables: &mut AcpiTables, table: Table, targets: FadtTargets)
-    ensures { tables.new ≡ with_table table targets tables.old }
+// Puts a table of a known kind, and what it leads to, in its place in `found`.
+fn add_table(found: &mut Walked, table: Table, targets: FadtTargets)
+    ensures { found.new ≡ with_found table targets found.old }
 {
+    let tables = &mut found.tables;
     match table {
         Table::Fadt(fadt, _) => {
             tables.fadt = Some(fadt);
             tables.facs = targets.facs;
             tables.dsdt = targets.dsdt;
+            found.generation = targets.generation;
         }
         Table::Madt(madt) => tables.madt = Some(madt),
         Table::Srat(srat) => tables.srat = Some(srat),

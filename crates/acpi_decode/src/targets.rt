@@ -12,8 +12,8 @@ use crate::view::MemView;
 use acpi_model::{FadtTargets, Link, Table};
 use std::alloc::Global;
 
-/// Reads what `table` leads to: an FADT leads to a FACS and a DSDT, which are read in this order, and no other table leads anywhere. The
-/// errors are those of [`read_facs`] and of [`read_dsdt`].
+/// Reads what `table` leads to: an FADT leads to a FACS and a DSDT, which are read in this order, the DSDT with the id to which it leads,
+/// and no other table leads anywhere. The errors are those of [`read_facs`] and of [`read_dsdt`].
 pub(crate) fn read_targets<V: MemView>(
     alloc: Global,
     view: &V,
@@ -23,17 +23,20 @@ pub(crate) fn read_targets<V: MemView>(
     ensures fault { IfErr result (λ fault. (fault ≡ NoMemory) ⊎ TargetFault (V.seen view.now) (links_of table.now) fault) }
 {
     match table {
-        Table::Fadt(_, links) => Ok(FadtTargets {
-            facs: read_facs(
-                alloc,
-                view,
-                wide_or(links.x_firmware_ctrl, links.firmware_ctrl),
-            )?,
-            dsdt: read_dsdt(alloc, view, wide_or(links.x_dsdt, links.dsdt))?,
-        }),
+        Table::Fadt(_, links) => {
+            let facs_address = wide_or(links.x_firmware_ctrl, links.firmware_ctrl);
+            let facs = read_facs(alloc, view, facs_address)?;
+            let found = read_dsdt(alloc, view, wide_or(links.x_dsdt, links.dsdt))?;
+            Ok(FadtTargets {
+                facs,
+                dsdt: found.dsdt,
+                generation: found.generation,
+            })
+        }
         _ => Ok(FadtTargets {
             facs: None,
             dsdt: None,
+            generation: None,
         }),
     }
 }

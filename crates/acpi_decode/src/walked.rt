@@ -20,7 +20,8 @@ use vt_outside::List;
 pub struct Walked {
     /// The tables.
     pub tables: AcpiTables,
-    /// The id of the machine's generation, which a DSDT leads to. None is read of a DSDT yet.
+    /// The id of the machine's generation, which the DSDT leads to. A DSDT that is `Foreign` leads to none. The terms that are kept in
+    /// `tables` tell 0 in place of its address.
     pub generation: Option<[u8; 16]>,
 }
 
@@ -31,7 +32,8 @@ pub struct Walked {
 /// that fails is told, in this order: `OutsideRam` where its header isn't all RAM, `WrongSignature` where the XSDT is due, `BadLength`
 /// where its form can't have as many bytes as it tells, `OutsideRam` where it isn't RAM as a whole, `BadSum`, `TwiceGiven` where it is the
 /// second of its kind, `BadEntry` with the address of its first bad entry. Behind an FADT come the tests of the FACS and then of the DSDT
-/// that it leads to. `OutOfMemory` means that memory ran out.
+/// that it leads to, and behind those of the DSDT, where its terms tell the address of the id of the machine's generation, `OutsideRam` with
+/// that address where the 16 bytes of the id aren't all RAM. `OutOfMemory` means that memory ran out.
 ///
 /// A DSDT that has passed its tests is told as `Terms` where its definition block spells terms (20.2), and else as `Foreign`, with its
 /// length: that it spells none is no fault. The allocations of an MCFG fill it (PCI Firmware Specification 3.3, 4.1.2).
@@ -57,22 +59,22 @@ fn walk_from<V: MemView>(alloc: Global, view: &V, rsdp: u64) -> Result<Walked, A
     let length = test_due(view, Due::Xsdt, root.xsdt)?;
     let head = read_head(alloc, view, root.xsdt)?;
     let oem_id = root.oem_id;
-    let mut tables = AcpiTables {
-        oem_id,
-        xsdt: head,
-        fadt: None,
-        facs: None,
-        dsdt: None,
-        madt: None,
-        srat: None,
-        slit: None,
-        mcfg: None,
-        hpet: None,
-        others: List::new(alloc),
-    };
-    take_tables(alloc, view, root.xsdt, length, &mut tables)?;
-    Ok(Walked {
-        tables,
+    let mut found = Walked {
+        tables: AcpiTables {
+            oem_id,
+            xsdt: head,
+            fadt: None,
+            facs: None,
+            dsdt: None,
+            madt: None,
+            srat: None,
+            slit: None,
+            mcfg: None,
+            hpet: None,
+            others: List::new(alloc),
+        },
         generation: None,
-    })
+    };
+    take_tables(alloc, view, root.xsdt, length, &mut found)?;
+    Ok(found)
 }

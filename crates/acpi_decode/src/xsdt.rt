@@ -8,31 +8,32 @@ ghost use Rattle.acpi_decode.specs.Taken.{AreTaken, AreRefused};
 use crate::fault::AcpiFault;
 use crate::take::take_table;
 use crate::view::MemView;
-use acpi_model::{AcpiTables, HEADER_SIZE};
+use crate::walked::Walked;
+use acpi_model::HEADER_SIZE;
 use std::alloc::Global;
 use vt_bytes::get_le;
 
 // How many bytes an entry of an XSDT has (ACPI 6.5, 5.2.8).
 const ENTRY_SIZE: u32 = 8;
 
-/// Reads the tables that the entries of the XSDT at `xsdt` name, in their order, and adds them to `tables`, which holds none yet. The XSDT
+/// Reads the tables that the entries of the XSDT at `xsdt` name, in their order, and adds them to `found`, which holds none yet. The XSDT
 /// has `length` bytes, and has passed its tests. The errors are those of [`walk`](crate::walk).
 pub(crate) fn take_tables<V: MemView>(
     alloc: Global,
     view: &V,
     xsdt: u64,
     length: u32,
-    tables: &mut AcpiTables,
+    found: &mut Walked,
 ) -> Result<(), AcpiFault>
     requires passes { Pass (xsdt_tests (V.seen view.now) xsdt) }
     requires told { length ≡ total_at (V.seen view.now) xsdt }
-    ensures taken { OnOk result (AreTaken (V.seen view.now) xsdt tables.old tables.new) }
-    ensures fault { IfErr result (λ fault. (fault ≡ NoMemory) ⊎ AreRefused (V.seen view.now) xsdt tables.old fault) }
+    ensures taken { OnOk result (AreTaken (V.seen view.now) xsdt found.old found.new) }
+    ensures fault { IfErr result (λ fault. (fault ≡ NoMemory) ⊎ AreRefused (V.seen view.now) xsdt found.old fault) }
 {
     for index in 0..(length - HEADER_SIZE) / ENTRY_SIZE {
         let entry = xsdt + u64::from(HEADER_SIZE + ENTRY_SIZE * index);
         if let Some(address) = read_entry(view, entry) {
-            take_table(alloc, view, address, tables)?;
+            take_table(alloc, view, address, found)?;
         }
     }
     Ok(())

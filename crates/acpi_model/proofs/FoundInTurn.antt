@@ -18,18 +18,19 @@ use Rattle.acpi_model.specs.SlitKind.{slit_kind, as_slit}
 use Rattle.acpi_model.specs.McfgKind.{mcfg_kind, as_mcfg}
 use Rattle.acpi_model.specs.HpetKind.{hpet_kind, as_hpet}
 use Rattle.acpi_model.specs.Acpi.{signature_of, IsAt, IsOther, Walks, AreDistinct, first_links, gathered, no_targets, AreFound, AreTold, is_first, TableLeadsTo}
-use Rattle.acpi_model.specs.Acpi.{IsFoundBehind, with_table, with_other}
+use Rattle.acpi_model.specs.Acpi.{IsFoundBehind, with_table, id_with, with_other}
 use Rattle.acpi_model.proofs.SameTold.{told_with, told_same}
 use Rattle.acpi_model.proofs.FirstOfKind.{fadt_tells, links_tell, madt_tells, srat_tells, slit_tells, mcfg_tells, hpet_tells, told_apart, first_of-append, first_of-more}
 use Rattle.acpi_model.proofs.DistinctInTurn.{distinct_more, distinct_front, first_behind}
 
 -- no tables stand at no addresses
-pub nothing_found : (view : View) (oem_id : List ℕ) (head : Head) → AreTold view [] (gathered oem_id head [] no_targets [])
+pub nothing_found : (view : View) (oem_id : List ℕ) (head : Head) → AreTold view [] (gathered oem_id head [] no_targets []) None
 nothing_found view oem_id head = record {
   tables = [];
   targets = no_targets;
-  found = record { named = (refl, refl); distinct = tt; lead = (refl, refl) };
+  found = record { named = (refl, refl); distinct = tt; lead = (refl, refl, refl) };
   told = refl;
+  its_id = refl;
 }
 
 -- a walk with one address more, where a table of a known kind stands, or another
@@ -65,32 +66,42 @@ leads_on view (Mcfg t) targets before links lead was = was
 leads_on view (Hpet t) targets before links lead was = was
 
 -- what is led to among all that is told
-abbrev targets_told : AcpiTables → FadtTargets
-targets_told all = record { facs = all.facs; dsdt = all.dsdt }
+abbrev targets_told : AcpiTables → Option (List ℕ) → FadtTargets
+targets_told all id = record { facs = all.facs; dsdt = all.dsdt; generation = id }
+
+id_led : (t : Table) (targets before : FadtTargets) (id : Option (List ℕ)) → id ≡ before.generation
+    → id_with t targets id ≡ (led_with t targets before).generation
+unfolding led_with
+id_led (Fadt t links) targets before id is = refl
+id_led (Madt t) targets before id is = is
+id_led (Srat t) targets before id is = is
+id_led (Slit t) targets before id is = is
+id_led (Mcfg t) targets before id is = is
+id_led (Hpet t) targets before id is = is
 
 -- all that is told, with one table more: of its own kind its record, and of each other the one before
-with_parts : Table → FadtTargets → AcpiTables → AcpiTables
-with_parts t targets all =
+with_parts : Table → FadtTargets → AcpiTables → Option (List ℕ) → AcpiTables
+with_parts t targets all id =
     told_with (option_or (as_fadt t) all.fadt) (option_or (as_madt t) all.madt) (option_or (as_srat t) all.srat) (option_or (as_slit t) all.slit)
-    (option_or (as_mcfg t) all.mcfg) (option_or (as_hpet t) all.hpet) all.oem_id all.xsdt (led_with t targets (targets_told all)) all.others
+    (option_or (as_mcfg t) all.mcfg) (option_or (as_hpet t) all.hpet) all.oem_id all.xsdt (led_with t targets (targets_told all id)) all.others
 
-are_parts : (t : Table) (targets : FadtTargets) (all : AcpiTables) → with_parts t targets all ≡ with_table t targets all
+are_parts : (t : Table) (targets : FadtTargets) (all : AcpiTables) (id : Option (List ℕ)) → with_parts t targets all id ≡ with_table t targets all
 unfolding told_with with_parts led_with
-are_parts (Fadt t links) targets all = refl
-are_parts (Madt t) targets all = refl
-are_parts (Srat t) targets all = refl
-are_parts (Slit t) targets all = refl
-are_parts (Mcfg t) targets all = refl
-are_parts (Hpet t) targets all = refl
+are_parts (Fadt t links) targets all id = refl
+are_parts (Madt t) targets all id = refl
+are_parts (Srat t) targets all id = refl
+are_parts (Slit t) targets all id = refl
+are_parts (Mcfg t) targets all id = refl
+are_parts (Hpet t) targets all id = refl
 
 -- a table that is the first of its kind is added to what is told
-module _ (view : View) (before : List ℕ) (all : AcpiTables) (is : AreTold view before all) (address : ℕ) where
+module _ (view : View) (before : List ℕ) (all : AcpiTables) (id : Option (List ℕ)) (is : AreTold view before all id) (address : ℕ) where
   -- the table is found last
-  abbrev GrownBy : List Table → AcpiTables → Type 0
-  GrownBy more grown = (told : AreTold view (before ++ address ∷ []) grown) × (told.tables ≡ is.tables ++ more)
+  abbrev GrownBy : List Table → Option (List ℕ) → AcpiTables → Type 0
+  GrownBy more its grown = (told : AreTold view (before ++ address ∷ []) grown its) × (told.tables ≡ is.tables ++ more)
 
   parts_grow : (t : Table) (targets : FadtTargets) → IsAt view address t → is_first (signature_of t) is.tables ≡ true
-      → TableLeadsTo view t targets → GrownBy (t ∷ []) (with_parts t targets all)
+      → TableLeadsTo view t targets → GrownBy (t ∷ []) (id_with t targets id) (with_parts t targets all id)
   unfolding told_with with_parts
   parts_grow t targets at first lead = (
     record {
@@ -104,7 +115,7 @@ module _ (view : View) (before : List ℕ) (all : AcpiTables) (is : AreTold view
       };
       told = ap (λ those. told_with (option_or (as_fadt t) all.fadt) (option_or (as_madt t) all.madt) (option_or (as_srat t) all.srat)
           (option_or (as_slit t) all.slit) (option_or (as_mcfg t) all.mcfg) (option_or (as_hpet t) all.hpet) all.oem_id all.xsdt (led_with t targets those) all.others)
-          (ap targets_told is.told)
+          (ap (λ (a : AcpiTables). targets_told a id) is.told ∙ ap (λ its. record is.targets { generation = its }) is.its_id)
           ∙ told_same all.oem_id all.xsdt (led_with t targets is.targets) all.others
           (ap (λ (a : AcpiTables). option_or (as_fadt t) a.fadt) is.told ∙ sym (first_of-more fadt_kind as_fadt fadt_tells is.tables t first))
           (ap (λ (a : AcpiTables). option_or (as_madt t) a.madt) is.told ∙ sym (first_of-more madt_kind as_madt madt_tells is.tables t first))
@@ -112,18 +123,20 @@ module _ (view : View) (before : List ℕ) (all : AcpiTables) (is : AreTold view
           (ap (λ (a : AcpiTables). option_or (as_slit t) a.slit) is.told ∙ sym (first_of-more slit_kind as_slit slit_tells is.tables t first))
           (ap (λ (a : AcpiTables). option_or (as_mcfg t) a.mcfg) is.told ∙ sym (first_of-more mcfg_kind as_mcfg mcfg_tells is.tables t first))
           (ap (λ (a : AcpiTables). option_or (as_hpet t) a.hpet) is.told ∙ sym (first_of-more hpet_kind as_hpet hpet_tells is.tables t first));
+      its_id = id_led t targets is.targets id is.its_id;
     },
     refl,
   )
 
   pub table_grows : (t : Table) (targets : FadtTargets) → IsAt view address t → is_first (signature_of t) is.tables ≡ true
       → TableLeadsTo view t targets
-      → (told : AreTold view (before ++ address ∷ []) (with_table t targets all)) × (told.tables ≡ is.tables ++ t ∷ [])
-  table_grows t targets at first lead = subst (GrownBy (t ∷ [])) (are_parts t targets all) (parts_grow t targets at first lead)
+      → (told : AreTold view (before ++ address ∷ []) (with_table t targets all) (id_with t targets id)) × (told.tables ≡ is.tables ++ t ∷ [])
+  table_grows t targets at first lead =
+      subst (GrownBy (t ∷ []) (id_with t targets id)) (are_parts t targets all id) (parts_grow t targets at first lead)
 
   -- so is another
   pub other_grows : (t : OtherTable) → IsOther view address t
-      → (told : AreTold view (before ++ address ∷ []) (with_other t all)) × (told.tables ≡ is.tables)
+      → (told : AreTold view (before ++ address ∷ []) (with_other t all) id) × (told.tables ≡ is.tables)
   other_grows t at = (
     record {
       tables = is.tables;
@@ -134,6 +147,7 @@ module _ (view : View) (before : List ℕ) (all : AcpiTables) (is : AreTold view
         lead = is.found.lead;
       };
       told = ap (λ (a : AcpiTables). record a { others = all.others ++ t ∷ [] }) is.told;
+      its_id = is.its_id;
     },
     refl,
   )
@@ -183,7 +197,7 @@ led_by (Some links) targets = targets
 first_leads : (view : View) (links later : Option FadtLinks) (targets : FadtTargets) → LeadTo view (option_or links later) targets
     → LeadTo view links (led_by links targets)
 unfolding led_by
-first_leads view None later targets lead = (refl, refl)
+first_leads view None later targets lead = (refl, refl, refl)
 first_leads view (Some links) later targets lead = lead
 
 -- the first of three
@@ -236,7 +250,7 @@ found_in_turn view before address after tables targets others is =
     )
 
 -- A table is the first of its kind where none of the kind is told.
-module _ (view : View) (before : List ℕ) (all : AcpiTables) (is : AreTold view before all) where
+module _ (view : View) (before : List ℕ) (all : AcpiTables) (id : Option (List ℕ)) (is : AreTold view before all id) where
   pub fadt_apart : is_first (codes "FACP") is.tables ≡ not (is_some all.fadt)
   fadt_apart = told_apart fadt_kind as_fadt fadt_tells is.tables ∙ ap (λ (a : AcpiTables). not (is_some a.fadt)) (sym is.told)
 

@@ -17,7 +17,7 @@ use Rattle.acpi_records.specs.Facs.{IsFacs}
 use Rattle.acpi_model.specs.declared.dsdt.Dsdt.{Dsdt}
 use Rattle.acpi_model.specs.declared.link.FadtLinks.{FadtLinks}
 use Rattle.acpi_model.specs.Links.{IsFound}
-use Rattle.acpi_model.specs.Found.{IsDsdt, facs_address, dsdt_address, LeadTo}
+use Rattle.acpi_model.specs.Found.{IsKeptAt, facs_address, dsdt_address, LeadTo}
 use Rattle.acpi_records.specs.Facs.{initial_facs}
 use Rattle.acpi_model.specs.MachineFadt.{no_register, register_at, boot_arch, fadt_flags, fadt_of, fadt_links, power_in}
 
@@ -124,16 +124,17 @@ found_there Stands what address offset place is some stands =
       subst (λ a. Stands a what) (turned ∙ sym is) stands,
     )
 
-pub leads_to_targets : (view : View) (place_of : List ℕ → ℕ) (facs dsdt : ℕ) (its : Dsdt) → 0 < place_of tables_name → (power : Option Power)
-    → (IsSome power → IsFacs view (place_of tables_name + facs) initial_facs) → (IsSome power → IsDsdt view (place_of tables_name + dsdt) its)
+pub leads_to_targets : (view : View) (place_of : List ℕ → ℕ) (facs dsdt : ℕ) (its : Dsdt) (id : Option (List ℕ)) → 0 < place_of tables_name
+    → (power : Option Power) → (IsSome power → IsFacs view (place_of tables_name + facs) initial_facs)
+    → (IsSome power → IsKeptAt view (place_of tables_name + dsdt) its id) → (power ≡ None → id ≡ None)
     → LeadTo view (option_map (λ part. linked_links place_of (fadt_links facs dsdt)) power)
-    (record { facs = option_map (λ part. initial_facs) power; dsdt = option_map (λ part. its) power })
-leads_to_targets view place_of facs dsdt its placed None facs_stands dsdt_stands = (refl, refl)
-leads_to_targets view place_of facs dsdt its placed (Some power) facs_stands dsdt_stands =
+    (record { facs = option_map (λ part. initial_facs) power; dsdt = option_map (λ part. its) power; generation = id })
+leads_to_targets view place_of facs dsdt its id placed None facs_stands dsdt_stands none = (refl, refl, none refl)
+leads_to_targets view place_of facs dsdt its id placed (Some power) facs_stands dsdt_stands none =
     let links : FadtLinks = linked_links place_of (fadt_links facs dsdt) in
     let place : ℕ = place_of tables_name in (
       found_there (IsFacs view) initial_facs (facs_address links) facs place (wide_at facs place 0 placed) placed (facs_stands refl),
-      found_there (IsDsdt view) its (dsdt_address links) dsdt place (wide_at dsdt place (dsdt + place) placed) placed (dsdt_stands refl),
+      found_there (λ address d. IsKeptAt view address d id) its (dsdt_address links) dsdt place (wide_at dsdt place (dsdt + place) placed) placed (dsdt_stands refl),
     )
 
 -- the part that an FADT tells, whatever its ports are, with a clock or none

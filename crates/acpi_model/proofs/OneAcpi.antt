@@ -1,5 +1,5 @@
 -- A view shows one set of ACPI tables.
-use Rattle.std.proofs.Common.{◌≡◌, ℕ, List, [], ◌∷◌, inl, inr, refl, ap, sym, ◌∙◌, subst}
+use Rattle.std.proofs.Common.{◌≡◌, ℕ, List, [], ◌∷◌, Option, inl, inr, refl, ap, sym, ◌∙◌, subst}
 use Rattle.vt_bytes.specs.View.{View}
 use Rattle.vt_bytes.proofs.AtMostOne.{IsOne, one_least}
 use Rattle.acpi_records.specs.declared.header.Head.{Head}
@@ -85,28 +85,31 @@ one_found_all view addresses tables more targets goals others rest is also =
     }
 
 -- the tables at addresses tell one thing, with one maker's id and one header of the XSDT
-pub one_told : (view : View) (addresses : List ℕ) (s t : AcpiTables) → s.oem_id ≡ t.oem_id → s.xsdt ≡ t.xsdt → AreTold view addresses s
-    → AreTold view addresses t → s ≡ t
-one_told view addresses s t ids headers is also =
-    let same = one_found_all view addresses is.tables also.tables is.targets also.targets s.others t.others is.found also.found in
-    is.told ∙ ap (λ id. gathered id s.xsdt is.tables is.targets s.others) ids
-    ∙ ap (λ (h : Head). gathered t.oem_id h is.tables is.targets s.others) headers
-    ∙ ap (λ tables. gathered t.oem_id t.xsdt tables is.targets s.others) same.known
-    ∙ ap (λ targets. gathered t.oem_id t.xsdt also.tables targets s.others) same.leads
-    ∙ ap (gathered t.oem_id t.xsdt also.tables also.targets) same.unknown ∙ sym also.told
+pub one_told : (view : View) (addresses : List ℕ) (s t : AcpiTables) (g h : Option (List ℕ)) → s.oem_id ≡ t.oem_id → s.xsdt ≡ t.xsdt
+    → AreTold view addresses s g → AreTold view addresses t h → (s ≡ t) × (g ≡ h)
+one_told view addresses s t g h ids headers is also =
+    let same = one_found_all view addresses is.tables also.tables is.targets also.targets s.others t.others is.found also.found in (
+      is.told ∙ ap (λ id. gathered id s.xsdt is.tables is.targets s.others) ids
+          ∙ ap (λ (h : Head). gathered t.oem_id h is.tables is.targets s.others) headers
+          ∙ ap (λ tables. gathered t.oem_id t.xsdt tables is.targets s.others) same.known
+          ∙ ap (λ targets. gathered t.oem_id t.xsdt also.tables targets s.others) same.leads
+          ∙ ap (gathered t.oem_id t.xsdt also.tables also.targets) same.unknown ∙ sym also.told,
+      is.its_id ∙ ap (λ (targets : FadtTargets). targets.generation) same.leads ∙ sym also.its_id,
+    )
 
--- an RSDP leads to one set of tables
-pub one_led : (view : View) (rsdp : ℕ) → IsOne (LeadsToAcpi view rsdp)
-one_led view rsdp s t is also =
+-- an RSDP leads to one set of tables, and to one id of a generation or none
+pub one_led : (view : View) (rsdp : ℕ) (s t : AcpiTables) (g h : Option (List ℕ)) → LeadsToAcpi view rsdp s g → LeadsToAcpi view rsdp t h
+    → (s ≡ t) × (g ≡ h)
+one_led view rsdp s t g h is also =
     let root = one_rsdp view rsdp s.oem_id t.oem_id is.xsdt also.xsdt is.valid also.valid in
     let listed =
     one_xsdt view also.xsdt s.xsdt t.xsdt is.addresses also.addresses (subst (λ a. IsXsdt view a s.xsdt is.addresses) root.1 is.listed)
     also.listed in
-    one_told view also.addresses s t root.0 listed.0 (subst (λ addresses. AreTold view addresses s) listed.1 is.tables) also.tables
+    one_told view also.addresses s t g h root.0 listed.0 (subst (λ addresses. AreTold view addresses s g) listed.1 is.tables) also.tables
 
-pub one_acpi : (view : View) → IsOne (ShowsAcpi view)
-one_acpi view s t is also =
+pub one_acpi : (view : View) (s t : AcpiTables) (g h : Option (List ℕ)) → ShowsAcpi view s g → ShowsAcpi view t h → (s ≡ t) × (g ≡ h)
+one_acpi view s t g h is also =
     let place : is.rsdp ≡ also.rsdp =
     one_least (HasRsdp view) is.rsdp also.rsdp (s.oem_id, is.leads.xsdt, is.leads.valid) (t.oem_id, also.leads.xsdt, also.leads.valid) is.least
     also.least in
-    one_led view also.rsdp s t (subst (λ a. LeadsToAcpi view a s) place is.leads) also.leads
+    one_led view also.rsdp s t g h (subst (λ a. LeadsToAcpi view a s g) place is.leads) also.leads

@@ -6,8 +6,6 @@ use Rattle.machine_desc.specs.declared.machine.Hpet.{Hpet as HpetPart}
 use Rattle.machine_desc.specs.declared.acpi_parts.Apic.{Apic}
 use Rattle.machine_desc.specs.declared.acpi_parts.Numa.{Numa}
 use Rattle.machine_desc.specs.declared.acpi_parts.Power.{Power}
-use Rattle.machine_desc.specs.declared.device_parts.Bridge.{Bridge}
-use Rattle.machine_desc.specs.declared.device_parts.Uart.{Uart}
 use Rattle.machine_desc.specs.Rules.{IsAccepted}
 use Rattle.machine_desc.proofs.Accepted.{power_needs_acpi, hpet_needs_acpi, numa_needs_acpi, needs_acpi}
 use Rattle.acpi_records.specs.declared.slit.Slit.{Slit as SlitRecord}
@@ -30,7 +28,7 @@ use Rattle.acpi_model.specs.MachineMadt.{madt_of_machine, apic_in, cpus_in, io_a
 use Rattle.acpi_model.specs.Acpi.{facs_place, dsdt_place, dsdt_of, acpi_of}
 use Rattle.acpi_model.proofs.AcceptedAcpi.{accepted_padded, no_part, no_list, no_bridge, no_uarts}
 use Rattle.acpi_model.proofs.MadtsBack.{apic_back, cpus_back, io_apics_back, overrides_back, nmis_back}
-use Rattle.dsdt_terms.specs.Dsdt.{dsdt_terms, has_clock, without_ecam, HaveSameDevices}
+use Rattle.dsdt_terms.specs.Dsdt.{kept_terms, has_clock, without_ecam, HaveSameDevices}
 use Rattle.acpi_model.proofs.MachineFadts.{power_told, told_back}
 use Rattle.acpi_model.proofs.SameDevices.{same_bridge}
 use Rattle.acpi_model.proofs.Maker.{acpi_back}
@@ -126,18 +124,18 @@ without_power a b a_accepted b_accepted a_none b_none = record {
 
 -- the same DSDT is of the same devices, where the same terms are
 same_dsdts : (a b : Machine) (x y : Acpi) (o p : Option Power) → a.power ≡ o → b.power ≡ p → IsAccepted a → IsAccepted b
-    → (dsdt_terms a ≡ dsdt_terms b → HaveSameDevices a b)
+    → (kept_terms a ≡ kept_terms b → HaveSameDevices a b)
     → option_map (λ (power : Power). dsdt_of a x) o ≡ option_map (λ (power : Power). dsdt_of b y) p → HaveSameDevices a b
 same_dsdts a b x y None None a_has b_has a_accepted b_accepted tell same = without_power a b a_accepted b_accepted a_has b_has
 same_dsdts a b x y None (Some q) a_has b_has a_accepted b_accepted tell same = absurd (cc)
 same_dsdts a b x y (Some p) None a_has b_has a_accepted b_accepted tell same = absurd (cc)
 same_dsdts a b x y (Some p) (Some q) a_has b_has a_accepted b_accepted tell same =
     let tables : dsdt_of a x ≡ dsdt_of b y = cc in
-    let terms : dsdt_terms a ≡ dsdt_terms b = cc in
+    let terms : kept_terms a ≡ kept_terms b = cc in
     tell terms
 
 same_parts : (a b : Machine) (o p : Option Acpi) → a.acpi ≡ o → b.acpi ≡ p → IsAccepted a → IsAccepted b
-    → (dsdt_terms a ≡ dsdt_terms b → HaveSameDevices a b)
+    → (kept_terms a ≡ kept_terms b → HaveSameDevices a b)
     → option_map (acpi_of a) o ≡ option_map (acpi_of b) p → HaveSameAcpi a b
 same_parts a b None None a_has b_has a_accepted b_accepted tell same =
     let apic =
@@ -204,6 +202,6 @@ same_parts a b (Some x) (Some y) a_has b_has a_accepted b_accepted tell same =
           ∙ of_part b y hpet_kind as_hpet Hpet (hpet_of y) (λ t. refl) b.hpet refl);
     }
 
-pub same_acpi : (a b : Machine) → IsAccepted a → IsAccepted b → (dsdt_terms a ≡ dsdt_terms b → HaveSameDevices a b)
+pub same_acpi : (a b : Machine) → IsAccepted a → IsAccepted b → (kept_terms a ≡ kept_terms b → HaveSameDevices a b)
     → option_map (acpi_of a) a.acpi ≡ option_map (acpi_of b) b.acpi → HaveSameAcpi a b
 same_acpi a b = same_parts a b a.acpi b.acpi refl refl

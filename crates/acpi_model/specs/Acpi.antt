@@ -1,14 +1,15 @@
 -- The ACPI tables that a view shows, from its RSDP on (ACPI 6.5, chapter 5), and those of a machine.
-use Rattle.std.specs.Prelude.{◌≡◌, ℕ, ◌+◌, ◌<◌, ◌⊎◌, Bool, true, not, List, [], ◌∷◌, ◌++◌}
-use Rattle.std.specs.Prelude.{Option, Some, None, is_some, option_map, option_and_then, option_to_list}
+use Rattle.std.specs.Prelude.{◌≡◌, ℕ, ◌+◌, ◌^◌, ◌<◌, ◌⊎◌, Bool, true, not, List, [], ◌∷◌, ◌++◌}
+use Rattle.std.specs.Prelude.{Option, Some, None, is_some, IfSome, option_map, option_and_then, option_to_list}
 use Rattle.std.specs.List.{find, flat_map, AllByRecursion}
 use Rattle.std.specs.Option.{option_map_or}
 use Rattle.std.specs.Str.{bytes_eq}
-use Rattle.vt_bytes.specs.View.{View}
+use Rattle.vt_bytes.specs.View.{View, bytes_in}
 use Rattle.vt_layout.specs.declared.row.Row.{Row}
 use Rattle.vt_layout.specs.Rows.{size, IsRow}
 use Rattle.machine_desc.specs.declared.machine.Machine.{Machine}
 use Rattle.machine_desc.specs.declared.machine.Acpi.{Acpi}
+use Rattle.machine_desc.specs.Uuids.{uuid_bytes}
 use Rattle.acpi_records.specs.declared.header.Head.{Head}
 use Rattle.acpi_model.specs.declared.acpi.AcpiTables.{AcpiTables}
 use Rattle.acpi_model.specs.declared.acpi.OtherTable.{OtherTable}
@@ -18,7 +19,7 @@ use Rattle.acpi_model.specs.declared.acpi.Table.TheVariants.{Fadt, Madt, Srat, S
 use Rattle.acpi_model.specs.declared.dsdt.Dsdt.{Dsdt}
 use Rattle.acpi_model.specs.declared.dsdt.Dsdt.TheVariants.{Terms}
 use Rattle.acpi_model.specs.declared.link.FadtLinks.{FadtLinks}
-use Rattle.dsdt_terms.specs.Dsdt.{dsdt_terms}
+use Rattle.dsdt_terms.specs.Dsdt.{terms_at, kept_terms}
 use Rattle.acpi_records.specs.Header.{IsTable, IsFittingHead, head_of, padded}
 use Rattle.acpi_model.specs.Kinds.{Kind, TableLayout, IsLayoutAt, IsLawful, table_of, rows_behind, layout_rows, linked_layout}
 use Rattle.acpi_model.specs.FadtKind.{fadt_kind, fadt_layout, link_rows, as_fadt, links_of}
@@ -154,30 +155,31 @@ pub record AreFound (view : View) (addresses : List ℕ) (tables : List Table) (
   pub distinct : AreDistinct tables
   pub lead : LeadTo view (first_links tables) targets
 
--- The tables at addresses tell these: what they tell is gathered of them.
-pub record AreTold (view : View) (addresses : List ℕ) (t : AcpiTables) : Type 0 where
+-- The tables at addresses tell these, and the id of a generation: what they tell is gathered of them.
+pub record AreTold (view : View) (addresses : List ℕ) (t : AcpiTables) (id : Option (List ℕ)) : Type 0 where
   pub tables : List Table
   pub targets : FadtTargets
   pub found : AreFound view addresses tables targets t.others
   pub told : t ≡ gathered t.oem_id t.xsdt tables targets t.others
+  pub its_id : id ≡ targets.generation
 
--- The RSDP at an address has the maker's id and leads to the XSDT, whose entries name the tables.
-pub record LeadsToAcpi (view : View) (rsdp : ℕ) (t : AcpiTables) : Type 0 where
+-- The RSDP at an address has the maker's id and leads to the XSDT, whose entries name the tables, which lead to the id of a generation.
+pub record LeadsToAcpi (view : View) (rsdp : ℕ) (t : AcpiTables) (id : Option (List ℕ)) : Type 0 where
   pub xsdt : ℕ
   pub valid : IsRsdp view rsdp t.oem_id xsdt
   pub addresses : List ℕ
   pub listed : IsXsdt view xsdt t.xsdt addresses
-  pub tables : AreTold view addresses t
+  pub tables : AreTold view addresses t id
 
--- The view shows the tables: the least valid RSDP leads to them.
-pub record ShowsAcpi (view : View) (t : AcpiTables) : Type 0 where
+-- The view shows the tables and the id of a generation: the least valid RSDP leads to them.
+pub record ShowsAcpi (view : View) (t : AcpiTables) (id : Option (List ℕ)) : Type 0 where
   pub rsdp : ℕ
   pub least : (other : ℕ) → other < rsdp → HasRsdp view other → ⊥
-  pub leads : LeadsToAcpi view rsdp t
+  pub leads : LeadsToAcpi view rsdp t id
 
 -- what nothing leads to
 abbrev pub no_targets : FadtTargets
-no_targets = record { facs = None; dsdt = None }
+no_targets = record { facs = None; dsdt = None; generation = None }
 
 -- the test that a table with a signature is the first, behind others
 abbrev pub is_first : List ℕ → List Table → Bool
@@ -201,6 +203,11 @@ with_table (Srat t) targets all = record all { srat = Some t }
 with_table (Slit t) targets all = record all { slit = Some t }
 with_table (Mcfg t) targets all = record all { mcfg = Some t }
 with_table (Hpet t) targets all = record all { hpet = Some t }
+
+-- and the id to which it leads, where it is one that leads to any
+abbrev pub id_with : Table → FadtTargets → Option (List ℕ) → Option (List ℕ)
+id_with (Fadt t links) targets before = targets.generation
+id_with table targets before = before
 
 -- and another table
 abbrev pub with_other : OtherTable → AcpiTables → AcpiTables
@@ -233,14 +240,28 @@ present parts = flat_map option_to_list parts
 abbrev pub tables_of : Machine → Acpi → List Table
 tables_of m acpi = present (parts_of m acpi)
 
--- a machine's DSDT
+-- a machine's DSDT where the id of its generation is at an address, and what is kept of it
+abbrev pub dsdt_at : ℕ → Machine → Acpi → Dsdt
+dsdt_at address m acpi = Terms (head_of acpi 2) (terms_at address m)
+
 abbrev pub dsdt_of : Machine → Acpi → Dsdt
-dsdt_of m acpi = Terms (head_of acpi 2) (dsdt_terms m)
+dsdt_of m acpi = Terms (head_of acpi 2) (kept_terms m)
+
+-- the id of its generation, as a guest finds it
+abbrev pub id_of : Machine → Option (List ℕ)
+id_of m = option_map uuid_bytes m.generation
 
 -- what its FADT leads to
 abbrev pub targets_of : Machine → Acpi → FadtTargets
-targets_of m acpi =
-    record { facs = option_map (λ power. initial_facs) m.power; dsdt = option_map (λ power. dsdt_of m acpi) m.power }
+targets_of m acpi = record {
+  facs = option_map (λ power. initial_facs) m.power;
+  dsdt = option_map (λ power. dsdt_of m acpi) m.power;
+  generation = id_of m;
+}
+
+-- a view has a machine's id where its DSDT tells that it is, below 4 GiB
+abbrev pub HasIdAt : View → ℕ → Machine → Type 0
+HasIdAt view address m = IfSome m.generation (λ id. (address < 2 ^ 32) × (bytes_in view address 16 ≡ Some (uuid_bytes id)))
 
 -- the tables of a machine that has some
 abbrev pub acpi_of : Machine → Acpi → AcpiTables

@@ -1,4 +1,4 @@
--- What an FADT leads to in a view: a FACS (ACPI 6.5, 5.2.10) and a DSDT (5.2.11.1).
+-- What an FADT leads to in a view: a FACS (ACPI 6.5, 5.2.10), a DSDT (5.2.11.1), and what that leads to, the id of the machine's generation.
 use Rattle.std.specs.Prelude.{◌≡◌, ℕ, ◌+◌, ◌-◌, ◌<◌, ◌⊎◌, List, [], codes, Option, Some, None}
 use Rattle.std.specs.List.{AllByRecursion}
 use Rattle.vt_bytes.specs.View.{View, bytes_in}
@@ -8,6 +8,7 @@ use Rattle.vt_layout.specs.Rows.{IsPlain}
 use Rattle.aml_terms.specs.declared.term.Term.{Term}
 use Rattle.aml_terms.specs.Trees.{Trees, views}
 use Rattle.aml_terms.specs.Grammar.{Aml}
+use Rattle.aml_generation.specs.Generation.{taken}
 use Rattle.acpi_records.specs.declared.header.Head.{Head}
 use Rattle.acpi_records.specs.Header.{IsTable, table_rows}
 use Rattle.acpi_records.specs.Facs.{IsFacs}
@@ -65,8 +66,31 @@ facs_address links = wide_or links.x_firmware_ctrl links.firmware_ctrl
 abbrev pub dsdt_address : FadtLinks → ℕ
 dsdt_address links = wide_or links.x_dsdt links.dsdt
 
+-- The id of a machine's generation, whose address may be told: the 16 bytes there, which are RAM.
+abbrev pub IsIdAt : View → Option ℕ → Option (List ℕ) → Type 0
+IsIdAt view None id = id ≡ None
+IsIdAt view (Some address) id = (bytes : List ℕ) × (bytes_in view address 16 ≡ Some bytes) × (id ≡ Some bytes)
+
+-- What is kept of a DSDT, and the id to which it leads: terms that tell the address of an id are kept with zeros in its place, and others as
+-- they are. One whose definition block spells none leads to none.
+abbrev pub IsKept : View → Dsdt → Dsdt → Option (List ℕ) → Type 0
+IsKept view (Terms head terms) dsdt id =
+    (kept : List Term) × (dsdt ≡ Terms head kept) × (views kept ≡ (taken (views terms)).1) × IsIdAt view (taken (views terms)).0 id
+IsKept view (Foreign head length) dsdt id = (dsdt ≡ Foreign head length) × (id ≡ None)
+
+-- a DSDT stands at the address of which this is kept, and which leads to this id
+pub record IsKeptAt (view : View) (address : ℕ) (dsdt : Dsdt) (id : Option (List ℕ)) : Type 0 where
+  pub written : Dsdt
+  pub stands : IsDsdt view address written
+  pub kept : IsKept view written dsdt id
+
+-- What an address leads to: nothing where it is 0, else a DSDT that stands there.
+abbrev pub LeadsToDsdt : View → ℕ → Option Dsdt → Option (List ℕ) → Type 0
+LeadsToDsdt view address None id = (address ≡ 0) × (id ≡ None)
+LeadsToDsdt view address (Some dsdt) id = (address ≡ 0 → ⊥) × IsKeptAt view address dsdt id
+
 -- The pointers of an FADT lead to these, and where there is no FADT nothing is led to.
 abbrev pub LeadTo : View → Option FadtLinks → FadtTargets → Type 0
-LeadTo view None targets = (targets.facs ≡ None) × (targets.dsdt ≡ None)
+LeadTo view None targets = (targets.facs ≡ None) × (targets.dsdt ≡ None) × (targets.generation ≡ None)
 LeadTo view (Some links) targets =
-    IsFound (IsFacs view) (facs_address links) targets.facs × IsFound (IsDsdt view) (dsdt_address links) targets.dsdt
+    IsFound (IsFacs view) (facs_address links) targets.facs × LeadsToDsdt view (dsdt_address links) targets.dsdt targets.generation

@@ -21,7 +21,7 @@ use crate::machine_srat::srat_of_machine;
 use acpi_records::{
     Facs, Fadt, Head, HpetTable, Madt, Mcfg, Slit, Srat, head_of, hpet_of, initial_facs,
 };
-use dsdt_terms::dsdt_terms;
+use dsdt_terms::kept_terms;
 use machine_desc::{Acpi, Machine};
 use std::alloc::Global;
 use vt_outside::{List, OutOfMemory};
@@ -37,7 +37,7 @@ pub struct AcpiTables {
     pub fadt: Option<Fadt>,
     /// The FACS, where the FADT leads to one.
     pub facs: Option<Facs>,
-    /// The DSDT, where the FADT leads to one.
+    /// The DSDT, where the FADT leads to one. Its terms tell 0 in place of the address of the id of the machine's generation.
     pub dsdt: Option<Dsdt>,
     /// The MADT, where the XSDT names one.
     pub madt: Option<Madt>,
@@ -67,8 +67,10 @@ pub struct OtherTable {
 pub struct FadtTargets {
     /// The FACS, where they lead to one.
     pub facs: Option<Facs>,
-    /// The DSDT, where they lead to one.
+    /// The DSDT, where they lead to one. Its terms tell 0 in place of the address of the id.
     pub dsdt: Option<Dsdt>,
+    /// The id of the machine's generation, where the DSDT leads to one.
+    pub generation: Option<[u8; 16]>,
 }
 
 /// A table of a known signature, which an XSDT names.
@@ -242,7 +244,7 @@ fn dsdt_part(alloc: Global, machine: &Machine, acpi: &Acpi) -> Result<Option<Dsd
     match machine.power {
         Some(_) => Ok(Some(Dsdt::Terms {
             head: head_of(acpi, 2),
-            terms: dsdt_terms(alloc, machine)?,
+            terms: kept_terms(alloc, machine)?,
         })),
         None => Ok(None),
     }

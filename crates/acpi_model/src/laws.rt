@@ -1,6 +1,6 @@
 //! Laws over the definitions, each the contract of a function that does nothing.
 
-ghost use Rattle.std.specs.Prelude.{◌≡◌, ℕ, ◌+◌, ◌<◌, ◌≤◌, List, [], ◌∷◌, ◌++◌, length, map, true, not, codes, Some, is_some, IsSome, IfSome};
+ghost use Rattle.std.specs.Prelude.{◌≡◌, ℕ, ◌+◌, ◌<◌, ◌≤◌, List, [], ◌∷◌, ◌++◌, length, map, true, not, codes, Option, Some, None, is_some, IsSome, IfSome};
 ghost use Rattle.std.specs.List.{AllByRecursion};
 ghost use Rattle.vt_bytes.specs.View.{View};
 ghost use Rattle.vt_layout.specs.declared.row.Row.TheVariants.{Pointer};
@@ -12,6 +12,7 @@ ghost use Rattle.machine_desc.specs.declared.machine.Acpi.{Acpi};
 ghost use Rattle.machine_desc.specs.declared.acpi_parts.Apic.{Apic};
 ghost use Rattle.machine_desc.specs.Rules.{is_padded_text, apic_id, IsAccepted};
 ghost use Rattle.machine_desc.specs.Fields.{HasFittingFields};
+ghost use Rattle.dsdt_terms.specs.Dsdt.{id_address};
 ghost use Rattle.acpi_records.specs.declared.header.Head.{Head};
 ghost use Rattle.acpi_model.specs.declared.acpi.AcpiTables.{AcpiTables};
 ghost use Rattle.acpi_model.specs.declared.acpi.FadtTargets.{FadtTargets};
@@ -20,7 +21,7 @@ ghost use Rattle.acpi_model.specs.declared.acpi.Table.{Table};
 ghost use Rattle.acpi_records.specs.Header.{head_of, padded, FitsHead};
 ghost use Rattle.acpi_model.specs.Maker.{acpi_in};
 ghost use Rattle.acpi_model.specs.Acpi.{IsAt, IsOther, IsWritable, CanBePut, rows_of, linked_table, signature_of, Walks, AreAt, AreDistinct, bytes_behind, first_with, first_links, gathered, facs_place, tables_of, targets_of, acpi_of};
-ghost use Rattle.acpi_model.specs.Acpi.{dsdt_place, dsdt_of, no_targets, AreFound, AreTold, is_first, TableLeadsTo, IsFoundBehind, with_table, with_other};
+ghost use Rattle.acpi_model.specs.Acpi.{dsdt_place, dsdt_at, HasIdAt, no_targets, AreFound, AreTold, is_first, TableLeadsTo, IsFoundBehind, with_table, id_with, with_other};
 ghost use Rattle.acpi_model.specs.Kinds.{tables_name};
 ghost use Rattle.acpi_records.specs.Facs.{IsFacs};
 ghost use Rattle.acpi_model.specs.declared.dsdt.Dsdt.{Dsdt};
@@ -50,18 +51,18 @@ pub fn tables_at_their_addresses_are_walked()
 
 /// States that at no addresses nothing is found, whatever the RSDP's id and the header of the XSDT are.
 pub fn nothing_is_found_at_no_addresses()
-    ensures { (view : View) (oem_id : List ℕ) (head : Head) → AreTold view [] (gathered oem_id head [] no_targets []) }
+    ensures { (view : View) (oem_id : List ℕ) (head : Head) → AreTold view [] (gathered oem_id head [] no_targets []) None }
 {}
 
 /// States that a table at one address more is added to what is told of those before: one of a known kind, where it is the first of its kind
 /// and with what its pointers lead to, and another. It is found last.
 pub fn found_tables_grow()
-    ensures table { (view : View) (before : List ℕ) (all : AcpiTables) (is : AreTold view before all) (address : ℕ) (t : Table) (targets : FadtTargets)
+    ensures table { (view : View) (before : List ℕ) (all : AcpiTables) (id : Option (List ℕ)) (is : AreTold view before all id) (address : ℕ) (t : Table) (targets : FadtTargets)
         → IsAt view address t → is_first (signature_of t) is.tables ≡ true → TableLeadsTo view t targets
-        → (told : AreTold view (before ++ address ∷ []) (with_table t targets all)) × (told.tables ≡ is.tables ++ t ∷ []) }
-    ensures other { (view : View) (before : List ℕ) (all : AcpiTables) (is : AreTold view before all) (address : ℕ) (t : OtherTable)
+        → (told : AreTold view (before ++ address ∷ []) (with_table t targets all) (id_with t targets id)) × (told.tables ≡ is.tables ++ t ∷ []) }
+    ensures other { (view : View) (before : List ℕ) (all : AcpiTables) (id : Option (List ℕ)) (is : AreTold view before all id) (address : ℕ) (t : OtherTable)
         → IsOther view address t
-        → (told : AreTold view (before ++ address ∷ []) (with_other t all)) × (told.tables ≡ is.tables) }
+        → (told : AreTold view (before ++ address ∷ []) (with_other t all) id) × (told.tables ≡ is.tables) }
 {}
 
 /// States that, where tables are found at addresses, some are found at the first of these, and behind them the table at the next one.
@@ -73,17 +74,17 @@ pub fn tables_are_found_in_turn()
 
 /// States that a table would be the first of its kind behind others exactly where none of the kind is told of them.
 pub fn known_table_is_told_apart()
-    ensures fadt { (view : View) (before : List ℕ) (all : AcpiTables) (is : AreTold view before all)
+    ensures fadt { (view : View) (before : List ℕ) (all : AcpiTables) (id : Option (List ℕ)) (is : AreTold view before all id)
         → is_first (codes "FACP") is.tables ≡ not (is_some all.fadt) }
-    ensures madt { (view : View) (before : List ℕ) (all : AcpiTables) (is : AreTold view before all)
+    ensures madt { (view : View) (before : List ℕ) (all : AcpiTables) (id : Option (List ℕ)) (is : AreTold view before all id)
         → is_first (codes "APIC") is.tables ≡ not (is_some all.madt) }
-    ensures srat { (view : View) (before : List ℕ) (all : AcpiTables) (is : AreTold view before all)
+    ensures srat { (view : View) (before : List ℕ) (all : AcpiTables) (id : Option (List ℕ)) (is : AreTold view before all id)
         → is_first (codes "SRAT") is.tables ≡ not (is_some all.srat) }
-    ensures slit { (view : View) (before : List ℕ) (all : AcpiTables) (is : AreTold view before all)
+    ensures slit { (view : View) (before : List ℕ) (all : AcpiTables) (id : Option (List ℕ)) (is : AreTold view before all id)
         → is_first (codes "SLIT") is.tables ≡ not (is_some all.slit) }
-    ensures mcfg { (view : View) (before : List ℕ) (all : AcpiTables) (is : AreTold view before all)
+    ensures mcfg { (view : View) (before : List ℕ) (all : AcpiTables) (id : Option (List ℕ)) (is : AreTold view before all id)
         → is_first (codes "MCFG") is.tables ≡ not (is_some all.mcfg) }
-    ensures hpet { (view : View) (before : List ℕ) (all : AcpiTables) (is : AreTold view before all)
+    ensures hpet { (view : View) (before : List ℕ) (all : AcpiTables) (id : Option (List ℕ)) (is : AreTold view before all id)
         → is_first (codes "HPET") is.tables ≡ not (is_some all.hpet) }
 {}
 
@@ -103,11 +104,13 @@ pub fn tables_of_a_machine_are_gathered()
 {}
 
 /// States that, where the file of the tables isn't placed at 0, a machine's FADT leads to the FACS that a view shows where that file
-/// begins, and to the machine's DSDT where the view shows it behind the FACS; and that a machine without an FADT leads to nothing.
+/// begins, and to the machine's DSDT where the view shows it behind the FACS, and with it to the id of its generation where the view has it;
+/// and that a machine without an FADT leads to nothing.
 pub fn fadt_of_a_machine_leads_to_its_facs_and_its_dsdt()
     ensures { (view : View) (place_of : List ℕ → ℕ) (machine : Machine) (acpi : Acpi) → 0 < place_of tables_name
         → (IsSome machine.power → IsFacs view (place_of tables_name + facs_place) initial_facs)
-        → (IsSome machine.power → IsDsdt view (place_of tables_name + dsdt_place) (dsdt_of machine acpi))
+        → (IsSome machine.power → IsDsdt view (place_of tables_name + dsdt_place) (dsdt_at (id_address place_of) machine acpi))
+        → (IsSome machine.generation → IsSome machine.power) → HasIdAt view (id_address place_of) machine
         → LeadTo view (first_links (map (linked_table place_of) (tables_of machine acpi))) (targets_of machine acpi) }
 {}
 

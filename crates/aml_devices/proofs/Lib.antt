@@ -1,1 +1,2 @@
+pub mod BlockRows
 pub mod MachinePut

@@ -1,13 +1,10 @@
--- A DSDT that was appended with the bytes of a machine's terms is the machine's.
-use Rattle.std.proofs.Common.{inl, sym, subst, append-nil}
+-- A DSDT that was appended with the rows of a machine's definition block is the machine's.
 use Rattle.machine_desc.specs.declared.machine.Machine.{Machine}
 use Rattle.machine_desc.specs.declared.machine.Acpi.{Acpi}
 use Rattle.machine_desc.specs.Rules.{IsAccepted}
 use Rattle.machine_desc.specs.Fields.{HasFittingFields}
-use Rattle.aml_terms.specs.Trees.{views}
-use Rattle.aml_terms.specs.Grammar.{Aml}
-use Rattle.dsdt_terms.specs.Dsdt.{dsdt_terms, dsdt_bytes, dsdt_body}
-use Rattle.dsdt_terms.proofs.MachineTerms.{terms_spelled}
+use Rattle.dsdt_terms.specs.Dsdt.{terms_at, dsdt_body, id_address}
+use Rattle.dsdt_terms.proofs.WrittenId.{body_read}
 use Rattle.acpi_model.specs.Header.{head_of}
 use Rattle.blob_holes.specs.Blob.{BlobState}
 use Rattle.acpi_append.specs.DsdtPut.{IsDsdtPut}
@@ -17,7 +14,6 @@ pub machine_put : (before after : BlobState) (acpi : Acpi) (m : Machine) → IsA
     → IsDsdtPut before after (head_of acpi 2) (dsdt_body m) → IsMachineDsdtPut before after acpi m
 machine_put before after acpi m accepted fit put = record {
   appended = put.appended;
-  shown = λ later view address place_of grown held.
-      put.shown later view address place_of grown held (dsdt_terms m) (inl (tt, tt))
-      (subst (Aml (views (dsdt_terms m))) (sym (append-nil (dsdt_bytes m))) (terms_spelled m accepted fit));
+  shown = λ later view address place_of grown held spelled small.
+      put.shown later view address place_of grown held (terms_at (id_address place_of) m) spelled (body_read m place_of accepted fit small);
 }

@@ -1,10 +1,10 @@
 -- A memory is scanned in one way: what it shows of both anchors, or one first fault.
-use Rattle.std.proofs.Common.{◌≡◌, ℕ, ◌⊎◌, inl, inr, ⊎_elim, Option, Some, None, MatchOption, Result, Ok, Err, IfOk, IfErr, IfSome, refl, ap, subst}
+use Rattle.std.proofs.Common.{◌≡◌, ℕ, List, ◌⊎◌, inl, inr, ⊎_elim, Option, Some, None, MatchOption, Result, Ok, Err, IfOk, IfErr, IfSome, refl, ap, subst}
 use Rattle.vt_bytes.specs.View.{View}
 use Rattle.vt_bytes.proofs.AtMostOne.{IsOne, one_least}
 use Rattle.acpi_model.specs.declared.acpi.AcpiTables.{AcpiTables}
 use Rattle.acpi_model.specs.Rsdp.{HasRsdp}
-use Rattle.acpi_model.specs.Acpi.{ShowsAcpi, LeadsToAcpi}
+use Rattle.acpi_model.specs.Acpi.{LeadsToAcpi}
 use Rattle.acpi_decode.specs.declared.fault.AcpiFault.{AcpiFault}
 use Rattle.acpi_decode.specs.declared.fault.AcpiFault.TheVariants as acpi
 use Rattle.acpi_decode.specs.declared.walked.Walked.{Walked}
@@ -17,13 +17,13 @@ use Rattle.smbios_decode.specs.declared.fault.SmbiosFault.{SmbiosFault}
 use Rattle.smbios_decode.specs.declared.fault.SmbiosFault.TheVariants as smbios
 use Rattle.smbios_decode.proofs.OneReading.{one_meaning as one_smbios_meaning}
 use Rattle.table_model.specs.declared.inventory.Inventory.{Inventory}
-use Rattle.table_model.specs.Inventory.{Shows}
+use Rattle.table_model.specs.Inventory.{ShowsTables, Shows}
 use Rattle.table_model.proofs.OneInventory.{one_inventory}
 use Rattle.anchor_scan.specs.declared.fault.ScanFault.{ScanFault}
 use Rattle.anchor_scan.specs.declared.fault.ScanFault.TheVariants.{Acpi, Smbios, OutOfMemory}
-use Rattle.anchor_scan.specs.Shown.{HasNoAnchor, HasNoRsdp, RefusesSmbios}
-use Rattle.anchor_scan.specs.Scan.{of_acpi, of_smbios, RefusesAcpi, ShowsAcpiPart, Refuses, ScannedAs, OrOutOfMemory}
-use Rattle.anchor_scan.specs.Gathered.{inventory_of}
+use Rattle.anchor_scan.specs.Shown.{HasNoAnchor, RefusesSmbios}
+use Rattle.anchor_scan.specs.Scan.{of_acpi, of_smbios, RefusesAcpi, ShowsSomeTables, Refuses, ScannedAs, OrOutOfMemory}
+use Rattle.anchor_scan.specs.Gathered.{IsShown, inventory_of}
 use Rattle.anchor_scan.proofs.Scanned.{none_refused, shown_is_read, told_is_refused}
 
 -- a fault is told as it is, unless memory ran out
@@ -37,31 +37,32 @@ acpi_told view (acpi.BadEntry a) is = ⊎_elim (λ memory. absurd (cc memory)) (
 acpi_told view (acpi.WrongSignature a) is = ⊎_elim (λ memory. absurd (cc memory)) (λ refuses. inr ((λ same. absurd (cc same)), refuses)) is
 acpi_told view (acpi.TwiceGiven a) is = ⊎_elim (λ memory. absurd (cc memory)) (λ refuses. inr ((λ same. absurd (cc same)), refuses)) is
 
-pub smbios_told : (view : View) (part : Option AcpiTables) (fault : SmbiosFault) → ShowsAcpiPart view part
+pub smbios_told : (view : View) (fault : SmbiosFault) → ShowsSomeTables view
     → (fault ≡ smbios.OutOfMemory) ⊎ RefusesSmbios view fault → (of_smbios fault ≡ OutOfMemory) ⊎ Refuses view (of_smbios fault)
-smbios_told view part smbios.OutOfMemory shows is = inl refl
-smbios_told view part (smbios.Truncated a) shows is =
-    ⊎_elim (λ memory. absurd (cc memory)) (λ refuses. inr ((λ same. absurd (cc same)), refuses, (part, shows))) is
-smbios_told view part (smbios.ShortStructure a) shows is =
-    ⊎_elim (λ memory. absurd (cc memory)) (λ refuses. inr ((λ same. absurd (cc same)), refuses, (part, shows))) is
-smbios_told view part smbios.NoEnd shows is =
-    ⊎_elim (λ memory. absurd (cc memory)) (λ refuses. inr ((λ same. absurd (cc same)), refuses, (part, shows))) is
-smbios_told view part (smbios.NoSuchString a n) shows is =
-    ⊎_elim (λ memory. absurd (cc memory)) (λ refuses. inr ((λ same. absurd (cc same)), refuses, (part, shows))) is
+smbios_told view smbios.OutOfMemory shows is = inl refl
+smbios_told view (smbios.Truncated a) shows is =
+    ⊎_elim (λ memory. absurd (cc memory)) (λ refuses. inr ((λ same. absurd (cc same)), refuses, shows)) is
+smbios_told view (smbios.ShortStructure a) shows is =
+    ⊎_elim (λ memory. absurd (cc memory)) (λ refuses. inr ((λ same. absurd (cc same)), refuses, shows)) is
+smbios_told view smbios.NoEnd shows is =
+    ⊎_elim (λ memory. absurd (cc memory)) (λ refuses. inr ((λ same. absurd (cc same)), refuses, shows)) is
+smbios_told view (smbios.NoSuchString a n) shows is =
+    ⊎_elim (λ memory. absurd (cc memory)) (λ refuses. inr ((λ same. absurd (cc same)), refuses, shows)) is
 
 -- what is shown of ACPI has no fault, and there is one fault
 has_rsdp : (view : View) (rsdp : ℕ) (fault : AcpiFault) → First view rsdp fault → HasRsdp view rsdp
 has_rsdp view rsdp fault first = (first.oem_id, first.xsdt, first.valid)
 
-shown_or_refused : (view : View) (part : Option AcpiTables) (fault : AcpiFault) → ShowsAcpiPart view part → RefusesAcpi view fault → ⊥
-shown_or_refused view None fault none refuses = none refuses.rsdp (has_rsdp view refuses.rsdp fault refuses.first)
-shown_or_refused view (Some t) fault shows refuses =
+shown_or_refused : (view : View) (part : Option AcpiTables) (id : Option (List ℕ)) (fault : AcpiFault) → ShowsTables view part id
+    → RefusesAcpi view fault → ⊥
+shown_or_refused view None id fault none refuses = none.0 refuses.rsdp (has_rsdp view refuses.rsdp fault refuses.first)
+shown_or_refused view (Some t) id fault shows refuses =
     let leads = shows.leads in
     let place : shows.rsdp ≡ refuses.rsdp =
     one_least (HasRsdp view) shows.rsdp refuses.rsdp (t.oem_id, leads.xsdt, leads.valid) (has_rsdp view refuses.rsdp fault refuses.first) shows.least refuses.least in
-    let walked : Walked = record { tables = t; generation = None } in
+    let walked : Walked = record { tables = t; generation = id } in
     let same = one_acpi_meaning view refuses.rsdp (Ok walked) (Err fault)
-    (record { leads = subst (λ a. LeadsToAcpi view a t) place leads; generation = refl }) refuses.first in
+    (subst (λ a. LeadsToAcpi view a t id) place leads) refuses.first in
     absurd (cc same)
 
 one_acpi_fault : (view : View) (f g : AcpiFault) → RefusesAcpi view f → RefusesAcpi view g → f ≡ g
@@ -91,14 +92,14 @@ one_smbios_fault view f g is also =
 
 -- what is shown of both has no fault
 never_both : (top : ℕ) (view : View) (inventory : Inventory) (fault : ScanFault) → Shows top view inventory → Refuses view fault → ⊥
-never_both top view inventory (Acpi fault) shows refuses = shown_or_refused view inventory.acpi fault shows.acpi refuses.1
+never_both top view inventory (Acpi fault) shows refuses = shown_or_refused view inventory.acpi inventory.generation fault shows.acpi refuses.1
 never_both top view inventory (Smbios fault) shows refuses = smbios_never_both view inventory.smbios fault shows.smbios refuses.1
 never_both top view inventory OutOfMemory shows refuses = refuses
 
 one_fault : (view : View) → IsOne (Refuses view)
 one_fault view (Acpi f) (Acpi g) is also = ap Acpi (one_acpi_fault view f g is.1 also.1)
-one_fault view (Acpi f) (Smbios g) is also = absurd (shown_or_refused view also.2.0 f also.2.1 is.1)
-one_fault view (Smbios f) (Acpi g) is also = absurd (shown_or_refused view is.2.0 g is.2.1 also.1)
+one_fault view (Acpi f) (Smbios g) is also = absurd (shown_or_refused view also.2.tables also.2.generation f also.2.shown is.1)
+one_fault view (Smbios f) (Acpi g) is also = absurd (shown_or_refused view is.2.tables is.2.generation g is.2.shown also.1)
 one_fault view (Smbios f) (Smbios g) is also = ap Smbios (one_smbios_fault view f g is.1 also.1)
 one_fault view OutOfMemory g is also = absurd is
 one_fault view (Acpi f) OutOfMemory is also = absurd also
@@ -125,13 +126,11 @@ smbios_part view (Some t) shows none = shows
 
 -- and all of it
 pub inventory_shows : (top : ℕ) (view : View) (walked : Option Walked) (found : Option SmbiosTable)
-    → MatchOption walked (HasNoRsdp view) (λ w. ShowsAcpi view w.tables) → MatchOption walked (Unit {0}) (λ w. w.generation ≡ None)
-    → MatchOption found (HasNoAnchor view) (ShowsSmbios view) → Shows top view (inventory_of top walked found)
-inventory_shows top view None found tables generation smbios = record { its_top = refl; smbios = smbios; acpi = tables; generation = refl }
-inventory_shows top view (Some w) found tables generation smbios = record { its_top = refl; smbios = smbios; acpi = tables; generation = generation }
+    → IsShown view walked → MatchOption found (HasNoAnchor view) (ShowsSmbios view) → Shows top view (inventory_of top walked found)
+inventory_shows top view None found tables smbios = record { its_top = refl; smbios = smbios; acpi = (tables, refl) }
+inventory_shows top view (Some w) found tables smbios = record { its_top = refl; smbios = smbios; acpi = tables }
 
 -- what is shown of ACPI by what was walked
-pub acpi_part : (view : View) (walked : Option Walked) → MatchOption walked (HasNoRsdp view) (λ w. ShowsAcpi view w.tables)
-    → (part : Option AcpiTables) × ShowsAcpiPart view part
-acpi_part view None shows = (None, shows)
-acpi_part view (Some w) shows = (Some w.tables, shows)
+pub acpi_part : (view : View) (walked : Option Walked) → IsShown view walked → ShowsSomeTables view
+acpi_part view None shows = record { tables = None; generation = None; shown = (shows, refl) }
+acpi_part view (Some w) shows = record { tables = Some w.tables; generation = w.generation; shown = shows }

@@ -1,8 +1,15 @@
 -- The inventory of what was read from both anchors.
-use Rattle.std.specs.Prelude.{ℕ, Option, option_map, option_and_then}
+use Rattle.std.specs.Prelude.{ℕ, Option, MatchOption, option_map, option_and_then}
+use Rattle.vt_bytes.specs.View.{View}
+use Rattle.acpi_model.specs.Acpi.{ShowsAcpi}
 use Rattle.acpi_decode.specs.declared.walked.Walked.{Walked}
 use Rattle.smbios_model.specs.declared.smbios.SmbiosTable.{SmbiosTable}
+use Rattle.anchor_scan.specs.Shown.{HasNoRsdp}
 use Rattle.table_model.specs.declared.inventory.Inventory.{Inventory}
+
+-- what was read from the RSDP is shown, or nothing was where no valid one stands
+abbrev pub IsShown : View → Option Walked → Type 0
+IsShown view walked = MatchOption walked (HasNoRsdp view) (λ (w : Walked). ShowsAcpi view w.tables w.generation)
 
 abbrev pub inventory_of : ℕ → Option Walked → Option SmbiosTable → Inventory
 inventory_of top walked smbios = record {

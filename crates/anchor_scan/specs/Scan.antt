@@ -1,19 +1,18 @@
 -- What is read of a memory from both of its anchors, or the first fault: that of its ACPI tables comes before that of its SMBIOS structures.
-use Rattle.std.specs.Prelude.{◌≡◌, ◌≢◌, ℕ, ◌<◌, ◌⊎◌, Option, Result, Ok, Err, MatchOption}
+use Rattle.std.specs.Prelude.{◌≡◌, ◌≢◌, ℕ, ◌<◌, ◌⊎◌, List, Option, Result, Ok, Err}
 use Rattle.vt_bytes.specs.View.{View}
 use Rattle.acpi_model.specs.declared.acpi.AcpiTables.{AcpiTables}
 use Rattle.acpi_model.specs.Rsdp.{HasRsdp}
-use Rattle.acpi_model.specs.Acpi.{ShowsAcpi}
 use Rattle.acpi_decode.specs.declared.fault.AcpiFault.{AcpiFault}
 use Rattle.acpi_decode.specs.declared.fault.AcpiFault.TheVariants as acpi
 use Rattle.acpi_decode.specs.Faults.{First}
 use Rattle.smbios_decode.specs.declared.fault.SmbiosFault.{SmbiosFault}
 use Rattle.smbios_decode.specs.declared.fault.SmbiosFault.TheVariants as smbios
 use Rattle.table_model.specs.declared.inventory.Inventory.{Inventory}
-use Rattle.table_model.specs.Inventory.{Shows}
+use Rattle.table_model.specs.Inventory.{ShowsTables, Shows}
 use Rattle.anchor_scan.specs.declared.fault.ScanFault.{ScanFault}
 use Rattle.anchor_scan.specs.declared.fault.ScanFault.TheVariants.{Acpi, Smbios, OutOfMemory}
-use Rattle.anchor_scan.specs.Shown.{HasNoRsdp, RefusesSmbios}
+use Rattle.anchor_scan.specs.Shown.{RefusesSmbios}
 
 -- want of memory is told as such, whichever reader met it
 abbrev pub of_acpi : AcpiFault → ScanFault
@@ -30,15 +29,17 @@ pub record RefusesAcpi (view : View) (fault : AcpiFault) : Type 0 where
   pub least : (other : ℕ) → other < rsdp → HasRsdp view other → ⊥
   pub first : First view rsdp fault
 
--- what the view shows of ACPI: tables, or none exactly where no valid RSDP stands
-abbrev pub ShowsAcpiPart : View → Option AcpiTables → Type 0
-ShowsAcpiPart view part = MatchOption part (HasNoRsdp view) (ShowsAcpi view)
+-- the view shows ACPI tables, or none where no valid RSDP stands
+pub record ShowsSomeTables (view : View) : Type 0 where
+  pub tables : Option AcpiTables
+  pub generation : Option (List ℕ)
+  pub shown : ShowsTables view tables generation
 
 -- The fault is that of the ACPI tables, or that of the SMBIOS structures where the ACPI tables have none. Want of memory is no fault of
 -- a memory.
 abbrev pub Refuses : View → ScanFault → Type 0
 Refuses view (Acpi fault) = (fault ≢ acpi.OutOfMemory) × RefusesAcpi view fault
-Refuses view (Smbios fault) = (fault ≢ smbios.OutOfMemory) × RefusesSmbios view fault × ((part : Option AcpiTables) × ShowsAcpiPart view part)
+Refuses view (Smbios fault) = (fault ≢ smbios.OutOfMemory) × RefusesSmbios view fault × ShowsSomeTables view
 Refuses view OutOfMemory = ⊥
 
 -- what a memory below a top is read as

@@ -1,8 +1,7 @@
-ghost use Rattle.std.specs.Prelude.{◌≡◌, ◌⊎◌, None, MatchOption, IfOk, IfErr};
+ghost use Rattle.std.specs.Prelude.{◌≡◌, ◌⊎◌, IfOk, IfErr};
 ghost use Rattle.vt_bytes.specs.Memory.{seen};
-ghost use Rattle.acpi_model.specs.Acpi.{ShowsAcpi};
 ghost use Rattle.acpi_decode.specs.declared.fault.AcpiFault.TheVariants.{OutOfMemory as NoMemory};
-ghost use Rattle.anchor_scan.specs.Shown.{HasNoRsdp};
+ghost use Rattle.anchor_scan.specs.Gathered.{IsShown};
 ghost use Rattle.anchor_scan.specs.Scan.{RefusesAcpi};
 
 use crate::rsdp::find_rsdp;
@@ -13,8 +12,7 @@ use std::alloc::Global;
 
 /// Reads the ACPI tables of `memory` from its RSDP. Returns `Ok(None)` when no valid one stands there. The errors are those of [`walk`].
 pub(crate) fn scan_acpi(alloc: Global, memory: &GuestMemory) -> Result<Option<Walked>, AcpiFault>
-    ensures shown { IfOk result (λ found. MatchOption found (HasNoRsdp (seen memory.now)) (λ walked. ShowsAcpi (seen memory.now) walked.tables)) }
-    ensures generation { IfOk result (λ found. MatchOption found (Unit {0}) (λ walked. walked.generation ≡ None)) }
+    ensures shown { IfOk result (IsShown (seen memory.now)) }
     ensures refused { IfErr result (λ fault. (fault ≡ NoMemory) ⊎ RefusesAcpi (seen memory.now) fault) }
 {
     let Some(rsdp) = find_rsdp(memory) else {

@@ -255,10 +255,12 @@ machine_fits : (values : List Value) → AreFitting values → HasFittingFields 
 unfolding front_of arrays_of tables_of entries_of acpi_parts_of devices_of behind_of rest_of machine_of
 machine_fits values fit =
     let strings = list_of text_taken (skip 2 values) in
+    let left = list_left text_taken rest_fits (skip 2 values) (skip_fits 2 values fit) in
     record {
-      uuid = uuid_fits (value_at 6 (skip 1 strings.1))
-          (first_fits (skip 6 (skip 1 strings.1)) (skip_fits 6 (skip 1 strings.1) (skip_fits 1 strings.1
-          (list_left text_taken rest_fits (skip 2 values) (skip_fits 2 values fit)))));
+      uuids = record {
+        system = uuid_fits (value_at 6 (skip 2 strings.1)) (first_fits (skip 8 strings.1) (skip_fits 8 strings.1 left));
+        generation = uuid_fits (first strings.1) (first_fits strings.1 left);
+      };
       firmware = part_has IsFittingFirmware firmware_taken firmware_fits _;
       sockets = list_has IsFittingSocket socket_taken socket_fits _;
       slots = list_has IsFittingSlot slot_taken slot_fits _;

@@ -34,14 +34,15 @@ part number name table = key number name (Table table) (Some (Value.Count 0))
 abbrev pub parts : ℕ → List ℕ → ℕ → Field
 parts number name table = key number name (Tables table) (Some (Value.Count 0))
 
--- A line for each key, which begins with its number. Numbers that no line has are those of keys that are still to come.
+-- A line for each key, which begins with its number.
 
--- table 0: the description's version, which is 1; the top of memory, in MiB; the texts of the maker; and the tables
+-- table 0: the description's version, which is 1; the top of memory, in MiB; the texts of the maker; the id of the generation; and the tables
 abbrev pub root_keys : List Field
 root_keys =
     key 0 (codes "version") (One (Number 1 1)) None ∷
     number_given 1 (codes "top_mib") 0xFFFFFFFF ∷
     key 2 (codes "oem_strings") (Values Text) (Some (Value.Count 0)) ∷
+    key 3 (codes "generation") (One Uuid) (Some Value.Nothing) ∷
     key 4 (codes "system") (Table 1) None ∷
     part 5 (codes "firmware") 2 ∷
     part 6 (codes "chassis") 3 ∷

@@ -302,17 +302,18 @@ bridge_taken values =
       routes.1,
     )
 
--- The version, the top, the texts of the maker, the one table of the system, and two tables that may be left out, each behind what stands
--- before it; and what follows them.
+-- The version, the top, the texts of the maker, the id of the generation, the one table of the system, and two tables that may be left out,
+-- each behind what stands before it; and what follows them.
 unfoldable pub front_of : List Value → Front × List Value
 front_of values =
     let oem_strings = list_of text_taken (skip 2 values) in
-    let system = system_taken (skip 1 oem_strings.1) in
+    let system = system_taken (skip 2 oem_strings.1) in
     let firmware = part_of firmware_taken system.1 in
     let chassis = part_of chassis_taken firmware.1 in (
       record {
         top_mib = number_to 0xFFFFFFFF (value_at 1 values);
         oem_strings = oem_strings.0;
+        generation = uuid_if (value_at 0 oem_strings.1);
         system = system.0;
         firmware = firmware.0;
         chassis = chassis.0;
@@ -380,6 +381,7 @@ abbrev pub joined : Front → Rest → Machine
 joined front rest = record {
   top_mib = front.top_mib;
   oem_strings = front.oem_strings;
+  generation = front.generation;
   system = front.system;
   firmware = front.firmware;
   chassis = front.chassis;

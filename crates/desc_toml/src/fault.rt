@@ -9,9 +9,8 @@ use vt_outside::{OutOfMemory, Text};
 /// root, 1 for `system`, 2 for `firmware`, 3 for `chassis`, 4 for `socket`, 5 for `dimm`, 6 for `range`, 7 for `slot`, 8 for `acpi`, 9 for
 /// `power`, 10 for `hpet`, 11 for `apic`, 12 for `cpu`, 13 for `ioapic`, 14 for `override`, 15 for `nmi`, 16 for `numa`, 17 for `bridge`,
 /// 18 for its `window`, 19 for its `route`, 20 for `uart`), and a key of it by its number: each table's keys are numbered from 0 in the
-/// order of docs/FORMATS.md, where numbers of keys that this version doesn't read are left free. `index` is the table's place in its array,
-/// counted from 0, and 0 for a table that is no element of an array. A fault of a table as a whole is one at the key of the table that it
-/// stands in.
+/// order of docs/FORMATS.md. `index` is the table's place in its array, counted from 0, and 0 for a table that is no element of an array. A
+/// fault of a table as a whole is one at the key of the table that it stands in.
 #[derive(Debug, Drop)]
 pub enum DescFault {
     /// The bytes aren't UTF-8, or no TOML document.

@@ -2,7 +2,7 @@
 
 ghost use Rattle.std.specs.Prelude.{◌≡◌, None, Some, ◌↔◌, ℕ, List};
 ghost use Rattle.machine_desc.specs.declared.machine.Machine.{Machine};
-ghost use Rattle.machine_desc.specs.Rules.{IsAccepted, HasFittingUuid};
+ghost use Rattle.machine_desc.specs.Rules.{IsAccepted, HasFittingUuids};
 ghost use Rattle.machine_desc.specs.Fields.{HasFittingFields};
 ghost use Rattle.desc_toml.specs.Reading.{Reads, Fails, read_of, fault_of};
 ghost use Rattle.desc_toml.specs.declared.fault.DescFault.{DescFault};
@@ -21,10 +21,10 @@ pub fn read_machine_is_accepted()
     ensures { (bytes : List ℕ) (machine : Machine) → Reads bytes machine → IsAccepted machine }
 {}
 
-/// Says that the numbers of a machine that is read fit their fields, its UUID among them.
+/// Says that the numbers of a machine that is read fit their fields, its UUIDs among them.
 pub fn numbers_of_a_read_machine_fit()
     ensures fields { (bytes : List ℕ) (machine : Machine) → Reads bytes machine → HasFittingFields machine }
-    ensures uuid { (bytes : List ℕ) (machine : Machine) → Reads bytes machine → HasFittingUuid machine }
+    ensures uuids { (bytes : List ℕ) (machine : Machine) → Reads bytes machine → HasFittingUuids machine }
 {}
 
 /// Says that a machine is read from bytes exactly where they are a document whose tables say, key by key by the schema, the values

@@ -17,6 +17,7 @@ use vt_outside::{List, OutOfMemory, Text};
 struct Front {
     top_mib: u32,
     oem_strings: List<Text>,
+    generation: Option<u128>,
     system: System,
     firmware: Option<Firmware>,
     chassis: Option<Chassis>,
@@ -103,6 +104,7 @@ fn joined(front: Front, rest: Rest) -> Machine
     Machine {
         top_mib: front.top_mib,
         oem_strings: front.oem_strings,
+        generation: front.generation,
         system: front.system,
         firmware: front.firmware,
         chassis: front.chassis,
@@ -132,10 +134,12 @@ fn front_of(alloc: Global, values: &mut Values) -> Result<Front, OutOfMemory>
     let _version = values.take_first();
     let top_mib = values.take_number(u32::MAX as u64) as u32;
     let oem_strings = list_of(alloc, values)?;
+    let generation = values.take_uuid();
     let _one = values.take_first();
     Ok(Front {
         top_mib,
         oem_strings,
+        generation,
         system: System::take(alloc, values)?,
         firmware: part_of(alloc, values)?,
         chassis: part_of(alloc, values)?,

@@ -75,17 +75,20 @@ const VERSION: Kind = Kind::One(Scalar::Number(1, 1));
 
 const ANY_U32: Kind = Kind::One(Scalar::Number(0, 0xFFFF_FFFF));
 
+const UUID: Kind = Kind::One(Scalar::Uuid);
+
 const BYTES: Kind = Kind::Values(Scalar::Number(0, 0xFF));
 
 const TEXTS: Kind = Kind::Values(Scalar::Text);
 
 const WINDOW_KIND: Kind = Kind::One(Scalar::Word(&["io", "mem32", "mem64"]));
 
-// A line for each key, which begins with its number. Numbers that no line has are those of keys that are still to come.
+// A line for each key, which begins with its number.
 const ROOT: &[Key] = &[
     key!(0, "version", VERSION, Otherwise::Required),
     number!(1, "top_mib", 0xFFFF_FFFF),
     key!(2, "oem_strings", TEXTS, Otherwise::Empty),
+    key!(3, "generation", UUID, Otherwise::Nothing),
     key!(4, "system", Kind::Table(1), Otherwise::Required),
     part!(5, "firmware", 2),
     part!(6, "chassis", 3),
@@ -113,7 +116,7 @@ const SYSTEM: &[Key] = &[
     text!(3, "serial"),
     text!(4, "sku"),
     text!(5, "family"),
-    key!(6, "uuid", Kind::One(Scalar::Uuid), Otherwise::Nothing),
+    key!(6, "uuid", UUID, Otherwise::Nothing),
 ];
 
 const FIRMWARE: &[Key] = &[

@@ -13,4 +13,8 @@ pub mod FittingItems
 pub mod PickedDevices
 pub mod ReadBack
 pub mod SameDevices
+pub mod LowHalf
 pub mod MachineTerms
+pub mod Ends
+pub mod WrittenId
+pub mod TakenId

@@ -36,12 +36,18 @@ keyboard_size = 183
 abbrev pub timer_size : ℕ
 timer_size = 91
 
+abbrev pub generation_size : ℕ
+generation_size = 75
+
 abbrev pub bridge_size : ℕ
 bridge_size = 144 + item_size * most_windows + route_size * most_routes
 
--- all devices of a machine, and the scope of the system bus with them
+-- the devices of a machine that are the same wherever a file stands, all of them, and the scope of the system bus with them
+abbrev pub placeless_size : ℕ
+placeless_size = bridge_size + uart_size * most_uarts + clock_size + keyboard_size + timer_size + cpu_size * most_cpus
+
 abbrev pub devices_size : ℕ
-devices_size = bridge_size + uart_size * most_uarts + clock_size + keyboard_size + timer_size + cpu_size * most_cpus
+devices_size = placeless_size + generation_size
 
 abbrev pub machine_size : ℕ
 machine_size = devices_size + 10

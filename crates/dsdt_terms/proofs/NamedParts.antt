@@ -18,7 +18,7 @@ use Rattle.dsdt_terms.specs.Devices.{hex_digit}
 use Rattle.dsdt_terms.proofs.Limits.{item_size}
 use Rattle.dsdt_terms.proofs.Sizes.{integer-most, integer-small}
 use Rattle.dsdt_terms.proofs.Views.{view-int, view-buffer, view-package, view-named, view-device}
-use Rattle.dsdt_terms.proofs.WrittenParts.{IsPart, AreParts, int_part, buffer_part, package_part, name_part, device_part}
+use Rattle.dsdt_terms.proofs.WrittenParts.{Premises, IsPart, AreParts, int_part, buffer_part, package_part, name_part, device_part}
 
 -- each character of a name that is given passes its test
 pub four_true : (true ≡ true) × ((true ≡ true) × ((true ≡ true) × ((true ≡ true) × Unit {0})))
@@ -33,24 +33,24 @@ is_text (c ∷ text) all =
     ((leb-true 1 c bounds.0, ltb-true c 0x80 bounds.1), is_text text both.1)
 
 -- a value with a name
-pub named_part : (Fits : Type 0) (room most : ℕ) (segment : List ℕ) (value : Term) → IsSegment segment → IsPart IsGoodValue Fits room most (view value)
-    → IsPart IsGood Fits room (most + 5) (view (name segment value))
-named_part Fits room most segment value is part =
-    subst (IsPart IsGood Fits room (most + 5)) (sym (view-named (path_to segment) value)) (name_part Fits room most segment (view value) is part)
+pub named_part : (P : Premises) (room most : ℕ) (segment : List ℕ) (value : Term) → IsSegment segment → IsPart IsGoodValue P room most (view value)
+    → IsPart IsGood P room (most + 5) (view (name segment value))
+named_part P room most segment value is part =
+    subst (IsPart IsGood P room (most + 5)) (sym (view-named (path_to segment) value)) (name_part P room most segment (view value) is part)
 
 -- an integer, and one of at most two bytes
-pub number : (Fits : Type 0) (room n : ℕ) → (Fits → n < 2 ^ 64) → IsPart IsGoodValue Fits room 9 (view (Int n))
-number Fits room n fits = subst (IsPart IsGoodValue Fits room 9) (sym (view-int n)) (int_part Fits room 9 n fits (integer-most n))
+pub number : (P : Premises) (room n : ℕ) → (P.fit → n < 2 ^ 64) → IsPart IsGoodValue P room 9 (view (Int n))
+number P room n fits = subst (IsPart IsGoodValue P room 9) (sym (view-int n)) (int_part P room 9 n fits (integer-most n))
 
-pub small_number : (Fits : Type 0) (room n : ℕ) → n < 0x10000 → IsPart IsGoodValue Fits room 3 (view (Int n))
-small_number Fits room n small =
-    subst (IsPart IsGoodValue Fits room 3) (sym (view-int n)) (int_part Fits room 3 n (λ fit. omega arith) (integer-small n small))
+pub small_number : (P : Premises) (room n : ℕ) → n < 0x10000 → IsPart IsGoodValue P room 3 (view (Int n))
+small_number P room n small =
+    subst (IsPart IsGoodValue P room 3) (sym (view-int n)) (int_part P room 3 n (λ fit. omega arith) (integer-small n small))
 
 -- a package of values
-pub packed : (Fits : Type 0) (room most : ℕ) (values : List Term) → length values < 256 → AreParts IsGoodValue Fits room most values
-    → most + 1 ≤ most_enclosed → IsPart IsGoodValue Fits (suc room) (most + 6) (view (Package values))
-packed Fits room most values few parts enclosed =
-    subst (IsPart IsGoodValue Fits (suc room) (most + 6)) (sym (view-package values)) (package_part Fits room most values few parts enclosed)
+pub packed : (P : Premises) (room most : ℕ) (values : List Term) → length values < 256 → AreParts IsGoodValue P room most values
+    → most + 1 ≤ most_enclosed → IsPart IsGoodValue P (suc room) (most + 6) (view (Package values))
+packed P room most values few parts enclosed =
+    subst (IsPart IsGoodValue P (suc room) (most + 6)) (sym (view-package values)) (package_part P room most values few parts enclosed)
 
 -- no item is longer than the longest
 item-most : (item : ResourceItem) → length (item_bytes item) ≤ item_size
@@ -66,23 +66,23 @@ items-most [] = omega arith
 items-most (item ∷ items) = omega (arith, item-most item, items-most items, length-append (item_bytes item) (flat_map item_bytes items))
 
 -- what a device takes and hands on, in so many items
-pub resources_part : (Fits : Type 0) (room most : ℕ) (items : List ResourceItem) → length items ≤ most → item_size * most + 11 ≤ most_enclosed
-    → IsPart IsGood Fits (suc room) (item_size * most + 21) (view (resources items))
-resources_part Fits room most items few enclosed =
+pub resources_part : (P : Premises) (room most : ℕ) (items : List ResourceItem) → length items ≤ most → item_size * most + 11 ≤ most_enclosed
+    → IsPart IsGood P (suc room) (item_size * most + 21) (view (resources items))
+resources_part P room most items few enclosed =
     let bytes : List ℕ = template_of items in
     let short : length bytes ≤ item_size * most + 2 = omega (arith, items-most items, length-append (flat_map item_bytes items) end_tag, few) in
-    let content = subst (IsPart IsGoodValue Fits (suc room) (item_size * most + 2 + 14)) (sym (view-buffer bytes))
-    (buffer_part Fits room (item_size * most + 2) bytes short (omega (arith, enclosed))) in
-    let part = named_part Fits (suc room) (item_size * most + 2 + 14) (codes "_CRS") (Buffer bytes) four_true content in
+    let content = subst (IsPart IsGoodValue P (suc room) (item_size * most + 2 + 14)) (sym (view-buffer bytes))
+    (buffer_part P room (item_size * most + 2) bytes short (omega (arith, enclosed))) in
+    let part = named_part P (suc room) (item_size * most + 2 + 14) (codes "_CRS") (Buffer bytes) four_true content in
     let same : item_size * most + 2 + 14 + 5 ≡ item_size * most + 21 = omega arith in
-    subst (λ size. IsPart IsGood Fits (suc room) size (view (resources items))) same part
+    subst (λ size. IsPart IsGood P (suc room) size (view (resources items))) same part
 
 -- a device
-pub whole_device : (Fits : Type 0) (room most : ℕ) (segment : List ℕ) (values : List Term) → IsSegment segment → AreParts IsGood Fits room most values
-    → most + 4 ≤ most_enclosed → IsPart IsGood Fits (suc room) (most + 10) (view (device segment values))
-whole_device Fits room most segment values is parts enclosed =
-    subst (IsPart IsGood Fits (suc room) (most + 10)) (sym (view-device (path_to segment) values))
-    (device_part Fits room most segment values is parts enclosed)
+pub whole_device : (P : Premises) (room most : ℕ) (segment : List ℕ) (values : List Term) → IsSegment segment → AreParts IsGood P room most values
+    → most + 4 ≤ most_enclosed → IsPart IsGood P (suc room) (most + 10) (view (device segment values))
+whole_device P room most segment values is parts enclosed =
+    subst (IsPart IsGood P (suc room) (most + 10)) (sym (view-device (path_to segment) values))
+    (device_part P room most segment values is parts enclosed)
 
 -- the numbers of serial ports, and the digits of processors' numbers, are characters of names
 pub number_char : (place : ℕ) → place < 4 → is_name_char (0x31 + place) ≡ true

@@ -16,8 +16,8 @@ use Rattle.machine_desc.specs.declared.device_parts.Uart.{Uart}
 use Rattle.resource_items.specs.declared.resource_item.ResourceItem.TheVariants.{Memory}
 use Rattle.dsdt_terms.specs.Names.{name, device, hardware_id, unique_id, resources, serial_port, real_time_clock, keyboard_controller, event_timer}
 use Rattle.dsdt_terms.specs.Bridge.{bridge_ids, bridge_items, route_term, bridge_device}
-use Rattle.dsdt_terms.specs.Devices.{port_item, irq_item, uart_device, clock_device, keyboard_device, timer_device, hex_digit, cpu_name, cpu_device}
-use Rattle.dsdt_terms.specs.Dsdt.{if_there, has_clock, has_keyboard, uart_devices, cpu_devices, front_devices, devices_of}
+use Rattle.dsdt_terms.specs.Devices.{port_item, irq_item, uart_device, clock_device, keyboard_device, timer_device, hex_digit, cpu_name, cpu_device, generation_device}
+use Rattle.dsdt_terms.specs.Dsdt.{if_there, has_clock, has_keyboard, uart_devices, cpu_devices, front_devices, placeless_devices, generation_devices, devices_with}
 use Rattle.dsdt_terms.proofs.Picked.{letter, picked, letter-device, in_front, behind, all_taken, none_taken}
 
 -- whether a device's name has a letter at a place
@@ -29,11 +29,11 @@ device_answers : (place c : ℕ) (answer : Bool) (segment : List ℕ) (values : 
 device_answers place c answer segment values is = ap (λ l. l == c) (letter-device place segment values) ∙ is
 
 -- a device that is there or isn't
-if_each : (P : Term → Type 0) (there : Bool) (t : Term) → P t → AllByRecursion P (if_there there t)
+pub if_each : (P : Term → Type 0) (there : Bool) (t : Term) → P t → AllByRecursion P (if_there there t)
 if_each P true t p = (p, tt)
 if_each P false t p = tt
 
-option_each : {A : Type 0} (P : Term → Type 0) (f : A → Term) → ((a : A) → P (f a)) → (part : Option A)
+pub option_each : {A : Type 0} (P : Term → Type 0) (f : A → Term) → ((a : A) → P (f a)) → (part : Option A)
     → AllByRecursion P (option_to_list (option_map f part))
 option_each P f p None = tt
 option_each P f p (Some a) = (p a, tt)
@@ -80,6 +80,14 @@ cpus_answer place c answer is cpus =
     (λ cpu. device_answers place c answer (cpu_name cpu.0) (name (codes "_HID") (Chars (codes "ACPI0007")) ∷ unique_id cpu.0 ∷ []) (is cpu.0))
     (enumerate_from 0 cpus)
 
+generations : (place c : ℕ) (answer : Bool) → (get_or (codes "VGEN") place 0 == c) ≡ answer → (id : Option ℕ)
+    → AllByRecursion (Answers place c answer) (generation_devices (Int 0) id)
+generations place c answer is id =
+    option_each (Answers place c answer) (λ number. generation_device (Int 0))
+    (λ number. device_answers place c answer (codes "VGEN")
+    (name (codes "_HID") (Chars (codes "QEMUVGID")) ∷ name (codes "_CID") (Chars (codes "VM_Gen_Counter"))
+    ∷ name (codes "ADDR") (Package (Int 0 ∷ Int 0 ∷ [])) ∷ []) is) id
+
 -- no hexadecimal digit stands behind F
 hex_below : (digit : ℕ) → digit < 16 → hex_digit digit ≤ 0x46
 hex_below digit few =
@@ -91,25 +99,26 @@ no_digit c n above =
     ne_eqb (hex_digit (n / 0x100 % 0x10)) c (λ same. absurd (omega (arith, same, hex_below (n / 0x100 % 0x10) (omega arith), above)))
 
 -- the lists of a machine's devices, in order
-abbrev bridge_list : Machine → List Term
+abbrev pub bridge_list : Machine → List Term
 bridge_list m = option_to_list (option_map bridge_device m.bridge)
 
-abbrev clock_list : Machine → List Term
+abbrev pub clock_list : Machine → List Term
 clock_list m = if_there (has_clock m.power) clock_device
 
-abbrev keyboard_list : Machine → List Term
+abbrev pub keyboard_list : Machine → List Term
 keyboard_list m = if_there (has_keyboard m.power) keyboard_device
 
-abbrev timer_list : Machine → List Term
+abbrev pub timer_list : Machine → List Term
 timer_list m = option_to_list (option_map timer_device m.hpet)
 
 -- the bridge is the one whose name begins with P
-pub bridge_picked : (m : Machine) → picked 0 0x50 (views (devices_of m)) ≡ map view (bridge_list m)
+pub bridge_picked : (m : Machine) → picked 0 0x50 (views (devices_with (Int 0) m)) ≡ map view (bridge_list m)
 bridge_picked m =
     let bridge = bridge_list m in
     let uarts = uart_devices m.uarts in
     let those = map view bridge in
-    in_front 0 0x50 (front_devices m) (cpu_devices m.cpus) those
+    in_front 0 0x50 (placeless_devices m) (generation_devices (Int 0) m.generation) those
+    (in_front 0 0x50 (front_devices m) (cpu_devices m.cpus) those
     (in_front 0 0x50 (bridge ++ uarts ++ clock_list m ++ keyboard_list m) (timer_list m) those
     (in_front 0 0x50 (bridge ++ uarts ++ clock_list m) (keyboard_list m) those
     (in_front 0 0x50 (bridge ++ uarts) (clock_list m) those
@@ -119,15 +128,17 @@ bridge_picked m =
     (none_taken 0 0x50 (clock_list m) (clock_answers 0 0x50 false refl (has_clock m.power))))
     (none_taken 0 0x50 (keyboard_list m) (keyboard_answers 0 0x50 false refl (has_keyboard m.power))))
     (none_taken 0 0x50 (timer_list m) (timers 0 0x50 false refl m.hpet)))
-    (none_taken 0 0x50 (cpu_devices m.cpus) (cpus_answer 0 0x50 false (λ n. refl) m.cpus))
+    (none_taken 0 0x50 (cpu_devices m.cpus) (cpus_answer 0 0x50 false (λ n. refl) m.cpus)))
+    (none_taken 0 0x50 (generation_devices (Int 0) m.generation) (generations 0 0x50 false refl m.generation))
 
 -- the serial ports are those whose names go on with O
-pub uarts_picked : (m : Machine) → picked 1 0x4F (views (devices_of m)) ≡ map view (uart_devices m.uarts)
+pub uarts_picked : (m : Machine) → picked 1 0x4F (views (devices_with (Int 0) m)) ≡ map view (uart_devices m.uarts)
 uarts_picked m =
     let bridge = bridge_list m in
     let uarts = uart_devices m.uarts in
     let those = map view uarts in
-    in_front 1 0x4F (front_devices m) (cpu_devices m.cpus) those
+    in_front 1 0x4F (placeless_devices m) (generation_devices (Int 0) m.generation) those
+    (in_front 1 0x4F (front_devices m) (cpu_devices m.cpus) those
     (in_front 1 0x4F (bridge ++ uarts ++ clock_list m ++ keyboard_list m) (timer_list m) those
     (in_front 1 0x4F (bridge ++ uarts ++ clock_list m) (keyboard_list m) those
     (in_front 1 0x4F (bridge ++ uarts) (clock_list m) those
@@ -137,15 +148,17 @@ uarts_picked m =
     (none_taken 1 0x4F (clock_list m) (clock_answers 1 0x4F false refl (has_clock m.power))))
     (none_taken 1 0x4F (keyboard_list m) (keyboard_answers 1 0x4F false refl (has_keyboard m.power))))
     (none_taken 1 0x4F (timer_list m) (timers 1 0x4F false refl m.hpet)))
-    (none_taken 1 0x4F (cpu_devices m.cpus) (cpus_answer 1 0x4F false (λ n. no_digit 0x4F n (omega arith)) m.cpus))
+    (none_taken 1 0x4F (cpu_devices m.cpus) (cpus_answer 1 0x4F false (λ n. no_digit 0x4F n (omega arith)) m.cpus)))
+    (none_taken 1 0x4F (generation_devices (Int 0) m.generation) (generations 1 0x4F false refl m.generation))
 
 -- and the clock is the one whose name goes on with T
-pub clock_picked : (m : Machine) → picked 1 0x54 (views (devices_of m)) ≡ map view (clock_list m)
+pub clock_picked : (m : Machine) → picked 1 0x54 (views (devices_with (Int 0) m)) ≡ map view (clock_list m)
 clock_picked m =
     let bridge = bridge_list m in
     let uarts = uart_devices m.uarts in
     let those = map view (clock_list m) in
-    in_front 1 0x54 (front_devices m) (cpu_devices m.cpus) those
+    in_front 1 0x54 (placeless_devices m) (generation_devices (Int 0) m.generation) those
+    (in_front 1 0x54 (front_devices m) (cpu_devices m.cpus) those
     (in_front 1 0x54 (bridge ++ uarts ++ clock_list m ++ keyboard_list m) (timer_list m) those
     (in_front 1 0x54 (bridge ++ uarts ++ clock_list m) (keyboard_list m) those
     (behind 1 0x54 (bridge ++ uarts) (clock_list m) those
@@ -155,4 +168,5 @@ clock_picked m =
     (all_taken 1 0x54 (clock_list m) (clock_answers 1 0x54 true refl (has_clock m.power))))
     (none_taken 1 0x54 (keyboard_list m) (keyboard_answers 1 0x54 false refl (has_keyboard m.power))))
     (none_taken 1 0x54 (timer_list m) (timers 1 0x54 false refl m.hpet)))
-    (none_taken 1 0x54 (cpu_devices m.cpus) (cpus_answer 1 0x54 false (λ n. no_digit 0x54 n (omega arith)) m.cpus))
+    (none_taken 1 0x54 (cpu_devices m.cpus) (cpus_answer 1 0x54 false (λ n. no_digit 0x54 n (omega arith)) m.cpus)))
+    (none_taken 1 0x54 (generation_devices (Int 0) m.generation) (generations 1 0x54 false refl m.generation))

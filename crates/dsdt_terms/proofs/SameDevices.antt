@@ -6,6 +6,7 @@ use Rattle.std.proofs.lemmas.Bool.{and_parts, cases_lt}
 use Rattle.std.proofs.lemmas.Nat.{pow_below}
 use Rattle.std.specs.List.{list_all, enumerate_from}
 use Rattle.aml_terms.specs.declared.term.Term.{Term}
+use Rattle.aml_terms.specs.declared.term.Term.TheVariants.{Int}
 use Rattle.aml_terms.specs.Trees.{Tree, Trees, no_trees, tree, ones, view, views}
 use Rattle.machine_desc.specs.declared.machine.Machine.{Machine}
 use Rattle.machine_desc.specs.declared.device_parts.Bridge.{Bridge}
@@ -20,7 +21,7 @@ use Rattle.resource_items.specs.declared.resource_item.ResourceItem.TheVariants.
 use Rattle.resource_items.proofs.OneTemplate.{one_template}
 use Rattle.dsdt_terms.specs.Bridge.{bus_item, memory_flags, window_item_of, window_item, bridge_items, bridge_device}
 use Rattle.dsdt_terms.specs.Devices.{port_item, irq_item, uart_device, clock_device}
-use Rattle.dsdt_terms.specs.Dsdt.{if_there, has_clock, devices_of, system_bus, dsdt_terms, without_ecam, HasFittingLastBus, HaveSameDevices}
+use Rattle.dsdt_terms.specs.Dsdt.{if_there, has_clock, devices_with, system_bus, kept_terms, without_ecam, HasFittingLastBus, HaveSameDevices}
 use Rattle.dsdt_terms.proofs.AcceptedDevices.{lawful_windows, lawful_uarts}
 use Rattle.dsdt_terms.proofs.Views.{view-scope}
 use Rattle.dsdt_terms.proofs.FittingItems.{fit_bridge, fit_uart}
@@ -157,12 +158,12 @@ abbrev first_of : Trees → Tree
 first_of no_trees = ones
 first_of (tree t ts) = t
 
-devices_seen : (m : Machine) → inside (first_of (views (dsdt_terms m))) ≡ views (devices_of m)
-devices_seen m = ap inside (view-scope system_bus (devices_of m))
+devices_seen : (m : Machine) → inside (first_of (views (kept_terms m))) ≡ views (devices_with (Int 0) m)
+devices_seen m = ap inside (view-scope system_bus (devices_with (Int 0) m))
 
-pub same_devices : (a b : Machine) → IsAccepted a → IsAccepted b → HasFittingLastBus a → HasFittingLastBus b → dsdt_terms a ≡ dsdt_terms b → HaveSameDevices a b
+pub same_devices : (a b : Machine) → IsAccepted a → IsAccepted b → HasFittingLastBus a → HasFittingLastBus b → kept_terms a ≡ kept_terms b → HaveSameDevices a b
 same_devices a b accepted also small also_small same =
-    let those : views (devices_of a) ≡ views (devices_of b) =
+    let those : views (devices_with (Int 0) a) ≡ views (devices_with (Int 0) b) =
     sym (devices_seen a) ∙ ap (λ (terms : List Term). inside (first_of (views terms))) same ∙ devices_seen b in
     record {
       bridge =

@@ -4,12 +4,15 @@ use Rattle.aml_terms.specs.declared.term.Path.{Path}
 use Rattle.aml_terms.specs.declared.term.Term.{Term, fold-roll-Term}
 use Rattle.aml_terms.specs.declared.term.Term.TheVariants as t
 use Rattle.aml_terms.specs.declared.term.Term.TheOpen.{Term-F}
-use Rattle.aml_terms.specs.Trees.{Tree, Trees, no_trees, tree, view, views, view_step, int, chars, buffer, pack, named, scope, device}
+use Rattle.aml_terms.specs.Trees.{Tree, Trees, no_trees, tree, view, views, view_step, int, fixed, chars, buffer, pack, named, scope, device}
 use Rattle.machine_desc.specs.declared.device_parts.Route.{Route}
 use Rattle.dsdt_terms.specs.Bridge.{route_term}
 
 pub view-int : (n : ℕ) → view (t.Int n) ≡ int n
 view-int n = sym (ap view (t.rolls-Int n)) ∙ fold-roll-Term Tree view_step (Term-F.Int n)
+
+pub view-fixed : (n : ℕ) → view (t.Fixed n) ≡ fixed n
+view-fixed n = sym (ap view (t.rolls-Fixed n)) ∙ fold-roll-Term Tree view_step (Term-F.Fixed n)
 
 pub view-chars : (text : List ℕ) → view (t.Chars text) ≡ chars text
 view-chars text = sym (ap view (t.rolls-Chars text)) ∙ fold-roll-Term Tree view_step (Term-F.Chars text)

@@ -1,7 +1,8 @@
--- The other devices of a machine that a guest finds through AML: serial ports, clock, keyboard, timer and processors.
+-- The other devices of a machine that a guest finds through AML: serial ports, clock, keyboard, timer, processors, and the one that leads to
+-- the id of its generation.
 use Rattle.std.specs.Prelude.{ℕ, ◌+◌, ◌/◌, ◌%◌, ◌^◌, List, [], ◌∷◌, ◌++◌, nat_lt, codes, if◌then◌else◌}
 use Rattle.aml_terms.specs.declared.term.Term.{Term}
-use Rattle.aml_terms.specs.declared.term.Term.TheVariants.{Chars}
+use Rattle.aml_terms.specs.declared.term.Term.TheVariants.{Int, Chars, Package}
 use Rattle.machine_desc.specs.declared.device_parts.Uart.{Uart}
 use Rattle.machine_desc.specs.declared.machine.Hpet.{Hpet}
 use Rattle.resource_items.specs.declared.resource_item.ResourceItem.{ResourceItem}
@@ -44,3 +45,11 @@ cpu_name number = hex_digit 0xC ∷ hex_digit (number / 0x100 % 0x10) ∷ hex_di
 -- a processor, by the UID that its entry of the MADT has (ACPI 6.5, 8.4)
 abbrev pub cpu_device : ℕ → Term
 cpu_device number = device (cpu_name number) (name (codes "_HID") (Chars (codes "ACPI0007")) ∷ unique_id number ∷ [])
+
+-- the device that leads to the id of the machine's generation by the halves of an address, the low one given (Microsoft, Virtual Machine
+-- Generation ID; the names are those of QEMU, docs/specs/vmgenid.rst)
+abbrev pub generation_device : Term → Term
+generation_device low =
+    device (codes "VGEN")
+    (name (codes "_HID") (Chars (codes "QEMUVGID")) ∷ name (codes "_CID") (Chars (codes "VM_Gen_Counter"))
+    ∷ name (codes "ADDR") (Package (low ∷ Int 0 ∷ [])) ∷ [])

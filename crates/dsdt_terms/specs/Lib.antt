@@ -2,6 +2,7 @@ pub mod Names
 pub mod Bridge
 pub mod Devices
 pub mod Dsdt
+pub mod IdLink
 pub mod WorkedDevices
 pub use Rattle.aml_terms.specs.Trees
 pub use Rattle.aml_terms.specs.Grammar

@@ -5,13 +5,13 @@ ghost use Rattle.dsdt_terms.specs.Devices.{port_item, irq_item, uart_device, clo
 
 use crate::names::{
     EVENT_TIMER, KEYBOARD_CONTROLLER, REAL_TIME_CLOCK, SERIAL_PORT, device, push_hardware_id,
-    push_name, push_resources, push_unique_id,
+    push_resources, push_text, push_unique_id,
 };
 use aml_terms::Term;
 use machine_desc::{Hpet, Uart};
 use resource_items::{FixedMemory, IoPort, IrqMask, ResourceItem};
 use std::alloc::Global;
-use vt_outside::{List, OutOfMemory, Text};
+use vt_outside::{List, OutOfMemory};
 
 // So many ports from one on.
 fn port_item(port: u16, length: u8) -> ResourceItem
@@ -84,10 +84,8 @@ pub(crate) fn cpu_device(alloc: Global, place: u32) -> Result<Term, OutOfMemory>
     requires { place < 4096 }
     ensures { IfOk result (λ term. term ≡ cpu_device place) }
 {
-    let mut id = Text::new(alloc);
-    id.extend(b"ACPI0007")?;
     let mut values = List::new(alloc);
-    push_name(&mut values, *b"_HID", Term::Chars(id))?;
+    push_text(&mut values, *b"_HID", b"ACPI0007")?;
     push_unique_id(&mut values, u64::from(place))?;
     device(alloc, cpu_name(place), values)
 }

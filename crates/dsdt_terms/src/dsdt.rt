@@ -4,24 +4,45 @@ ghost use Rattle.machine_desc.specs.Rules.{IsAccepted, windows_of, is_lawful_uar
 ghost use Rattle.aml_terms.specs.declared.term.Term.TheVariants.{Scope};
 ghost use Rattle.dsdt_terms.specs.Bridge.{bridge_device};
 ghost use Rattle.dsdt_terms.specs.Devices.{clock_device, keyboard_device, timer_device};
-ghost use Rattle.dsdt_terms.specs.Dsdt.{system_bus, dsdt_terms, devices_of, if_there, has_clock, has_keyboard, uart_devices, cpu_devices};
+ghost use Rattle.dsdt_terms.specs.Dsdt.{system_bus, dsdt_terms, kept_terms, terms_with, devices_with, placeless_devices, generation_devices, if_there};
+ghost use Rattle.dsdt_terms.specs.Dsdt.{has_clock, has_keyboard, uart_devices, cpu_devices};
+ghost use Rattle.dsdt_terms.specs.IdLink.{low_half};
 
 use crate::bridge::bridge_device;
 use crate::devices::{clock_device, cpu_device, keyboard_device, timer_device, uart_device};
+use crate::generation::{IdLink, generation_device};
 use aml_terms::{Path, Term};
 use machine_desc::{Bridge, Cpu, Hpet, Machine, Power, Uart};
 use std::alloc::Global;
 use vt_outside::{List, OutOfMemory};
 
-/// Returns the terms of the DSDT of `machine`, which is accepted: the scope of the system bus with the devices of its bridge, its serial
-/// ports, its clock, its keyboard, its timer and its processors, in this order, as far as they are there. They take their memory from
-/// `alloc`. Returns `OutOfMemory` when memory runs out.
+/// Returns the terms of the DSDT of `machine`, which is accepted, as they are written: the scope of the system bus with the devices of its
+/// bridge, its serial ports, its clock, its keyboard, its timer, its processors and the id of its generation, in this order, as far as they
+/// are there. The id's device tells the offset of the id in its file, as a dword to which the place of that file is to be added. They take
+/// their memory from `alloc`. Returns `OutOfMemory` when memory runs out.
 pub fn dsdt_terms(alloc: Global, machine: &Machine) -> Result<List<Term>, OutOfMemory>
     requires { IsAccepted machine.now }
     ensures { IfOk result (λ terms. terms ≡ dsdt_terms machine.now) }
 {
+    terms_with(alloc, machine, IdLink::Written)
+}
+
+/// Returns the terms of the DSDT of `machine`, which is accepted, as a reader keeps them: the same, with 0 in place of the address of the
+/// id. They take their memory from `alloc`. Returns `OutOfMemory` when memory runs out.
+pub fn kept_terms(alloc: Global, machine: &Machine) -> Result<List<Term>, OutOfMemory>
+    requires { IsAccepted machine.now }
+    ensures { IfOk result (λ terms. terms ≡ kept_terms machine.now) }
+{
+    terms_with(alloc, machine, IdLink::Kept)
+}
+
+// The scope of the system bus with the devices of a machine.
+fn terms_with(alloc: Global, machine: &Machine, link: IdLink) -> Result<List<Term>, OutOfMemory>
+    requires { IsAccepted machine.now }
+    ensures { IfOk result (λ terms. terms ≡ terms_with (low_half link) machine.now) }
+{
     let mut terms = List::new(alloc);
-    terms.push(system_bus(alloc, devices_of(alloc, machine)?)?)?;
+    terms.push(system_bus(alloc, devices_with(alloc, machine, link)?)?)?;
     Ok(terms)
 }
 
@@ -47,9 +68,19 @@ fn system_bus(alloc: Global, devices: List<Term>) -> Result<Term, OutOfMemory>
 }
 
 // The devices of a machine, in order.
-fn devices_of(alloc: Global, machine: &Machine) -> Result<List<Term>, OutOfMemory>
+fn devices_with(alloc: Global, machine: &Machine, link: IdLink) -> Result<List<Term>, OutOfMemory>
     requires { IsAccepted machine.now }
-    ensures { IfOk result (λ devices. devices ≡ devices_of machine.now) }
+    ensures { IfOk result (λ devices. devices ≡ devices_with (low_half link) machine.now) }
+{
+    let mut devices = placeless_devices(alloc, machine)?;
+    push_generation(&mut devices, machine.generation, link)?;
+    Ok(devices)
+}
+
+// Those that are the same wherever a file stands.
+fn placeless_devices(alloc: Global, machine: &Machine) -> Result<List<Term>, OutOfMemory>
+    requires { IsAccepted machine.now }
+    ensures { IfOk result (λ devices. devices ≡ placeless_devices machine.now) }
 {
     let mut devices = List::new(alloc);
     push_bridge(&mut devices, &machine.bridge)?;
@@ -108,6 +139,23 @@ fn push_timer(devices: &mut List<Term>, hpet: Option<Hpet>) -> Result<(), OutOfM
     match hpet {
         Some(hpet) => {
             let device = timer_device(devices.allocator(), hpet)?;
+            devices.push(device)
+        }
+        None => Ok(()),
+    }
+}
+
+// Adds the device of the id of a generation, where there is one.
+fn push_generation(
+    devices: &mut List<Term>,
+    generation: Option<u128>,
+    link: IdLink,
+) -> Result<(), OutOfMemory>
+    ensures { OnOk result (devices.new ≡ devices.old ++ generation_devices (low_half link) generation) }
+{
+    match generation {
+        Some(_) => {
+            let device = generation_device(devices.allocator(), link)?;
             devices.push(device)
         }
         None => Ok(()),

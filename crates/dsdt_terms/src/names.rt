@@ -1,13 +1,13 @@
 //! A device as a name and named values.
 
 ghost use Rattle.std.specs.Prelude.{◌≡◌, [], ◌∷◌, ◌++◌, IfOk, OnOk};
-ghost use Rattle.aml_terms.specs.declared.term.Term.TheVariants.{Int};
+ghost use Rattle.aml_terms.specs.declared.term.Term.TheVariants.{Int, Chars};
 ghost use Rattle.dsdt_terms.specs.Names.{path_to, name, device, hardware_id, compatible_id, unique_id, resources};
 
 use aml_terms::{Path, Term};
 use resource_items::{ResourceItem, resource_template};
 use std::alloc::Global;
-use vt_outside::{Boxed, List, OutOfMemory};
+use vt_outside::{Boxed, List, OutOfMemory, Text};
 
 // Ids in EISA form (ACPI 6.5, 6.1.5): three letters of 5 bits, then four hexadecimal digits, with its high byte first.
 pub(crate) const PCI_BRIDGE: u32 = 0x030A_D041;
@@ -64,6 +64,19 @@ pub(crate) fn push_name(
     let value = Boxed::new(alloc, value)?;
     let path = path_to(alloc, segment)?;
     values.push(Term::Named(path, value))
+}
+
+// Adds a text with a name to others. Its bytes are 01 to 7F.
+pub(crate) fn push_text(
+    values: &mut List<Term>,
+    segment: [u8; 4],
+    text: &[u8],
+) -> Result<(), OutOfMemory>
+    ensures { OnOk result (values.new ≡ values.old ++ name segment (Chars text.now) ∷ []) }
+{
+    let mut chars = Text::new(values.allocator());
+    chars.extend(text)?;
+    push_name(values, segment, Term::Chars(chars))
 }
 
 // Adds the id that says what a device is.

@@ -6,7 +6,7 @@ use Rattle.std.specs.List.{list_all, zip, AllByRecursion}
 use Rattle.std.specs.Option.{option_map_or}
 use Rattle.machine_desc.specs.declared.machine.Machine.{Machine}
 use Rattle.machine_desc.specs.declared.smbios_parts.MemRange.{MemRange}
-use Rattle.machine_desc.specs.Rules.{first_failing, only_at, is_text, text_parts, texts_of, counts, is_own_uuid, end_of, with_ends, is_lawful_range}
+use Rattle.machine_desc.specs.Rules.{first_failing, only_at, is_text, text_parts, texts_of, counts, is_own_if_given, uuids_of, parts_on_power, end_of, with_ends, is_lawful_range}
 use Rattle.machine_desc.specs.Rules.{is_low, is_empty, are_joined, is_memory, is_met, parts_on_acpi, lists_on_apic, breaches, breach_of, IsAccepted}
 use Rattle.machine_desc.specs.Rules.{is_node, node_count, nodes_of, is_lawful_numa}
 use Rattle.machine_desc.specs.Fields.{IsFittingRange}
@@ -39,8 +39,14 @@ texts_at m accepted place =
     let all : list_all is_text (texts_of m) ≡ true = holds_where_kept 0 (list_all is_text (texts_of m)) (kept m accepted 3) in
     passing_at (list_all is_text) (text_parts m) place [] (rw (all_of_each is_text (λ texts. texts) (text_parts m)) at all) refl
 
-pub own_uuid : (m : Machine) → IsAccepted m → option_map_or is_own_uuid m.system.uuid true ≡ true
-own_uuid m accepted = holds_where_kept 0 (option_map_or is_own_uuid m.system.uuid true) (kept m accepted 4)
+own_uuids : (m : Machine) → IsAccepted m → list_all is_own_if_given (uuids_of m) ≡ true
+own_uuids m accepted = each_kept m accepted 4 is_own_if_given (uuids_of m) refl
+
+pub own_uuid : (m : Machine) → IsAccepted m → is_own_if_given m.system.uuid ≡ true
+own_uuid m accepted = passing_at is_own_if_given (uuids_of m) 0 None (own_uuids m accepted) refl
+
+pub own_generation : (m : Machine) → IsAccepted m → is_own_if_given m.generation ≡ true
+own_generation m accepted = passing_at is_own_if_given (uuids_of m) 1 None (own_uuids m accepted) refl
 
 -- what a part needs is there where the part is
 met : (needed there : Bool) → is_met needed there ≡ true → there ≡ true → needed ≡ true
@@ -71,6 +77,12 @@ pub needs_apic : (m : Machine) → IsAccepted m → (index : ℕ) → get_or (li
 needs_apic m accepted index there =
     let all = each_kept m accepted 15 (is_met (is_some m.apic)) (lists_on_apic m) refl in
     met (is_some m.apic) (get_or (lists_on_apic m) index false) (passing_at (is_met (is_some m.apic)) (lists_on_apic m) index false all refl) there
+
+-- a machine with an id of its generation has power management
+pub generation_needs_power : (m : Machine) → IsAccepted m → IsSome m.generation → IsSome m.power
+generation_needs_power m accepted some =
+    let all = each_kept m accepted 14 (is_met (is_some m.power)) (parts_on_power m) refl in
+    met (is_some m.power) (is_some m.generation) (passing_at (is_met (is_some m.power)) (parts_on_power m) 2 false all refl) some
 
 -- the nodes of processors and ranges are there
 pub nodes_are_there : (m : Machine) → IsAccepted m → list_all (is_node (node_count m.numa)) (nodes_of m) ≡ true

@@ -11,7 +11,7 @@ use Rattle.machine_desc.specs.declared.machine.Acpi.{Acpi}
 use Rattle.machine_desc.specs.declared.machine.Broken.{Broken}
 use Rattle.machine_desc.proofs.Kept.{each_is_kept}
 use Rattle.machine_desc.proofs.Passing.{failing_within, all_pass, passing_at, ◌⨾◌}
-use Rattle.machine_desc.specs.Rules.{first_broken, only_at, first_failing, is_padded_text, breach_of_acpi, breaches_of_sizes, breaches_of_parts, breaches_of_acpi_parts, breaches_of_devices, counts, is_within, with_ends, end_of, is_some_text, is_lawful_socket, is_lawful_dimm, is_lawful_range, is_lawful_slot, is_met, parts_on_acpi, parts_on_power, lists_on_apic}
+use Rattle.machine_desc.specs.Rules.{first_broken, only_at, first_failing, is_padded_text, breach_of_acpi, breaches_of_sizes, breaches_of_parts, breaches_of_acpi_parts, breaches_of_devices, counts, is_within, with_ends, end_of, is_own_if_given, uuids_of, is_some_text, is_lawful_socket, is_lawful_dimm, is_lawful_range, is_lawful_slot, is_met, parts_on_acpi, parts_on_power, lists_on_apic}
 use Rattle.machine_desc.specs.Rules.{is_new, first_refused, is_lawful_cpu, apic_id, is_lawful_io_apic, io_apic_id, is_lawful_override, irq_of, is_lawful_nmi, is_node, node_count, nodes_of}
 use Rattle.machine_desc.specs.Rules.{windows_of, routes_of, is_lawful_window, is_lawful_route, pair_of, is_lawful_uart}
 
@@ -96,7 +96,7 @@ only_first holds = only_below 8192 0 holds (omega arith)
 parts_below : (m : Machine) → first_failing is_within (counts m) ≡ None → AreBelow 8192 (breaches_of_parts m)
 parts_below m short =
     only_first _
-    ⨾ only_first _
+    ⨾ failing_below 8192 is_own_if_given (uuids_of m) (omega arith)
     ⨾ failing_below 8192 is_some_text m.oem_strings (omega (arith, within m 0 short))
     ⨾ only_first _
     ⨾ failing_below 8192 is_lawful_socket m.sockets (omega (arith, within m 1 short))

@@ -16,7 +16,7 @@ use Rattle.machine_desc.specs.declared.smbios_parts.Firmware.{Firmware}
 use Rattle.machine_desc.specs.declared.smbios_parts.Socket.{Socket}
 use Rattle.machine_desc.specs.declared.smbios_parts.Slot.{Slot}
 use Rattle.machine_desc.specs.declared.smbios_parts.MemRange.{MemRange}
-use Rattle.machine_desc.specs.Rules.{HasFittingUuid}
+use Rattle.machine_desc.specs.Rules.{HasFittingUuids}
 
 -- the numbers of a firmware's release have 8 bits
 pub record IsFittingFirmware (f : Firmware) : Type 0 where
@@ -96,7 +96,7 @@ pub record IsFittingBridge (b : Bridge) : Type 0 where
   pub routes : AllByRecursion IsFittingRoute b.routes
 
 pub record HasFittingFields (m : Machine) : Type 0 where
-  pub uuid : HasFittingUuid m
+  pub uuids : HasFittingUuids m
   pub firmware : IfSome m.firmware IsFittingFirmware
   pub sockets : AllByRecursion IsFittingSocket m.sockets
   pub slots : AllByRecursion IsFittingSlot m.slots

@@ -176,9 +176,16 @@ is_lawful_power p = has_ports p && has_lawful_gpe p && has_lawful_reset p
 abbrev pub is_hpet_address : Hpet → Bool
 is_hpet_address hpet = hpet.address % 1024 == 0
 
--- A UUID that means one machine. RFC 9562 gives all zeros and all ones to the Nil and the Max UUID.
+-- A UUID that means one thing. RFC 9562 gives all zeros and all ones to the Nil and the Max UUID.
 abbrev pub is_own_uuid : ℕ → Bool
 is_own_uuid uuid = not (uuid == 0) && not (uuid == 2 ^ 128 - 1)
+
+abbrev pub is_own_if_given : Option ℕ → Bool
+is_own_if_given uuid = option_map_or is_own_uuid uuid true
+
+-- the UUIDs of a machine, by their indices in the rule: that of the system, and that of its generation
+abbrev pub uuids_of : Machine → List (Option ℕ)
+uuids_of m = m.system.uuid ∷ m.generation ∷ []
 
 -- a part isn't there, or what it needs is
 abbrev pub is_met : Bool → Bool → Bool
@@ -193,9 +200,10 @@ first_unmet needed parts = first_failing (is_met needed) parts
 abbrev pub parts_on_acpi : Machine → List Bool
 parts_on_acpi m = is_some m.power ∷ is_some m.hpet ∷ is_some m.apic ∷ is_some m.numa ∷ []
 
--- the parts that need power management, and whether they are there, by their indices in the rule: the bridge and the serial ports
+-- the parts that need power management, and whether they are there, by their indices in the rule: the bridge, the serial ports and the id
+-- of the generation
 abbrev pub parts_on_power : Machine → List Bool
-parts_on_power m = is_some m.bridge ∷ not (is_empty m.uarts) ∷ []
+parts_on_power m = is_some m.bridge ∷ not (is_empty m.uarts) ∷ is_some m.generation ∷ []
 
 -- the lists that need the interrupt controllers, and whether they have elements, by their indices in the rule
 abbrev pub lists_on_apic : Machine → List Bool
@@ -290,7 +298,7 @@ is_lawful_uart u = nat_le u.irq 15 && nat_le u.port 0xFFF8
 --   1 the top is 64 MiB to 3 GiB
 --   2 no list is too long; the index is the list's place in `counts`
 --   3 each text has at most 64 bytes, each 0x20 to 0x7E
---   4 the system's UUID (index 0), where given, is neither all zeros nor all ones
+--   4 the system's UUID (index 0) and the id of the generation (index 1), where given, are neither all zeros nor all ones
 --   5 the maker's text of this index isn't empty
 --   6 the type of the chassis is 1 to 127
 --   7 the socket of this index has a core and a thread for each core, at most 65,534
@@ -300,7 +308,7 @@ is_lawful_uart u = nat_le u.irq 15 && nat_le u.port 0xFFF8
 --  11 where ranges are given, those that begin below 4 GiB are all memory below the top
 --  12 the slot of this index has a kind and a width, and is a device and a function of a PCI bus
 --  13 power management (index 0), an HPET (index 1), interrupt controllers (index 2) and NUMA nodes (index 3) need ACPI tables
---  14 a bridge (index 0) and serial ports (index 1) need power management
+--  14 a bridge (index 0), serial ports (index 1) and the id of the generation (index 2) need power management
 --  15 processors (index 0), I/O APICs (index 1), overrides (index 2) and NMIs (index 3) need interrupt controllers
 --  16 the maker's id (index 0) has at most 6 bytes, its id of the tables (index 1) at most 8, and neither ends in a space
 --  17 the ports of power management that must be there aren't 0, and its block of events and its reset value are lawful
@@ -323,7 +331,7 @@ breaches_of_sizes m =
 abbrev pub breaches_of_parts : Machine → List (ℕ × Option ℕ)
 breaches_of_parts m =
     (3, only_at 0 (list_all is_text (texts_of m))) ∷
-    (4, only_at 0 (option_map_or is_own_uuid m.system.uuid true)) ∷
+    (4, first_failing is_own_if_given (uuids_of m)) ∷
     (5, first_failing is_some_text m.oem_strings) ∷
     (6, only_at 0 (option_map_or is_lawful_chassis m.chassis true)) ∷
     (7, first_failing is_lawful_socket m.sockets) ∷
@@ -382,6 +390,7 @@ breach_in number (rule ∷ rules) = if rule.0 == number then rule.1 else breach_
 abbrev pub breach_of : ℕ → Machine → Option ℕ
 breach_of number m = breach_in number (breaches m)
 
--- the UUID of a machine fits its type, as that of each machine of the program does
-abbrev pub HasFittingUuid : Machine → Type 0
-HasFittingUuid m = IfSome m.system.uuid (λ uuid. uuid < 2 ^ 128)
+-- the UUIDs of a machine fit their types, as those of each machine of the program do
+pub record HasFittingUuids (m : Machine) : Type 0 where
+  pub system : IfSome m.system.uuid (λ uuid. uuid < 2 ^ 128)
+  pub generation : IfSome m.generation (λ uuid. uuid < 2 ^ 128)

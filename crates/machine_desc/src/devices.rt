@@ -37,7 +37,11 @@ impl Machine {
     {
         first_unmet(
             self.power.is_some(),
-            &[self.bridge.is_some(), self.uarts.len() != 0],
+            &[
+                self.bridge.is_some(),
+                self.uarts.len() != 0,
+                self.generation.is_some(),
+            ],
         )
     }
 }

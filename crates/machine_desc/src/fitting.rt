@@ -3,7 +3,7 @@
 
 ghost use Rattle.std.specs.Prelude.{◌<◌, ◌^◌, IfSome};
 ghost use Rattle.std.specs.List.{AllByRecursion};
-ghost use Rattle.machine_desc.specs.Rules.{HasFittingUuid};
+ghost use Rattle.machine_desc.specs.Rules.{HasFittingUuids};
 ghost use Rattle.machine_desc.specs.Fields.{IsFittingFirmware, IsFittingSocket, IsFittingSlot, IsFittingPower, IsFittingHpet};
 ghost use Rattle.machine_desc.specs.Fields.{IsFittingApic, IsFittingCpu, IsFittingIoApic, IsFittingOverride, IsFittingNmi, IsFittingNuma};
 ghost use Rattle.machine_desc.specs.Fields.{IsFittingRoute, IsFittingBridge};
@@ -156,10 +156,11 @@ impl Fitting for Bridge {
 }
 
 impl Machine {
-    pub(crate) fn read_uuid(&self)
-        ensures { HasFittingUuid self.now }
+    pub(crate) fn read_uuids(&self)
+        ensures { HasFittingUuids self.now }
     {
         uuid_fits(self.system.uuid);
+        uuid_fits(self.generation);
     }
 }
 

@@ -41,7 +41,7 @@ pub fn numbers_in_an_accepted_machine_differ()
 pub fn numbers_of_a_machine_fit(machine: &Machine)
     ensures { HasFittingFields machine.now }
 {
-    machine.read_uuid();
+    machine.read_uuids();
     read_numbers_if(&machine.firmware);
     read_numbers_of_each(machine.sockets.as_slice());
     read_numbers_of_each(machine.slots.as_slice());

@@ -19,8 +19,10 @@ mod ranges;
 mod rules;
 mod smbios_parts;
 mod texts;
+mod uuids;
 
 pub use acpi_parts::{Apic, Cpu, IoApic, Nmi, Numa, Override, Power};
 pub use device_parts::{Bridge, Route, Uart, Window, WindowKind};
 pub use machine::{Acpi, Broken, Hpet, Machine, System};
 pub use smbios_parts::{Chassis, Dimm, Firmware, MemRange, Slot, Socket};
+pub use uuids::uuid_bytes;

@@ -11,6 +11,10 @@ pub struct Machine {
     pub top_mib: u32,
     /// Texts of its maker (OEM Strings, DSP0134 7.12), at most 32 in an accepted machine.
     pub oem_strings: List<Text>,
+    /// The id of its generation as one number, with the first byte of its text highest: in an accepted machine neither all zeros nor all
+    /// ones. A guest that finds another id than before knows that the machine was copied, or went back in time. An accepted machine with an
+    /// id has power management.
+    pub generation: Option<u128>,
     /// The machine as a product.
     pub system: System,
     /// Its firmware, where it is described.

@@ -2,13 +2,13 @@
 
 ghost use Rattle.std.specs.Prelude.{◌≡◌, true, is_some, length};
 ghost use Rattle.std.specs.Option.{option_map_or};
-ghost use Rattle.machine_desc.specs.Rules.{first_failing, counts, is_within, is_own_uuid, is_lawful_chassis, is_lawful_socket};
+ghost use Rattle.machine_desc.specs.Rules.{first_failing, counts, is_within, is_own_if_given, uuids_of, is_lawful_chassis, is_lawful_socket};
 ghost use Rattle.machine_desc.specs.Rules.{is_lawful_dimm, is_lawful_slot, breach_of_acpi, is_padded_text, is_hpet_address};
 ghost use Rattle.machine_desc.specs.Rules.{is_met, first_unmet, parts_on_acpi, lists_on_apic, is_lawful_nmi};
 ghost use Rattle.machine_desc.specs.Rules.{has_ports, has_lawful_gpe, has_lawful_reset, is_lawful_power};
 
 use crate::acpi_parts::{Nmi, Power};
-use crate::machine::{Acpi, Hpet, Machine, System};
+use crate::machine::{Acpi, Hpet, Machine};
 use crate::smbios_parts::{Chassis, Dimm, Slot, Socket};
 use vt_outside::Text;
 
@@ -89,14 +89,23 @@ fn is_met(needed: bool, there: bool) -> bool
     !there || needed
 }
 
-impl System {
-    pub(crate) fn has_own_uuid(&self) -> bool
-        ensures { result ≡ option_map_or is_own_uuid self.now.uuid true }
+impl Machine {
+    // The place of the first of its UUIDs, that of the system and that of its generation, which means no one thing.
+    pub(crate) fn reserved_uuid(&self) -> Option<usize>
+        ensures { result ≡ first_failing is_own_if_given (uuids_of self.now) }
     {
-        match self.uuid {
-            None => true,
-            Some(uuid) => uuid != 0 && uuid != u128::MAX,
-        }
+        [self.system.uuid, self.generation]
+            .iter()
+            .position(|uuid| !is_own_if_given(*uuid))
+    }
+}
+
+fn is_own_if_given(uuid: Option<u128>) -> bool
+    ensures { result ≡ is_own_if_given uuid }
+{
+    match uuid {
+        None => true,
+        Some(uuid) => uuid != 0 && uuid != u128::MAX,
     }
 }
 

@@ -22,7 +22,7 @@ impl Machine {
     ///   and `nmis` (index 8) at most 16, `uarts` (index 9) at most 4, and of `bridge` `windows` (index 10) at most 32 and `routes`
     ///   (index 11) at most 128.
     /// - Rule 3, index 0: each text has at most 64 bytes, each 0x20 to 0x7E.
-    /// - Rule 4, index 0: the UUID, where given, is neither all zeros nor all ones (RFC 9562).
+    /// - Rule 4: the UUID (index 0) and the id of the generation (index 1), where given, are neither all zeros nor all ones (RFC 9562).
     /// - Rule 5, index of the text: no text of `oem_strings` is empty.
     /// - Rule 6, index 0: the `kind` of the chassis is 1 to 127.
     /// - Rule 7, index of the socket: `cores` is at least 1 and at most `threads`, which is at most 65,534.
@@ -33,7 +33,7 @@ impl Machine {
     /// - Rule 11, index 0: where ranges are given, those that begin below 4096 MiB are all memory below `top_mib`.
     /// - Rule 12, index of the slot: `kind` and `width` are at least 1, `device` is at most 31, and `function` at most 7.
     /// - Rule 13: a machine with `power` (index 0), `hpet` (index 1), `apic` (index 2) or `numa` (index 3) has ACPI tables.
-    /// - Rule 14: a machine with `bridge` (index 0) or `uarts` (index 1) has `power`.
+    /// - Rule 14: a machine with `bridge` (index 0), `uarts` (index 1) or `generation` (index 2) has `power`.
     /// - Rule 15: a machine with `cpus` (index 0), `io_apics` (index 1), `overrides` (index 2) or `nmis` (index 3) has `apic`.
     /// - Rule 16: `oem_id` (index 0) has at most 6 bytes, `oem_table_id` (index 1) at most 8, and neither ends in a space.
     /// - Rule 17, index 0: of `power` the ports `event`, `control` and `timer` aren't 0; `gpe_len` is even, at most 30, and 0 exactly where
@@ -109,7 +109,7 @@ impl Machine {
     {
         [
             (3, only_at(0, self.has_lawful_texts())),
-            (4, only_at(0, self.system.has_own_uuid())),
+            (4, self.reserved_uuid()),
             (5, empty_text(self.oem_strings.as_slice())),
             (6, only_at(0, has_lawful_chassis(&self.chassis))),
             (7, unlawful_socket(self.sockets.as_slice())),

@@ -22,7 +22,7 @@ use Rattle.smbios_model.specs.MemoryDevice.{size_field, extended_field, device_o
 use Rattle.smbios_model.specs.MappedAddress.{in_kib, in_bytes, mapped_of, told_in, range_in}
 
 -- the number of a UUID's field
-uuid_number : (uuid : ℕ) → uuid < 2 ^ 128 → be (swap_fields (uuid_field (Some uuid))) ≡ uuid
+pub uuid_number : (uuid : ℕ) → uuid < 2 ^ 128 → be (swap_fields (uuid_field (Some uuid))) ≡ uuid
 uuid_number uuid fits =
     let turned : swap_fields (swap_fields (to_be_bytes w128 uuid)) ≡ to_be_bytes w128 uuid = refl in
     let bytes : to_be_bytes w128 uuid ≡ reverse (le_bytes 16 uuid) = bytes_high_first-reverse 16 uuid ∙ ap reverse (le_bytes-whole 16 uuid) in

@@ -13,7 +13,7 @@ use Rattle.machine_desc.specs.declared.smbios_parts.Dimm.{Dimm}
 use Rattle.machine_desc.specs.declared.smbios_parts.MemRange.{MemRange}
 use Rattle.machine_desc.specs.declared.smbios_parts.Firmware.{Firmware}
 use Rattle.machine_desc.specs.declared.smbios_parts.Chassis.{Chassis as ChassisPart}
-use Rattle.machine_desc.specs.Rules.{is_lawful_slot, IsAccepted, HasFittingUuid}
+use Rattle.machine_desc.specs.Rules.{is_lawful_slot, IsAccepted, HasFittingUuids}
 use Rattle.machine_desc.specs.Fields.{IsFittingRange}
 use Rattle.machine_desc.proofs.Accepted.{own_uuid, fitting_ranges}
 use Rattle.smbios_model.specs.declared.smbios.Body.{Body}
@@ -154,10 +154,10 @@ as_many_ranges a b a_accepted b_accepted same =
 ranges_back : (m : Machine) → IsAccepted m → on_nodes (map node_of m.ranges) (filter_map range_told (bodies_of 19 (structures_of m))) ≡ m.ranges
 ranges_back m accepted = ap (on_nodes (map node_of m.ranges)) (ranges_but_nodes m accepted) ∙ on_own_nodes m.ranges
 
-pub machine_back : (m : Machine) → IsAccepted m → HasFittingUuid m → machine_in m (structures_of m) ≡ m
+pub machine_back : (m : Machine) → IsAccepted m → HasFittingUuids m → machine_in m (structures_of m) ≡ m
 machine_back m accepted fits =
     let firmware = any_back m accepted 0 bios_body firmware_told (option_to_list m.firmware) refl (λ f. refl) in
-    let system = got_back m accepted 1 system_body system_told (m.system ∷ []) refl (ap Some (system_back m.system fits (own_uuid m accepted)), tt) in
+    let system = got_back m accepted 1 system_body system_told (m.system ∷ []) refl (ap Some (system_back m.system fits.system (own_uuid m accepted)), tt) in
     let chassis = any_back m accepted 3 chassis_body chassis_told (option_to_list m.chassis) refl (λ c. refl) in
     let sockets = any_back m accepted 4 processor_body socket_told m.sockets refl (λ s. refl) in
     let slots = got_back m accepted 9 slot_body slot_told m.slots refl

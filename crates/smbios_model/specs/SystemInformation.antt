@@ -1,13 +1,13 @@
 -- System Information, type 1 (DMTF DSP0134, version 3.0.0, 7.2).
 use Rattle.std.specs.Prelude.{ℕ, List, [], ◌∷◌, Option, Some, None, replicate, ◌==◌, if◌then◌else◌}
 use Rattle.std.specs.Option.{option_map_or}
-use Rattle.std.specs.Int.{w128, to_be_bytes}
 use Rattle.uuid.specs.Parts.{swap_fields}
 use Rattle.vt_bytes.specs.Numbers.{be}
 use Rattle.vt_layout.specs.declared.value.Value.{Value}
 use Rattle.vt_layout.specs.Values.{value_at, byte_of, sixteen_of, text_of}
 use Rattle.vt_layout.specs.Fields.{Field, Text, byte, sixteen}
 use Rattle.machine_desc.specs.declared.machine.System.{System}
+use Rattle.machine_desc.specs.Uuids.{uuid_bytes}
 use Rattle.smbios_model.specs.declared.system_information.SystemInfo.{SystemInfo}
 use Rattle.smbios_model.specs.declared.smbios.Body.TheVariants.{System as SystemVariant}
 use Rattle.smbios_model.specs.StructureKinds.{StructureKind, StructureLayout, kind_with, layout_with}
@@ -38,7 +38,7 @@ system_layout i = layout_with system_kind (system_fields i)
 
 -- the sixteen bytes of a UUID: the first three fields are little-endian, and sixteen zeros mean none (7.2.1)
 abbrev pub uuid_field : Option ℕ → List ℕ
-uuid_field uuid = option_map_or (λ number. swap_fields (to_be_bytes w128 number)) uuid (replicate 16 0)
+uuid_field uuid = option_map_or uuid_bytes uuid (replicate 16 0)
 
 -- a machine's system as System Information, woken up by its power switch
 abbrev pub system_of : System → SystemInfo

@@ -2,8 +2,7 @@ ghost use Rattle.std.specs.Prelude.{◌≡◌, IfOk, refl};
 ghost use Rattle.smbios_model.specs.SystemInformation.{system_fields, system_in, system_of, uuid_field};
 
 use crate::texts::three_copies_of;
-use machine_desc::System;
-use uuid::Uuid;
+use machine_desc::{System, uuid_bytes};
 use vt_layout::{Laid, RowList, Values};
 use vt_outside::{OutOfMemory, Text};
 
@@ -92,7 +91,7 @@ pub fn uuid_field(uuid: Option<u128>) -> [u8; 16]
     ensures { result ≡ uuid_field uuid }
 {
     match uuid {
-        Some(number) => Uuid::from_u128(number).to_bytes_le(),
+        Some(uuid) => uuid_bytes(uuid),
         None => [0; 16],
     }
 }

@@ -1,20 +1,25 @@
 -- What a view of memory shows of a machine, and what a machine should show.
-use Rattle.std.specs.Prelude.{◌≡◌, ℕ, ◌*◌, Some, None, MatchOption, option_map}
+use Rattle.std.specs.Prelude.{◌≡◌, ℕ, ◌*◌, List, Option, Some, None, MatchOption, option_map}
 use Rattle.vt_bytes.specs.View.{View}
 use Rattle.machine_desc.specs.declared.machine.Machine.{Machine}
 use Rattle.table_model.specs.declared.inventory.Inventory.{Inventory}
+use Rattle.acpi_model.specs.declared.acpi.AcpiTables.{AcpiTables}
 use Rattle.acpi_model.specs.Rsdp.{HasRsdp}
-use Rattle.acpi_model.specs.Acpi.{ShowsAcpi, acpi_of}
+use Rattle.acpi_model.specs.Acpi.{ShowsAcpi, acpi_of, id_of}
 use Rattle.smbios_model.specs.Anchor.{HasAnchor}
 use Rattle.smbios_model.specs.Smbios.{ShowsSmbios, smbios_of}
 
+-- A view shows ACPI tables, and the id of a generation to which they lead: those of its RSDP, or none exactly where no valid RSDP stands.
+abbrev pub ShowsTables : View → Option AcpiTables → Option (List ℕ) → Type 0
+ShowsTables view None id = ((address : ℕ) → HasRsdp view address → ⊥) × (id ≡ None)
+ShowsTables view (Some tables) id = ShowsAcpi view tables id
+
 -- A memory below a top shows the inventory: its top; the table of its SMBIOS anchor, or none exactly where no valid anchor stands;
--- and the tables of its RSDP, or none exactly where no valid RSDP stands. No generation id is told of a DSDT yet.
+-- and its ACPI tables with the id of its generation.
 pub record Shows (top : ℕ) (view : View) (inventory : Inventory) : Type 0 where
   pub its_top : inventory.top ≡ top
   pub smbios : MatchOption inventory.smbios ((address : ℕ) → HasAnchor view address → ⊥) (ShowsSmbios view)
-  pub acpi : MatchOption inventory.acpi ((address : ℕ) → HasRsdp view address → ⊥) (ShowsAcpi view)
-  pub generation : inventory.generation ≡ None
+  pub acpi : ShowsTables view inventory.acpi inventory.generation
 
 -- the inventory of a machine
 abbrev pub inventory_of : Machine → Inventory
@@ -22,5 +27,5 @@ inventory_of m = record {
   top = m.top_mib * 0x100000;
   smbios = Some (smbios_of m);
   acpi = option_map (acpi_of m) m.acpi;
-  generation = None;
+  generation = id_of m;
 }

@@ -1,10 +1,10 @@
 ghost use Rattle.std.specs.Prelude.{◌≡◌, option_map, IfOk};
 ghost use Rattle.machine_desc.specs.Rules.{IsAccepted};
-ghost use Rattle.acpi_model.specs.Acpi.{acpi_of};
+ghost use Rattle.acpi_model.specs.Acpi.{acpi_of, id_of};
 ghost use Rattle.table_model.specs.Inventory.{inventory_of};
 
 use acpi_model::{AcpiTables, acpi_of};
-use machine_desc::Machine;
+use machine_desc::{Machine, uuid_bytes};
 use smbios_model::{BYTES_IN_MIB, SmbiosTable, smbios_of};
 use std::alloc::Global;
 use vt_outside::OutOfMemory;
@@ -18,7 +18,8 @@ pub struct Inventory {
     pub smbios: Option<SmbiosTable>,
     /// The tables of its RSDP; none where no valid RSDP stands.
     pub acpi: Option<AcpiTables>,
-    /// The id of its generation, which a DSDT leads to. None is read of a DSDT yet.
+    /// The id of its generation, which its DSDT leads to, as it stands in memory: the first three fields are little-endian. None where no DSDT
+    /// is found that leads to one.
     pub generation: Option<[u8; 16]>,
 }
 
@@ -34,8 +35,18 @@ pub fn inventory_of(alloc: Global, machine: &Machine) -> Result<Inventory, OutOf
         top: machine.top_mib * BYTES_IN_MIB as u32,
         smbios: Some(smbios),
         acpi,
-        generation: None,
+        generation: id_of(machine),
     })
+}
+
+// The id of a machine's generation as a guest finds it, where it has one.
+fn id_of(machine: &Machine) -> Option<[u8; 16]>
+    ensures { result ≡ id_of machine.now }
+{
+    match machine.generation {
+        Some(id) => Some(uuid_bytes(id)),
+        None => None,
+    }
 }
 
 // The ACPI tables of a machine, where it has some.

@@ -62,6 +62,7 @@ fn put_drawn(alloc: Global, machine: &mut Machine, seed: u64) -> Result<(), OutO
     if half(&mut random) {
         drop(machine.bridge.replace(drawn_bridge(alloc, &mut random)?));
     }
+    machine.generation = drawn_id(&mut random);
     Ok(())
 }
 
@@ -122,6 +123,14 @@ fn put_uarts(random: &mut Pcg32, uarts: &mut List<Uart>) -> Result<(), OutOfMemo
         })?;
     }
     Ok(())
+}
+
+// An id of the generation that isn't 0.
+fn drawn_id(random: &mut Pcg32) -> Option<u128> {
+    if half(random) {
+        return None;
+    }
+    Some(u128::from(random.next_word()) << 96 | 1)
 }
 
 // Seldom more than a few.

@@ -34,7 +34,7 @@ acpi = {}
 power = { event = 1, control = 1, timer = 1";
 
 // What is described below that machine, and its terms.
-static DEVICES: [(&str, &[u8]); 12] = [
+static DEVICES: [(&str, &[u8]); 13] = [
     // no devices
     ("", b"\x10\x06\x5c_SB_"),
     // a bridge, without configuration space in memory and with it
@@ -143,6 +143,13 @@ static DEVICES: [(&str, &[u8]); 12] = [
           \x5b\x82\x1aC001\x08_HID\x0dACPI0007\x00\x08_UID\x01\
           \x5b\x82\x1bC002\x08_HID\x0dACPI0007\x00\x08_UID\x0a\x02",
     ),
+    // an id of the generation, whatever it is
+    (
+        "generation = '00000000-0000-0000-0000-000000000001'",
+        b"\x10\x3f\x5c_SB_\
+          \x5b\x82\x37VGEN\x08_HID\x0dQEMUVGID\x00\x08_CID\x0dVM_Gen_Counter\x00\
+          \x08ADDR\x12\x08\x02\x0c\x28\x00\x00\x00\x00",
+    ),
 ];
 
 // What is described behind that beginning, and the terms of the machine.
@@ -170,8 +177,8 @@ static POWERS: [(&str, &[u8]); 4] = [
     ),
     // a device of each kind
     (
-        " }\nbridge = {}\nuart = [{ port = 0x3F8, irq = 4 }]\nhpet = {}\napic = {}\ncpu = [{ apic = 0 }]\n",
-        b"\x10\x4e\x10\x5c_SB_\
+        " }\nbridge = {}\nuart = [{ port = 0x3F8, irq = 4 }]\nhpet = {}\napic = {}\ncpu = [{ apic = 0 }]\ngeneration = '8A6E9C4A-6E6B-4B0E-9C2E-1D0F5A3B7C91'\n",
+        b"\x10\x47\x14\x5c_SB_\
           \x5b\x82\x3ePCI0\x08_HID\x0c\x41\xd0\x0a\x03\x08_UID\x00\x08_BBN\x00\
           \x08_CRS\x11\x15\x0a\x12\
           \x88\x0d\x00\x02\x0c\x00\x00\x00\x00\x00\xff\x00\x00\x00\x00\x01\x79\x00\
@@ -184,7 +191,9 @@ static POWERS: [(&str, &[u8]); 4] = [
           \x08_CRS\x11\x18\x0a\x15\x47\x01\x60\x00\x60\x00\x01\x01\x47\x01\x64\x00\x64\x00\x01\x01\x22\x02\x00\x79\x00\
           \x5b\x82\x26HPET\x08_HID\x0c\x41\xd0\x01\x03\
           \x08_CRS\x11\x11\x0a\x0e\x86\x09\x00\x01\x00\x00\xd0\xfe\x00\x04\x00\x00\x79\x00\
-          \x5b\x82\x1aC000\x08_HID\x0dACPI0007\x00\x08_UID\x00",
+          \x5b\x82\x1aC000\x08_HID\x0dACPI0007\x00\x08_UID\x00\
+          \x5b\x82\x37VGEN\x08_HID\x0dQEMUVGID\x00\x08_CID\x0dVM_Gen_Counter\x00\
+          \x08ADDR\x12\x08\x02\x0c\x28\x00\x00\x00\x00",
     ),
 ];
 

@@ -24,7 +24,11 @@ fn put_devices(alloc: Global, into: &mut Bytes, machine: &Machine) -> Result<(),
     if let Some(hpet) = machine.hpet {
         put_timer(alloc, into, hpet.address)?;
     }
-    put_cpus(alloc, into, machine.cpus.len())
+    put_cpus(alloc, into, machine.cpus.len())?;
+    if machine.generation.is_some() {
+        put_id(alloc, into)?;
+    }
+    Ok(())
 }
 
 // Appends an opcode, the length of what follows, these bytes, and those.
@@ -294,4 +298,12 @@ fn put_cpu(alloc: Global, into: &mut Bytes, number: usize) -> Result<(), OutOfMe
         DIGITS[number % 16],
     ];
     put_device(into, &name, &inside)
+}
+
+// Appends the device that leads to the id of the generation, with a dword to which an address is to be added.
+fn put_id(alloc: Global, into: &mut Bytes) -> Result<(), OutOfMemory> {
+    let mut inside = Bytes::new(alloc);
+    inside.extend(b"\x08_HID\x0dQEMUVGID\x00\x08_CID\x0dVM_Gen_Counter\x00\x08ADDR")?;
+    put_part(&mut inside, b"\x12", b"\x02", b"\x0c\x28\x00\x00\x00\x00")?;
+    put_device(into, b"VGEN", &inside)
 }

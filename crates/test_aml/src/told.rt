@@ -46,7 +46,8 @@ pub fn read(alloc: Global, bytes: &[u8]) -> Result<List<Term>, AmlFault>
     decode_terms(alloc, bytes)
 }
 
-fn told_terms(alloc: Global, terms: &[Term]) -> Result<Bytes, Fail> {
+/// Tells terms, one after the other.
+pub fn told_terms(alloc: Global, terms: &[Term]) -> Result<Bytes, Fail> {
     let mut told = Bytes::new(alloc);
     push_terms(&mut told, terms)?;
     Ok(told)

@@ -1,6 +1,6 @@
 //! Tests of the command `boot`, through the top call over streams in memory: descriptions that are refused and accepted, the dumps
 //! of the machines that they describe, with every part that SMBIOS tells among them, other fill bytes, policies, seeds and events,
-//! streams that fail, inputs of the greatest length, and worlds over many runs.
+//! streams that fail, inputs of the greatest length, the id of a generation, and worlds over many runs.
 #![tactic(auto)]
 
 #[cfg(test)]
@@ -14,11 +14,15 @@ mod events;
 #[cfg(test)]
 mod fills;
 #[cfg(test)]
+mod generations;
+#[cfg(test)]
 mod limits;
 #[cfg(test)]
 mod parts;
 #[cfg(test)]
 mod places;
+#[cfg(test)]
+mod refused_systems;
 #[cfg(test)]
 mod says;
 #[cfg(test)]

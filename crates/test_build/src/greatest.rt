@@ -14,7 +14,8 @@ use vt_outside::{Bytes, ListSink, ListSource, SureSink};
 const MUCH_ROOM: usize = 2_000_000;
 
 // What stands above the first array of tables, but for texts and for distances.
-const HEAD: &str = "version = 1\ntop_mib = 3072\n";
+const HEAD: &str =
+    "version = 1\ntop_mib = 3072\ngeneration = '8a6e9c4a-6e6b-4b0e-9c2e-1d0f5a3b7c91'\n";
 
 const ACPI: &str =
     "[acpi]\n[power]\nevent = 0x600\ncontrol = 0x604\ntimer = 0x608\n[hpet]\n[apic]\n[numa]\nnodes = 64\n";
@@ -58,18 +59,20 @@ static ROUTES: [&str; 4] = [
 pub(crate) const TEXT: [u8; 64] = [b'x'; 64];
 
 // Its files, with their bytes. The tables: a FACS of 64 bytes at 0; a DSDT of 36 + 9 + 3,526 of the bridge + 45 + 3 * 46 of serial ports +
-// 39 of the clock + 47 of the keyboard + 40 of the timer + 2 * 28 + 254 * 29 + 3,840 * 30 of processors at 64; an FADT of 276 at 126,576; a
-// MADT of 44 + 4,096 * 16 + 16 * (12 + 10 + 12) at 126,864; an SRAT of 48 + 4,096 * 24 + 64 * 40 at 192,992; a SLIT of 44 + 4,096 at 293,904;
-// an MCFG of 60 at 298,048; an HPET table of 56 at 298,112; and an XSDT of 36 + 6 * 8 at 298,176. The structures: 24 + 2 of the firmware,
-// 27 + 2 of the system, 22 + 2 of the chassis, 256 * (48 + 2) of sockets, 64 * (17 + 2) of slots, 5 + 32 * 65 + 1 of the maker's texts, 25
-// of the array, 256 * (40 + 2) of modules, 64 * 33 of ranges, 13 of the boot and 6 of the end. The script has 26 commands: four files are
-// placed, eleven pointers filled and eleven sums.
-static FILES: [(&str, usize); 5] = [
+// 39 of the clock + 47 of the keyboard + 40 of the timer + 2 * 28 + 254 * 29 + 3,840 * 30 of processors + 57 of the generation at 64; an
+// FADT of 276 at 126,624; a MADT of 44 + 4,096 * 16 + 16 * (12 + 10 + 12) at 126,912; an SRAT of 48 + 4,096 * 24 + 64 * 40 at 193,040; a
+// SLIT of 44 + 4,096 at 293,952; an MCFG of 60 at 298,096; an HPET table of 56 at 298,160; and an XSDT of 36 + 6 * 8 at 298,224. The
+// structures: 24 + 2 of the firmware, 27 + 2 of the system, 22 + 2 of the chassis, 256 * (48 + 2) of sockets, 64 * (17 + 2) of slots,
+// 5 + 32 * 65 + 1 of the maker's texts, 25 of the array, 256 * (40 + 2) of modules, 64 * 33 of ranges, 13 of the boot and 6 of the end. The
+// script has 29 commands: five files are placed, twelve pointers filled and eleven sums, and the host is told where the id is.
+static FILES: [(&str, usize); 7] = [
     ("etc/acpi/rsdp", 36),
-    ("etc/acpi/tables", 298_260),
+    ("etc/acpi/tables", 298_308),
     ("etc/smbios/smbios-anchor", 24),
     ("etc/smbios/smbios-tables", 29_089),
-    ("etc/table-loader", 3_328),
+    ("etc/table-loader", 3_712),
+    ("etc/vmgenid_addr", 8),
+    ("etc/vmgenid_guid", 4_096),
 ];
 
 #[test]

@@ -2,8 +2,8 @@
 //! always the same.
 
 use fixtures::{
-    MINIMAL, SEEDED_ROOM, WITH_DEVICES, WITH_INTERRUPTS, WITH_NODES, decode, ends, is_same, listed,
-    sink, source, status_of,
+    MINIMAL, SEEDED_ROOM, WITH_DEVICES, WITH_GENERATION, WITH_INTERRUPTS, WITH_NODES, decode, ends,
+    is_same, listed, sink, source, status_of,
 };
 use std::alloc::Global;
 use std::test::Fail;
@@ -11,7 +11,7 @@ use vmtables::{Status, World};
 use vt_outside::{ListSink, ListSource, OutOfMemory, SureSink};
 
 // A description, and the list of what the machine shows.
-static MACHINES: [(&str, &str); 4] = [
+static MACHINES: [(&str, &str); 5] = [
     (
         MINIMAL,
         "smbios 3.0.0 structures 2
@@ -55,6 +55,19 @@ table FACS
 table DSDT
 table APIC
 table MCFG
+table HPET
+",
+    ),
+    // the id of a generation is in no list
+    (
+        WITH_GENERATION,
+        "smbios 3.0.0 structures 2
+type 1 handle 0100
+type 127 handle 7f00
+acpi BOCHS \ntable XSDT
+table FACP
+table FACS
+table DSDT
 table HPET
 ",
     ),

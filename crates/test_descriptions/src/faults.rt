@@ -123,7 +123,11 @@ version = 1
 => not TOML"#;
 
 // The table `system`, behind the top.
-const SYSTEM: &str = r"--- unknown keys come first
+const SYSTEM: &str = r"--- the id of the generation before the table
+system = 1
+generation = 'x'
+=> out of range root 0 generation
+--- unknown keys come first
 [system]
 vendor = 1
 product = 2
@@ -172,6 +176,20 @@ const BEHIND_THE_FRONT: &str = r"--- tables in the order of their keys, whatever
 firmware.vendor = 1
 oem_strings = 1
 => wrong kind root 0 oem_strings
+---
+generation = 'x'
+oem_strings = 1
+=> wrong kind root 0 oem_strings
+---
+generation = 'x'
+=> out of range root 0 generation
+---
+generation = '00112233-4455-6677-8899-aabbccddeef'
+=> out of range root 0 generation
+---
+firmware = 1
+generation = 5
+=> wrong kind root 0 generation
 ---
 chassis = 1
 firmware.minor = -1

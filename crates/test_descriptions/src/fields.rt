@@ -13,6 +13,12 @@ const FIELDS: &str = r"---
 hpet = 1
 => 0 0 13
 ---
+generation = 'x'
+=> 0 0 3
+---
+generation = 5
+=> 0 0 3
+---
 firmware.minor = ''
 => 2 0 4
 ---
@@ -141,7 +147,7 @@ fn of_known(alloc: Global, table: u8, index: u32, key: u8) -> Result<String, Fai
     Ok(format!(in alloc; "{table} {index} {key}")?)
 }
 
-// The greatest position, and numbers of tables and keys that the schema doesn't have: of a key that is still to come there is no name.
+// The greatest position, and numbers of tables and keys that the schema doesn't have, which have no name.
 #[test]
 fn lines_of_other_numbers(rt: HostRuntime) {
     let greatest = DescFault::WrongKind {
@@ -154,12 +160,12 @@ fn lines_of_other_numbers(rt: HostRuntime) {
         &greatest,
         "description: wrong kind acpi 4294967295 oem_id\n",
     );
-    let to_come = DescFault::MissingKey {
+    let behind_the_last = DescFault::MissingKey {
         table: 0,
         index: 0,
-        key: 3,
+        key: 22,
     };
-    has_line(&rt, &to_come, "description: missing key root 0 \n");
+    has_line(&rt, &behind_the_last, "description: missing key root 0 \n");
     let past = DescFault::MissingKey {
         table: 21,
         index: 0,

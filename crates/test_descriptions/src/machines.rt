@@ -7,6 +7,7 @@ pub(crate) const EVERY_KEY: &str = "# A machine with every key that a descriptio
 version = 1
 top_mib = 2048
 oem_strings = [\"Built in Example\", \"Second\"]
+generation = \"00112233-4455-6677-8899-aabbccddeeff\"
 [system]
 manufacturer = \"Example Co\"
 product = \"Server\"
@@ -151,8 +152,8 @@ irq = 4
 
 // Its machine in words.
 const EVERY_VALUE: &str =
-    "top 2048|oem|Built in Example|Second|Example Co|Server|1|S-0001|EX-SRV-1|Servers\
-    |uuid 6f1a5e0c2b4d4c7e9a380d5c1b7e42f9|firmware|Example Firmware|2.5|01/02/2024| 2 255\
+    "top 2048|oem|Built in Example|Second|generation 112233445566778899aabbccddeeff\
+    |Example Co|Server|1|S-0001|EX-SRV-1|Servers|uuid 6f1a5e0c2b4d4c7e9a380d5c1b7e42f9|firmware|Example Firmware|2.5|01/02/2024| 2 255\
     |chassis|Example Housing|3|C-0001|A-0001|EX-BOX-1| 127\
     |socket|CPU 0|Example Silicon|4|P-0001|A-0002|EX-CPU-1| 65534 65534 65535|socket||||||| 1 2 0\
     |dimm|DIMM 0|BANK 0|Example Memory|M-0001|A-0003|EX-RAM-1| 16777216 65534|dimm||||||| 1 0\
@@ -391,8 +392,18 @@ power = {event = 1, control = 1, timer = 1, gpe = 1, gpe_len = 2, reset = 1, res
 oem_strings = [' ', '~']
 => top 64|oem| |~||||||"#;
 
-// Devices of a machine behind the front of a description with power management, and the machine in words.
-const DEVICES: &str = r#"--- a bridge, and no serial port
+// An id of the generation and devices of a machine, behind the front of a description with power management, and the machine in words.
+const DEVICES: &str = r#"--- an id of the generation
+generation = "00112233-4455-6677-8899-aabbccddeeff"
+=> top 64|generation 112233445566778899aabbccddeeff|||||||acpi|BOCHS|BXPC|power| 9 0 1 1 1 0 0 0 0 0 1 1
+---
+generation = '{6F1A5E0C-2B4D-4C7E-9A38-0D5C1B7E42F9}'
+=> top 64|generation 6f1a5e0c2b4d4c7e9a380d5c1b7e42f9|||||||acpi|BOCHS|BXPC|power| 9 0 1 1 1 0 0 0 0 0 1 1
+---
+uart = [{port = 1016, irq = 4}]
+generation = '00000000000000000000000000000001'
+=> top 64|generation 1|||||||acpi|BOCHS|BXPC|power| 9 0 1 1 1 0 0 0 0 0 1 1|uart| 1016 4
+--- a bridge, and no serial port
 bridge = {}
 uart = []
 => top 64|||||||acpi|BOCHS|BXPC|power| 9 0 1 1 1 0 0 0 0 0 1 1|bridge| 0 255

@@ -37,6 +37,21 @@ system = {serial = "\u007F", uuid = '00000000-0000-0000-0000-000000000000'}
 => rule 3 index 0
 ---
 top_mib = 64
+system = {}
+generation = '00000000-0000-0000-0000-000000000000'
+=> rule 4 index 1
+---
+top_mib = 64
+system.uuid = '00112233-4455-6677-8899-aabbccddeeff'
+generation = 'ffffffff-ffff-ffff-ffff-ffffffffffff'
+=> rule 4 index 1
+---
+top_mib = 64
+generation = '00000000-0000-0000-0000-000000000000'
+system.uuid = 'ffffffff-ffff-ffff-ffff-ffffffffffff'
+=> rule 4 index 0
+---
+top_mib = 64
 system.uuid = 'ffffffff-ffff-ffff-ffff-ffffffffffff'
 hpet = {}
 => rule 4 index 0"#;
@@ -295,10 +310,22 @@ numa = {nodes = 0, distance = []}
 apic = {}
 numa = {nodes = 0, distance = []}
 => rule 13 index 2
---- a bridge and serial ports need the table `power`
+--- a bridge, serial ports and an id of the generation need the table `power`
 bridge = {}
 => rule 14 index 0
 ---
+uart = [{port = 0, irq = 0}]
+=> rule 14 index 1
+---
+generation = '00112233-4455-6677-8899-aabbccddeeff'
+=> rule 14 index 2
+---
+acpi = {}
+generation = '00112233-4455-6677-8899-aabbccddeeff'
+cpu = [{apic = 0}]
+=> rule 14 index 2
+---
+generation = '00112233-4455-6677-8899-aabbccddeeff'
 uart = [{port = 0, irq = 0}]
 => rule 14 index 1
 ---

@@ -18,6 +18,7 @@ pub(crate) fn told_machine(alloc: Global, machine: &Machine) -> Result<String, F
 fn push_machine(alloc: Global, told: &mut String, machine: &Machine) -> Result<(), Fail> {
     push_top(alloc, told, machine.top_mib)?;
     push_oem_strings(told, machine.oem_strings.as_slice())?;
+    push_uuid(alloc, told, "|generation ", machine.generation)?;
     push_system(alloc, told, &machine.system)?;
     push_parts(alloc, told, machine)?;
     push_acpi(told, &machine.acpi)?;
@@ -55,7 +56,7 @@ fn push_system(alloc: Global, told: &mut String, system: &System) -> Result<(), 
             &system.family,
         ],
     )?;
-    push_uuid(alloc, told, system.uuid)
+    push_uuid(alloc, told, "|uuid ", system.uuid)
 }
 
 // Each text behind a bar.
@@ -72,9 +73,9 @@ fn push_text(told: &mut String, text: &Text) -> Result<(), Fail> {
     Ok(())
 }
 
-fn push_uuid(alloc: Global, told: &mut String, uuid: Option<u128>) -> Result<(), Fail> {
+fn push_uuid(alloc: Global, told: &mut String, name: &str, uuid: Option<u128>) -> Result<(), Fail> {
     if let Some(uuid) = uuid {
-        let uuid = format!(in alloc; "|uuid {uuid:x}")?;
+        let uuid = format!(in alloc; "{name}{uuid:x}")?;
         told.push_str(uuid.as_str())?;
     }
     Ok(())

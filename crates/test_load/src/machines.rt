@@ -1,20 +1,23 @@
 //! Machines of which `build` makes a container: loaded, it leaves the memory that `boot` leaves, and it loads over events.
 
+use crate::endings::refused_at;
 use fixtures::{
     BOOTED, EMPTY, EMPTY_DUMP, Ending, LONG_TEXTS_DUMP, MINIMAL, MINIMAL_DUMP, ON_THE_BORDER,
     ON_THE_BORDER_DUMP, QUOTES, QUOTES_DUMP, ROOM, Run, SEEDED_ROOM, WITH_ACPI, WITH_ACPI_AND_HPET,
     WITH_ACPI_AND_HPET_DUMP, WITH_ACPI_DUMP, WITH_ALL_OF_POWER, WITH_ALL_OF_POWER_DUMP, WITH_APIC,
-    WITH_APIC_DUMP, WITH_DEVICES, WITH_DEVICES_DUMP, WITH_INTERRUPTS, WITH_INTERRUPTS_DUMP,
-    WITH_NODES, WITH_NODES_DUMP, WITH_POWER, WITH_POWER_AND_HPET, WITH_POWER_AND_HPET_DUMP,
-    WITH_POWER_DUMP, booted, ends, is_same, load, long_texts_description, sink, source, status_of,
+    WITH_APIC_DUMP, WITH_DEVICES, WITH_DEVICES_DUMP, WITH_GENERATION, WITH_GENERATION_DUMP,
+    WITH_INTERRUPTS, WITH_INTERRUPTS_DUMP, WITH_NODES, WITH_NODES_DUMP, WITH_POWER,
+    WITH_POWER_AND_HPET, WITH_POWER_AND_HPET_DUMP, WITH_POWER_DUMP, booted, copy_of, ends, is_same,
+    load, long_texts_description, sink, source, status_of,
 };
+use loader_script::Cause;
 use std::alloc::Global;
 use std::test::Fail;
 use vmtables::{Status, World};
-use vt_outside::{ListSink, ListSource, OutOfMemory, SureSink};
+use vt_outside::{Bytes, ListSink, ListSource, OutOfMemory, SureSink};
 
 // A description, its top, and the dump of the memory that the guest finds.
-static MACHINES: [(&str, &str, &str); 13] = [
+static MACHINES: [(&str, &str, &str); 14] = [
     (MINIMAL, "64", MINIMAL_DUMP),
     (EMPTY, "64", EMPTY_DUMP),
     (QUOTES, "65", QUOTES_DUMP),
@@ -28,6 +31,7 @@ static MACHINES: [(&str, &str, &str); 13] = [
     (WITH_INTERRUPTS, "2048", WITH_INTERRUPTS_DUMP),
     (WITH_NODES, "64", WITH_NODES_DUMP),
     (WITH_DEVICES, "2048", WITH_DEVICES_DUMP),
+    (WITH_GENERATION, "64", WITH_GENERATION_DUMP),
 ];
 
 #[test]
@@ -65,6 +69,48 @@ fn loaded_over_the_events_of_a_seed(rt: HostRuntime) -> Result<(), Fail> {
     )
 }
 
+// How many bytes from the container's end the file name of its last command stands: behind it come the rest of that command, 8 bytes of
+// the file of the address, and the page of the id.
+const LAST_NAME: usize = 124 + 8 + 4096;
+
+#[test]
+fn an_address_told_in_the_file_of_the_id(rt: HostRuntime) -> Result<(), Fail> {
+    let mut container = sink(rt.alloc(), SEEDED_ROOM, &[])?;
+    let done = told_in_the_page(rt.alloc(), &mut container);
+    drop(container);
+    done
+}
+
+// The guest may not write that file. The command is the one behind five that place files and fifteen that link them.
+fn told_in_the_page(alloc: Global, container: &mut ListSink) -> Result<(), Fail> {
+    build(alloc, WITH_GENERATION.as_bytes(), container)?;
+    let container = renamed(alloc, container.taken())?;
+    let ending = refused_at(20, Cause::ReadOnly, b"command 20: cause 9\n");
+    loaded_ends(
+        alloc,
+        "the file of the id",
+        &["load"],
+        container.as_slice(),
+        &ending,
+    )
+}
+
+// The container with the name of the file of the id in that place.
+fn renamed(alloc: Global, container: &[u8]) -> Result<Bytes, Fail> {
+    let Some(place) = container.len().checked_sub(LAST_NAME) else {
+        return Err(Fail::new("the container is too short"));
+    };
+    is_same(
+        "the last command",
+        "file",
+        &&container[place..place + 16],
+        &b"etc/vmgenid_addr".as_slice(),
+    )?;
+    let mut renamed = copy_of(alloc, container)?;
+    renamed.put(place, b"etc/vmgenid_guid");
+    Ok(renamed)
+}
+
 // The container of the described machine, loaded by these words, ends so.
 fn ends_built<'a>(
     alloc: Global,
@@ -73,7 +119,7 @@ fn ends_built<'a>(
     words: &'a [&'a str],
     ending: &Ending,
 ) -> Result<(), Fail> {
-    let mut container = sink(alloc, ROOM, &[])?;
+    let mut container = sink(alloc, SEEDED_ROOM, &[])?;
     let done = ends_built_in(alloc, case, description, words, ending, &mut container);
     drop(container);
     done

@@ -22,6 +22,8 @@ mod every;
 #[cfg(test)]
 mod foreign;
 #[cfg(test)]
+mod generations;
+#[cfg(test)]
 mod iasl;
 #[cfg(test)]
 mod inputs;

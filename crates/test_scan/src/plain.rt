@@ -1,8 +1,9 @@
 //! A second reader, plain and slow, which goes through the tests of tables in their order, byte by byte, and knows a table's numbers by
 //! their offsets in the standard (ACPI 6.5, 5.2; PCI Firmware Specification 3.3, 4.1.2; IA-PC HPET 1.0a, 3.2.4). Of the first reader it has
-//! the view and the type of the faults, and what a definition block spells, and it tells what it reads in the same words.
+//! the view and the type of the faults, what a definition block spells, and the address of a generation's id to which that leads, and it
+//! tells what it reads in the same words.
 
-use crate::terms::push_block;
+use crate::terms::{id_address, push_block};
 use crate::words::{
     push_digits, push_entry, push_name, push_number, push_other_entry, push_text, told_fault,
 };
@@ -57,6 +58,9 @@ static HPET: Numbers = &[
     (52, 1),
     (53, 2),
 ];
+
+// How many bytes the id of a machine's generation has.
+const ID_SIZE: u64 = 16;
 
 // Those of an allocation of an MCFG.
 static ALLOCATION: Numbers = &[(0, 8), (8, 2), (11, 1)];
@@ -116,7 +120,7 @@ fn find<V: MemView>(view: &V, table: u64, found: &mut List<u64>) -> Result<(), A
     test_entries(view, table)?;
     if is_signed(view, table, b"FACP") {
         test_facs(view, facs_of(view, table))?;
-        test_dsdt(view, dsdt_of(view, table))?;
+        test_dsdt(found.allocator(), view, dsdt_of(view, table))?;
     }
     found.push(table)?;
     Ok(())
@@ -277,11 +281,23 @@ fn test_facs<V: MemView>(view: &V, facs: u64) -> Result<(), AcpiFault> {
     Ok(())
 }
 
-fn test_dsdt<V: MemView>(view: &V, dsdt: u64) -> Result<(), AcpiFault> {
+fn test_dsdt<V: MemView>(alloc: Global, view: &V, dsdt: u64) -> Result<(), AcpiFault> {
     if dsdt == 0 {
         return Ok(());
     }
-    test_headed(view, dsdt, Due::Dsdt)
+    test_headed(view, dsdt, Due::Dsdt)?;
+    match id_of(alloc, view, dsdt)? {
+        Some(id) if !is_ram(view, id, ID_SIZE) => Err(AcpiFault::OutsideRam(id)),
+        _ => Ok(()),
+    }
+}
+
+// The address of the id of a generation to which a DSDT leads.
+fn id_of<V: MemView>(alloc: Global, view: &V, dsdt: u64) -> Result<Option<u64>, OutOfMemory> {
+    let block = block_of(alloc, view, dsdt)?;
+    let address = id_address(alloc, block.as_slice());
+    drop(block);
+    address
 }
 
 fn facs_of<V: MemView>(view: &V, fadt: u64) -> u64 {
@@ -325,6 +341,21 @@ fn push_found<V: MemView>(
     for table in found {
         push_if_other(told, view, *table)?;
     }
+    if let Some(fadt) = first_with(view, found, b"FACP") {
+        push_generation(told, view, dsdt_of(view, fadt))?;
+    }
+    Ok(())
+}
+
+// Appends the id of a generation to which a DSDT leads.
+fn push_generation<V: MemView>(told: &mut Bytes, view: &V, dsdt: u64) -> Result<(), OutOfMemory> {
+    if dsdt == 0 {
+        return Ok(());
+    }
+    if let Some(id) = id_of(told.allocator(), view, dsdt)? {
+        push_name(told, b"generation")?;
+        push_bytes(told, view, id, 0, ID_SIZE)?;
+    }
     Ok(())
 }
 
@@ -367,26 +398,19 @@ fn push_fadt<V: MemView>(told: &mut Bytes, view: &V, fadt: u64) -> Result<(), Ou
 
 // Appends what the bytes behind the header of a DSDT spell.
 fn push_definitions<V: MemView>(told: &mut Bytes, view: &V, dsdt: u64) -> Result<(), OutOfMemory> {
-    let length = length_of(view, dsdt);
-    let block = bytes_of(told.allocator(), view, dsdt, 36, length)?;
-    let pushed = push_block(told, block.as_slice(), length);
+    let block = block_of(told.allocator(), view, dsdt)?;
+    let pushed = push_block(told, block.as_slice(), length_of(view, dsdt));
     drop(block);
     pushed
 }
 
-// The bytes of a table from one offset up to another.
-fn bytes_of<V: MemView>(
-    alloc: Global,
-    view: &V,
-    table: u64,
-    from: u64,
-    to: u64,
-) -> Result<Bytes, OutOfMemory> {
-    let mut bytes = Bytes::new(alloc);
-    for offset in from..to {
-        bytes.push(byte(view, table, offset).unwrap_or(0))?;
+// The bytes behind the header of a DSDT.
+fn block_of<V: MemView>(alloc: Global, view: &V, dsdt: u64) -> Result<Bytes, OutOfMemory> {
+    let mut block = Bytes::new(alloc);
+    for offset in 36..length_of(view, dsdt) {
+        block.push(byte(view, dsdt, offset).unwrap_or(0))?;
     }
-    Ok(bytes)
+    Ok(block)
 }
 
 fn push_slit<V: MemView>(told: &mut Bytes, view: &V, slit: u64) -> Result<(), OutOfMemory> {

@@ -1,25 +1,34 @@
 //! Tables of a machine of QEMU 7.2.22, as its firmware, SeaBIOS 1.16.2, left them in the guest's memory, in hexadecimal digits. The machine
 //! is a q35 of 6 GiB, with four processors and two nodes (`-smp 4 -m 6144`, `-numa dist,src=0,dst=1,val=21`) and the device `vmgenid`.
 
-/// Where each table stands.
+/// Where the FACS stands.
 pub const FACS_AT: u64 = 0x7ffdf000;
 
+/// Where the DSDT stands.
 pub const DSDT_AT: u64 = 0x7ffdf040;
 
+/// Where the FADT stands.
 pub const FADT_AT: u64 = 0x7ffe114b;
 
+/// Where the MADT stands.
 pub const MADT_AT: u64 = 0x7ffe123f;
 
+/// Where the SSDT stands.
 pub const SSDT_AT: u64 = 0x7ffe12cf;
 
+/// Where the HPET table stands.
 pub const HPET_AT: u64 = 0x7ffe1399;
 
+/// Where the SRAT stands.
 pub const SRAT_AT: u64 = 0x7ffe13d1;
 
+/// Where the SLIT stands.
 pub const SLIT_AT: u64 = 0x7ffe14e1;
 
+/// Where the MCFG stands.
 pub const MCFG_AT: u64 = 0x7ffe1511;
 
+/// Where the WAET stands.
 pub const WAET_AT: u64 = 0x7ffe154d;
 
 /// The FACS, 64 bytes.

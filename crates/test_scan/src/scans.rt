@@ -1,7 +1,7 @@
 //! Memories of guests, each with a change, and what a scan from both anchors tells of it.
 
 use crate::memories::{Put, memory_of, mend_all, put_all};
-use crate::told::{are_words, push_tables};
+use crate::told::{are_words, push_generation, push_tables};
 use crate::words::{push_fault, push_name, push_number};
 use anchor_scan::{ScanFault, scan};
 use fixtures::{EMPTY_DUMP, WITH_POWER_DUMP};
@@ -183,9 +183,7 @@ fn push_inventory(told: &mut Bytes, inventory: &Inventory) -> Result<(), OutOfMe
         push_number(told, u64::from(table.docrev))?;
         push_number(told, table.structures.len() as u64)?;
     }
-    if inventory.generation.is_some() {
-        push_name(told, b"generation")?;
-    }
+    push_generation(told, inventory.generation)?;
     Ok(())
 }
 

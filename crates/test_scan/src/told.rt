@@ -46,10 +46,19 @@ fn told_walked(alloc: Global, walked: Walked) -> Result<Bytes, Fail> {
 fn told_tables(alloc: Global, walked: &Walked) -> Result<Bytes, Fail> {
     let mut told = Bytes::new(alloc);
     push_tables(&mut told, &walked.tables)?;
-    if walked.generation.is_some() {
-        push_name(&mut told, b"generation")?;
-    }
+    push_generation(&mut told, walked.generation)?;
     Ok(told)
+}
+
+/// Appends a line with the id of a generation, where there is one.
+pub fn push_generation(told: &mut Bytes, generation: Option<[u8; 16]>) -> Result<(), OutOfMemory> {
+    match generation {
+        Some(id) => {
+            push_name(told, b"generation")?;
+            push_text(told, &id)
+        }
+        None => Ok(()),
+    }
 }
 
 /// Appends the tables: those of which there is one, and then the others.

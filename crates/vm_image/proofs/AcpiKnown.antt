@@ -77,15 +77,15 @@ all_put begin tables (table ∷ more) places file put can few =
     (rest.0, rest.1, subst (λ those. ArePut begin those rest.0 rest.1) split rest.2)
 
 -- none was put there yet
-none_put : (begin : BlobState) → MayBegin begin → ArePut begin [] [] begin
-none_put begin may = record { appended = none_appended begin may.linkable; blob = may.blob; pointers = tt }
+none_put : (generation : Option ℕ) (begin : BlobState) → MayBegin generation begin → ArePut begin [] [] begin
+none_put generation begin may = record { appended = none_appended begin may.linkable; blob = may.blob; pointers = tt }
 
 -- all is known of the files of tables that can be put there
-known_image : (acpi : Acpi) (begin : BlobState) (tables : List Table) → FitsHead acpi → MayBegin begin → AllByRecursion CanBePut tables
+known_image : (generation : Option ℕ) (acpi : Acpi) (begin : BlobState) (tables : List Table) → FitsHead acpi → MayBegin generation begin → AllByRecursion CanBePut tables
     → AreFew begin tables → IsAcpiImage acpi begin tables (acpi_files acpi begin tables)
-known_image acpi begin tables fits may can are_few =
+known_image generation acpi begin tables fits may can are_few =
     let few = are_few.bytes in
-    let all = all_put begin [] tables [] begin (none_put begin may) can few in
+    let all = all_put begin [] tables [] begin (none_put generation begin may) can few in
     let places : List ℕ = all.0 in
     let file : BlobState = all.1 in
     let put : ArePut begin tables places file = all.2 in
@@ -125,5 +125,5 @@ pub acpi_known : (m : Machine) (maker : Option Acpi) → IsAccepted m → HasFit
 acpi_known m None accepted fit is = tt
 acpi_known m (Some acpi) accepted fit is =
     let fits : FitsHead acpi = accepted_fits m acpi accepted is in
-    known_image acpi (tables_begin m acpi) (tables_of m acpi) fits (may_begin m acpi accepted fits) (machine_can m acpi fits fit accepted)
+    known_image m.generation acpi (tables_begin m acpi) (tables_of m acpi) fits (may_begin m acpi accepted fits) (machine_can m acpi fits fit accepted)
     (tables_few m acpi accepted fits)

@@ -1,6 +1,5 @@
 -- The files of ACPI tables, where there are some, wherever they stand in memory.
 use Rattle.std.proofs.Common.{◌≡◌, ℕ, ◌+◌, ◌<◌, ◌≤◌, List, [], length, map, Option, Some, None, option_map, refl, sym, arith}
-use Rattle.std.specs.Prelude.{MatchOption}
 use Rattle.std.specs.List.{AllByRecursion}
 use Rattle.vt_bytes.specs.Memory.{Memory, seen}
 use Rattle.vt_layout.specs.Shown.{LayoutHeld}
@@ -8,9 +7,10 @@ use Rattle.machine_desc.specs.declared.machine.Machine.{Machine}
 use Rattle.machine_desc.specs.declared.machine.Acpi.{Acpi}
 use Rattle.machine_desc.specs.Rules.{IsAccepted}
 use Rattle.machine_desc.specs.Fields.{HasFittingFields}
+use Rattle.machine_desc.proofs.Accepted.{generation_needs_power}
 use Rattle.acpi_model.specs.Header.{head_of, padded}
 use Rattle.acpi_model.specs.Rsdp.{rsdp_rows, HasRsdp}
-use Rattle.acpi_model.specs.Acpi.{ShowsAcpi, linked_table, tables_of, targets_of, acpi_of}
+use Rattle.acpi_model.specs.Acpi.{linked_table, tables_of, targets_of, acpi_of, id_of}
 use Rattle.acpi_model.proofs.AcceptedAcpi.{accepted_fits}
 use Rattle.acpi_model.proofs.Headers.{length-padded}
 use Rattle.acpi_model.proofs.OneAcpi.{walked}
@@ -18,16 +18,19 @@ use Rattle.acpi_model.proofs.SameTold.{gathered-linked}
 use Rattle.acpi_model.proofs.MachineTables.{machine_distinct}
 use Rattle.acpi_model.proofs.MachineTargets.{machine_leads}
 use Rattle.acpi_model.specs.Kinds.{tables_name}
+use Rattle.acpi_model.specs.Found.{ShowsBytes}
+use Rattle.table_model.specs.Inventory.{ShowsTables}
 use Rattle.acpi_append.specs.Tables.{table_pointer}
-use Rattle.vm_image.specs.Image.{acpi_files, acpi_part, tables_begin, rsdp_name, xsdt_place}
+use Rattle.vm_image.specs.Image.{acpi_files, acpi_part, generation_part, tables_begin, rsdp_name, xsdt_place}
 use Rattle.vm_image.specs.AcpiHeld.{HoldsTables, AreAcpiKnown}
 use Rattle.vm_image.proofs.Begin.{facs_stands, dsdt_stands}
+use Rattle.vm_image.proofs.IdStands.{no_id, id_below, id_held}
 use Rattle.vm_image.proofs.RsdpShown.{rsdp_shown}
 use Rattle.vm_image.proofs.Standing.{Stands}
 use Rattle.vm_image.proofs.Marks.{IsClearFile}
 use Rattle.vm_image.proofs.Clear.{rsdp_mark, anchor_mark, clear_behind, rsdp_clear}
 
-module _ (m : Memory) (place_of : List ℕ → ℕ) (high : 0x4000000 ≤ m.top) where
+module _ (m : Memory) (place_of : List ℕ → ℕ) (high : 0x4000000 ≤ m.top) (low : m.top ≤ 0xC0000000) where
   -- the files of ACPI tables, where there are some, have no mark of an anchor
   pub acpi_clear_of_anchors : (machine : Machine) (maker : Option Acpi) (limit : ℕ) → limit ≤ 0x100000 → AreAcpiKnown machine maker
       → AllByRecursion (Stands m place_of) (acpi_part machine maker)
@@ -50,10 +53,13 @@ module _ (m : Memory) (place_of : List ℕ → ℕ) (high : 0x4000000 ≤ m.top)
       → AllByRecursion (Stands m place_of) (acpi_part machine maker)
       → ((limit : ℕ) → limit ≤ 0x100000 → AllByRecursion (IsClearFile m (rsdp_mark limit) place_of) (acpi_part machine maker)
       → (other : ℕ) → other < limit → HasRsdp (seen m) other → ⊥)
-      → MatchOption (option_map (acpi_of machine) maker) ((address : ℕ) → HasRsdp (seen m) address → ⊥) (ShowsAcpi (seen m))
-  acpi_shown machine None is accepted fit known stand no_rsdp =
-      λ address has. let within = has.2.within in no_rsdp 0x100000 (omega arith) tt address (omega arith) has
-  acpi_shown machine (Some acpi) is accepted fit known stand no_rsdp =
+      → ShowsBytes (seen m) → AllByRecursion (Stands m place_of) (generation_part machine.generation)
+      → ShowsTables (seen m) (option_map (acpi_of machine) maker) (id_of machine)
+  acpi_shown machine None is accepted fit known stand no_rsdp bytes ids = (
+    λ address has. let within = has.2.within in no_rsdp 0x100000 (omega arith) tt address (omega arith) has,
+    no_id machine is accepted,
+  )
+  acpi_shown machine (Some acpi) is accepted fit known stand no_rsdp bytes ids =
       let fits = accepted_fits machine acpi accepted is in
       let tables = stand.0 in
       let rsdp = stand.1.0 in
@@ -89,9 +95,12 @@ module _ (m : Memory) (place_of : List ℕ → ℕ) (high : 0x4000000 ≤ m.top)
               distinct = machine_distinct place_of machine acpi;
               lead = machine_leads (seen m) place_of machine acpi (omega arith)
                   (facs_stands machine acpi accepted fits (seen m) place_of file tables.held known.tables_file.grown)
-                  (dsdt_stands machine acpi accepted fits (seen m) place_of file tables.held fit known.tables_file.grown);
+                  (dsdt_stands machine acpi accepted fits (seen m) place_of file tables.held fit bytes (id_below m place_of low machine.generation ids)
+                  known.tables_file.grown)
+                  (generation_needs_power machine accepted) (id_held m place_of low machine.generation ids);
             };
             told = sym (gathered-linked place_of (padded 6 acpi.oem_id) (head_of acpi 1) (tables_of machine acpi) (targets_of machine acpi) []);
+            its_id = refl;
           };
         };
       }

@@ -8,7 +8,8 @@ use Rattle.acpi_model.specs.Kinds.{tables_name}
 use Rattle.image_files.specs.Files.{ImageFile}
 use Rattle.loader_script.specs.LoaderName.{loader_name}
 use Rattle.image_files.specs.Linkable.{HasNoName, AreDistinct}
-use Rattle.vm_image.specs.Image.{anchor_name, structures_name, rsdp_name, acpi_part, smbios_placed, structures_file, image_files}
+use Rattle.dsdt_terms.specs.Dsdt.{generation_file}
+use Rattle.vm_image.specs.Image.{anchor_name, structures_name, rsdp_name, address_name, acpi_part, smbios_placed, structures_file, generation_part, image_files}
 
 -- the names of files are, in order, some of these names
 abbrev AreSome : List (List ℕ) → List ImageFile → Type 0
@@ -78,9 +79,22 @@ acpi_names = tables_name ∷ rsdp_name ∷ []
 abbrev smbios_names : List (List ℕ)
 smbios_names = structures_name ∷ anchor_name ∷ []
 
+-- and those of the files of the id of a generation
+abbrev generation_names : List (List ℕ)
+generation_names = generation_file ∷ address_name ∷ []
+
+abbrev all_names : List (List ℕ)
+all_names = acpi_names ++ smbios_names ++ generation_names
+
 -- they differ, and from that of the script's file
-names_differ : Differ (loader_name ∷ acpi_names ++ smbios_names)
-names_differ = ((refl, (refl, (refl, (refl, tt)))), ((refl, (refl, (refl, tt))), ((refl, (refl, tt)), ((refl, tt), (tt, tt)))))
+names_differ : Differ (loader_name ∷ all_names)
+names_differ = (
+  (refl, (refl, (refl, (refl, (refl, (refl, tt)))))),
+  (
+    (refl, (refl, (refl, (refl, (refl, tt))))),
+    ((refl, (refl, (refl, (refl, tt)))), ((refl, (refl, (refl, tt))), ((refl, (refl, tt)), ((refl, tt), (tt, tt))))),
+  ),
+)
 
 -- the files of ACPI tables have their names, where there are some
 acpi_some : (m : Machine) (maker : Option Acpi) → AreSome acpi_names (acpi_part m maker)
@@ -91,21 +105,28 @@ acpi_some m (Some acpi) = with_name tables_name (rsdp_name ∷ []) _ _ refl (wit
 smbios_some : (structures : List ℕ) → AreSome smbios_names (smbios_placed structures)
 smbios_some structures = with_name structures_name (anchor_name ∷ []) _ _ refl (with_name anchor_name [] _ [] refl refl)
 
+-- and those of the id of a generation theirs, where there is one
+generation_some : (generation : Option ℕ) → AreSome generation_names (generation_part generation)
+generation_some None = inl (inl refl)
+generation_some (Some id) = with_name generation_file (address_name ∷ []) _ _ refl (with_name address_name [] _ [] refl refl)
+
 -- all files have these names
-image_some : (m : Machine) → AreSome (acpi_names ++ smbios_names) (image_files m)
+image_some : (m : Machine) → AreSome all_names (image_files m)
 image_some m =
-    some_append acpi_names smbios_names (acpi_part m m.acpi) (smbios_placed (structures_file m)) (acpi_some m m.acpi)
-    (smbios_some (structures_file m))
+    some_append acpi_names (smbios_names ++ generation_names) (acpi_part m m.acpi) (smbios_placed (structures_file m) ++ generation_part m.generation)
+    (acpi_some m m.acpi)
+    (some_append smbios_names generation_names (smbios_placed (structures_file m)) (generation_part m.generation) (smbios_some (structures_file m))
+    (generation_some m.generation))
 
 -- the names of a machine's files differ
 pub image_distinct : (m : Machine) → AreDistinct (image_files m)
-image_distinct m = distinct_some (acpi_names ++ smbios_names) (image_files m) names_differ.1 (image_some m)
+image_distinct m = distinct_some all_names (image_files m) names_differ.1 (image_some m)
 
 -- none of them is that of the script's file
 pub image_has_no_loader : (m : Machine) → HasNoName (image_files m) loader_name
 image_has_no_loader m =
-    each_some (λ other. bytes_eq other loader_name ≡ false) (acpi_names ++ smbios_names) (image_files m) names_differ.0 (image_some m)
+    each_some (λ other. bytes_eq other loader_name ≡ false) all_names (image_files m) names_differ.0 (image_some m)
 
 -- a machine has few files
 pub image_few : (m : Machine) → length (image_files m) ≤ 16
-image_few m = omega (arith, no_more (acpi_names ++ smbios_names) (image_files m) (image_some m))
+image_few m = omega (arith, no_more all_names (image_files m) (image_some m))

@@ -10,7 +10,7 @@ use Rattle.loader_script.specs.Run.{Placed, place_of as place_in}
 use Rattle.image_files.specs.Files.{ImageFile}
 use Rattle.image_files.specs.Places.{ArePlaces}
 use Rattle.image_files.specs.Linked.{AreLinked}
-use Rattle.vm_image.specs.Image.{acpi_part, image_files, smbios_placed, structures_file}
+use Rattle.vm_image.specs.Image.{acpi_part, image_files, smbios_placed, structures_file, generation_part}
 use Rattle.vm_image.specs.Promised.{top_of}
 use Rattle.vm_image.proofs.DistinctNames.{image_distinct}
 use Rattle.vm_image.proofs.Named.{places_by, named}
@@ -28,5 +28,6 @@ pub facs_is_aligned : (m : Machine) → IsAccepted m → IsSome m.power → (pla
     → ArePlaces (top_of m) [] (image_files m) places → AreLinked (place_in placed) (image_files m) places placed
     → (place_in placed tables_name + facs_place) % 64 ≡ 0
 facs_is_aligned m accepted some places placed lawful linked =
-    tables_aligned m m.acpi (power_needs_acpi m accepted some) (top_of m) (place_in placed) (smbios_placed (structures_file m)) places lawful
+    tables_aligned m m.acpi (power_needs_acpi m accepted some) (top_of m) (place_in placed) (smbios_placed (structures_file m) ++ generation_part m.generation) places
+    lawful
     (named (place_in placed) (image_files m) places placed (image_distinct m) linked)

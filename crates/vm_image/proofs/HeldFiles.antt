@@ -2,7 +2,7 @@
 use Rattle.std.proofs.Common.{◌≡◌, ℕ, ◌+◌, ◌<◌, ◌≤◌, ◌⊎◌, inl, inr, List, [], ◌∷◌, length, arith, refl, ap, sym, ◌∙◌}
 use Rattle.std.proofs.lemmas.Bool.{cases_lt}
 use Rattle.vt_bytes.specs.declared.memory.AddressRange.{AddressRange}
-use Rattle.vt_bytes.specs.Memory.{Memory, IsInOne, IsRam, ram_ranges, byte_in, at}
+use Rattle.vt_bytes.specs.Memory.{Memory, IsInOne, IsRam, ram_ranges, byte_in, at, seen}
 use Rattle.vt_bytes.proofs.Bytes.{bytes_at-same}
 use Rattle.vt_bytes.proofs.Ranges.{IsBeside, byte_later}
 use Rattle.loader_script.specs.Run.{Placed}
@@ -61,9 +61,11 @@ files_alike memory other (p ∷ placed) same held = (
 -- so a memory that agrees on the files with one that holds them holds them too, as one of the same fill byte
 pub held_alike : (memory other : Memory) (placed : List Placed) → HoldsFiles memory placed → AgreeOnFiles memory other placed
     → HoldsFiles (record other { fill = memory.fill }) placed
+unfolding seen
 held_alike memory other placed held agree = record {
   files = files_alike memory (record other { fill = memory.fill }) placed
       (λ address inside. agree_anyhow memory other address agree.top (λ ram. agree.bytes address ram (inr inside))) held.files;
   bios = λ address from below outside.
       agree.bytes address (bios_ram memory.top address from below) (inl (from, below)) ∙ held.bios address from below outside;
+  alone = agree.alone;
 }

@@ -17,12 +17,14 @@ pub mod HeldFiles
 pub mod Marks
 pub mod Clear
 pub mod DistinctNames
+pub mod Small
+pub mod IdStands
 pub mod SmbiosStands
 pub mod AcpiStands
 pub mod ImageShows
 pub mod Linkable
-pub mod Small
 pub mod FilesFit
+pub mod Told
 pub mod Pushed
 pub mod Built
 pub mod OneImage

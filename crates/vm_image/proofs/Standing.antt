@@ -60,6 +60,28 @@ IsPlacedFirst top handed file files places placing =
     (place : ℕ) × (others : List ℕ) × (places ≡ place ∷ others) × MayStand top handed file placing place
     × ArePlaces top (handed ++ range_at file place ∷ []) files others
 
+-- a file that is placed may stand at the place of its name, where some ranges are handed out
+abbrev pub MayStandSomewhere : ℕ → (List ℕ → ℕ) → ImageFile → Type 0
+MayStandSomewhere top place_of file = IfSome file.placing (λ placing. (handed : List Range) × MayStand top handed file placing (place_of file.name))
+
+-- so may all files at lawful places
+pub all_may_stand : (top : ℕ) (place_of : List ℕ → ℕ) (handed : List Range) (files : List ImageFile) (places : List ℕ) → ArePlaces top handed files places
+    → places ≡ places_by place_of files → AllByRecursion (MayStandSomewhere top place_of) files
+all_may_stand top place_of handed [] places lawful named = tt
+all_may_stand top place_of handed (file ∷ files) places lawful named =
+    elim file.placing as (λ placing. MatchOption placing (ArePlaces top handed files places) (IsPlacedFirst top handed file files places)
+    → places ≡ option_map_or (λ (p : Placing). place_of file.name ∷ places_by place_of files) placing (places_by place_of files)
+    → IfSome placing (λ placing. (handed : List Range) × MayStand top handed file placing (place_of file.name))
+    × AllByRecursion (MayStandSomewhere top place_of) files) [
+      | None ↦ λ lawful named. (tt, all_may_stand top place_of handed files places lawful named)
+      | Some q ↦ λ lawful named.
+          let here : lawful.0 ≡ place_of file.name = cc (lawful.2, named) in
+          let others : lawful.1 ≡ places_by place_of files = cc (lawful.2, named) in (
+            (handed, subst (MayStand top handed file q) here lawful.3),
+            all_may_stand top place_of (handed ++ range_at file lawful.0 ∷ []) files lawful.1 lawful.4 others,
+          )
+    ] lawful named
+
 -- so do all files that are linked at lawful places and left in memory
 pub all_stand : (m : Memory) (place_of : List ℕ → ℕ) (handed : List Range) (files : List ImageFile) (places : List ℕ) (placed : List Placed)
     → ArePlaces m.top handed files places → AreLinked place_of files places placed → Holds m placed → places ≡ places_by place_of files

@@ -1,9 +1,11 @@
 -- The image of a machine: its files with their holes, in the order in which they are placed.
-use Rattle.std.specs.Prelude.{ℕ, false, List, [], ◌∷◌, ◌++◌, length, codes, Option, Some, None}
+use Rattle.std.specs.Prelude.{ℕ, true, false, List, [], ◌∷◌, ◌++◌, length, replicate, codes, Option, Some, None}
 use Rattle.loader_script.specs.declared.entry.Entry.{Entry}
+use Rattle.loader_script.specs.declared.entry.Entry.TheVariants.{WritePointer}
 use Rattle.cfg_directory.specs.declared.item.Item.{Item}
 use Rattle.machine_desc.specs.declared.machine.Machine.{Machine}
 use Rattle.machine_desc.specs.declared.machine.Acpi.{Acpi}
+use Rattle.machine_desc.specs.Uuids.{uuid_bytes}
 use Rattle.machine_desc.specs.declared.acpi_parts.Power.{Power}
 use Rattle.blob_holes.specs.Blob.{BlobState, next_place}
 use Rattle.blob_holes.specs.Rows.{with_rows}
@@ -11,7 +13,7 @@ use Rattle.acpi_model.specs.Kinds.{tables_name as acpi_tables_name}
 use Rattle.acpi_records.specs.Facs.{initial_facs}
 use Rattle.acpi_append.specs.FacsPut.{with_facs}
 use Rattle.acpi_append.specs.DsdtPut.{with_dsdt}
-use Rattle.dsdt_terms.specs.Dsdt.{dsdt_body}
+use Rattle.dsdt_terms.specs.Dsdt.{dsdt_body, generation_file, id_offset}
 use Rattle.acpi_append.specs.Tables.{with_table, with_xsdt, with_rsdp}
 use Rattle.smbios_build.specs.Spelling.{structures_bytes}
 use Rattle.acpi_model.specs.declared.acpi.Table.{Table}
@@ -97,13 +99,37 @@ abbrev pub smbios_placed : List ℕ → List ImageFile
 smbios_placed structures =
     placed_file structures_name (whole structures) High 16 ∷ placed_file anchor_name (anchor_blob (length structures)) Fseg 16 ∷ []
 
+-- The file of the id of a generation (QEMU, docs/specs/vmgenid.rst): a page that holds the id, and else zeros.
+abbrev pub id_bytes : ℕ → List ℕ
+id_bytes id = replicate id_offset 0 ++ uuid_bytes id ++ replicate 4040 0
+
+-- The file that the firmware writes, so that the host learns where the id is: 8 zeros until then. It has no place in memory.
+abbrev pub address_name : List ℕ
+address_name = codes "etc/vmgenid_addr"
+
+abbrev pub address_file : ImageFile
+address_file = record { name = address_name; blob = whole (replicate 8 0); placing = None; writable = true }
+
+-- the files of the id of a generation, where there is one
+abbrev pub generation_part : Option ℕ → List ImageFile
+generation_part None = []
+generation_part (Some id) = placed_file generation_file (whole (id_bytes id)) High 4096 ∷ address_file ∷ []
+
+-- and the command, behind all that link, that tells the host where the id is
+abbrev pub write_address : Entry
+write_address = WritePointer address_name generation_file 0 id_offset 8
+
+abbrev pub telling : Option ℕ → List Entry
+telling None = []
+telling (Some id) = write_address ∷ []
+
 -- the files of a machine: those of each part that it has
 abbrev pub image_files : Machine → List ImageFile
-image_files m = acpi_part m m.acpi ++ smbios_placed (structures_file m)
+image_files m = acpi_part m m.acpi ++ (smbios_placed (structures_file m) ++ generation_part m.generation)
 
 -- their script, and what fw_cfg holds
 abbrev pub image_script : Machine → List Entry
-image_script m = script_of (image_files m) []
+image_script m = script_of (image_files m) (telling m.generation)
 
 abbrev pub image_items : Machine → List Item
-image_items m = items_of (image_files m) []
+image_items m = items_of (image_files m) (telling m.generation)

@@ -7,8 +7,9 @@ ghost use Rattle.vm_image.specs.Image.{image_items};
 ghost use Rattle.vm_image.specs.Built.{IsBuilt};
 
 use crate::acpi::push_acpi;
+use crate::generation::{link_telling, push_generation};
 use crate::smbios::push_smbios;
-use image_files::{Image, ImageBuildFault, link};
+use image_files::{Image, ImageBuildFault};
 use machine_desc::Machine;
 use machine_desc::laws::numbers_of_a_machine_fit;
 use std::alloc::Global;
@@ -32,5 +33,6 @@ pub fn image_of(alloc: Global, machine: &Machine, order: u64) -> Result<Image, I
     let mut files = Vec::new(alloc);
     push_acpi(alloc, &mut files, machine)?;
     push_smbios(alloc, &mut files, machine)?;
-    link(alloc, files, &[])
+    push_generation(alloc, &mut files, machine.generation)?;
+    link_telling(alloc, files, machine.generation)
 }

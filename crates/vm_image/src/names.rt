@@ -1,7 +1,7 @@
 //! The names of an image's files in the directory of fw_cfg.
 
 ghost use Rattle.std.specs.Prelude.{◌≡◌};
-ghost use Rattle.vm_image.specs.Image.{anchor_name, structures_name, rsdp_name};
+ghost use Rattle.vm_image.specs.Image.{anchor_name, structures_name, rsdp_name, address_name};
 ghost use Rattle.acpi_model.specs.Kinds.{tables_name as acpi_tables_name};
 
 use acpi_append::TABLES_FILE;
@@ -26,6 +26,13 @@ pub(crate) fn rsdp_name() -> Name
     ensures { result ≡ rsdp_name }
 {
     Name::of("etc/acpi/rsdp").unwrap()
+}
+
+/// Returns the name of the file into which the firmware writes where the id of the generation is.
+pub(crate) fn address_name() -> Name
+    ensures { result ≡ address_name }
+{
+    Name::of("etc/vmgenid_addr").unwrap()
 }
 
 /// Returns the name of the file of the XSDT and the tables that it names.

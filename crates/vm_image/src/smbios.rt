@@ -8,15 +8,15 @@ ghost use Rattle.image_files.specs.Files.{whole};
 ghost use Rattle.vm_image.specs.Image.{anchor_blob, anchor_name, smbios_placed, structures_file, structures_name, placed_file};
 
 use crate::names::{anchor_name, structures_name};
-use crate::placed::placed_file;
-use blob_holes::{Blob, Parts, append_rows};
+use crate::placed::{placed_file, without_holes};
+use blob_holes::{Blob, append_rows};
 use image_files::ImageFile;
 use machine_desc::Machine;
 use smbios_build::{SmbiosBuildFault, build_smbios};
 use smbios_model::{anchor_of, anchor_rows, structures_of};
 use std::alloc::Global;
 use vt_layout::Row;
-use vt_outside::{Bytes, List, OutOfMemory};
+use vt_outside::{Bytes, OutOfMemory};
 use zone_alloc::Zone;
 
 // Adds the files of the SMBIOS structures of `machine`, which is accepted, and of their anchor.
@@ -40,11 +40,7 @@ pub(crate) fn push_smbios(
 fn placed_structures(alloc: Global, bytes: Bytes) -> ImageFile
     ensures { result ≡ placed_file structures_name (whole bytes) Zone.High 16 }
 {
-    let parts = Parts {
-        bytes,
-        pointers: List::new(alloc),
-        sums: List::new(alloc),
-    };
+    let parts = without_holes(alloc, bytes);
     placed_file(structures_name(), parts, Zone::High, 16)
 }
 

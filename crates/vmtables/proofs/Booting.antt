@@ -1,9 +1,13 @@
 -- A machine's image that was loaded is a machine that is booted.
-use Rattle.std.proofs.Common.{◌≡◌, ℕ, ◌≤◌, ◌+◌, List, [], ◌++◌, map, Some, Result, Ok, Err, IfOk, IfErr, OnOk, inl, inr}
-use Rattle.std.proofs.Common.{refl, ap, sym, subst, ◌∙◌, append-nil, arith}
+use Rattle.std.proofs.Common.{◌≡◌, ℕ, ◌≤◌, ◌+◌, ◌<◌, List, [], ◌++◌, map, Option, Some, None, Result, Ok, Err, IfOk, IfErr, IsSomeAnd, inl, inr}
+use Rattle.std.proofs.Common.{refl, ap, sym, subst, ◌∙◌, append_assoc, append-nil, arith}
 use Rattle.std.specs.List.{flat_map}
+use Rattle.std.specs.Result.{IsErrAnd}
+use Rattle.std.proofs.lemmas.Option.{cond_some}
 use Rattle.vt_outside.specs.Placement.{Range, IsFree}
-use Rattle.vt_bytes.specs.Memory.{Memory}
+use Rattle.vt_bytes.proofs.Seen.{ram_from_test}
+use Rattle.vt_bytes.specs.Memory.{Memory, is_ram, at, seen}
+use Rattle.guest_memory.specs.Bytes.{HoldsBytes}
 use Rattle.machine_desc.specs.declared.machine.Machine.{Machine}
 use Rattle.desc_toml.specs.Reading.{Reads}
 use Rattle.loader_script.specs.declared.entry.Entry.{Entry}
@@ -12,12 +16,13 @@ use Rattle.loader_script.specs.Left.{range_of}
 use Rattle.loader_script.specs.Run.{Placed, Progress, End, Done, Command, NoRoom, opening, place_of, run}
 use Rattle.cfg_directory.specs.declared.item.Item.{Item}
 use Rattle.cfg_directory.specs.Files.{files_of}
-use Rattle.image_files.specs.Script.{allocation, linking}
 use Rattle.image_files.specs.Places.{ArePlaces}
 use Rattle.image_files.specs.Linked.{AreLinked}
-use Rattle.vm_image.specs.Image.{image_files, image_script, image_items}
-use Rattle.vm_image.specs.Promised.{top_of, HoldsFiles}
+use Rattle.image_files.specs.Script.{allocation, linking}
+use Rattle.vm_image.specs.Image.{telling, image_files, image_script, image_items}
+use Rattle.vm_image.specs.Promised.{top_of, told_files, HoldsFiles}
 use Rattle.vm_image.specs.Built.{IsBuilt}
+use Rattle.acpi_model.specs.Found.{ShowsBytes}
 use Rattle.zone_alloc.specs.declared.alloc.Request.{Request}
 use Rattle.zone_alloc.specs.Allocators.{Begun}
 use Rattle.vt_words.specs.declared.setting.Setting.{Setting}
@@ -40,7 +45,7 @@ use Rattle.vmtables.specs.Calls.{Answering, Seen}
 use Rattle.vmtables.specs.Loading.{IsImageLoaded, IsRefusedFree, FailsToLoad, ended_early, not_begun}
 use Rattle.vmtables.specs.declared.fault.Fault.{Fault}
 use Rattle.vmtables.specs.declared.fault.Fault.TheVariants as fault
-use Rattle.vmtables.proofs.ImageRuns.{Extends, GivesFree, IsStuck, all_link, extends}
+use Rattle.vmtables.proofs.ImageRuns.{Extends, GivesFree, IsStuck, later_commands, later_place_none, extends}
 use Rattle.vmtables.proofs.LeftByOthers.{guarded_stays, bios_guarded, bios_no_work, holds_now, beside_each}
 use Rattle.vmtables.proofs.PlacesMore.{room_from}
 use Rattle.vmtables.proofs.ScriptRead.{script_read}
@@ -52,41 +57,38 @@ ending end p = (end, p)
 its_progress : (a b : End) (p q : Progress) → ending a p ≡ ending b q → p ≡ q
 its_progress a b p q is = ap (λ (e : End × Progress). e.1) is
 
--- the commands that place the files of an image and link them, which are its script
-plain_script : Machine → List Entry
-plain_script m = flat_map allocation (image_files m) ++ linking (image_files m)
-
-script_split : (m : Machine) → image_script m ≡ plain_script m
-unfolding plain_script
-script_split m = append-nil (flat_map allocation (image_files m) ++ linking (image_files m))
-
--- a run that isn't without room isn't refused, writes to no file of fw_cfg, and its places are lawful
+-- A run that isn't without room isn't refused, and its places are lawful. Of the files of fw_cfg it writes the one that tells the host where
+-- the id of the generation is.
 pub record IsLawfulRun (m : Machine) (places : List ℕ) (end : End) (final : Progress) : Type 0 where
   pub done : end ≡ Done
-  pub files : final.files ≡ files_of (image_items m)
+  pub files : final.files ≡ told_files m final.placed
   pub lawful : ArePlaces (top_of m) [] (image_files m) places
   pub linked : AreLinked (place_of final.placed) (image_files m) places final.placed
 
+-- a machine's script: its Allocates, and what is behind them
+script_parts : (m : Machine) → image_script m ≡ flat_map allocation (image_files m) ++ later_commands m
+script_parts m = append_assoc (flat_map allocation (image_files m)) (linking (image_files m)) (telling m.generation)
+
 extended_of : (m : Machine) (items : List Item) (script : List Entry) (built : IsBuilt m items script) (May : Answers) (end : End) (final : Progress)
     → GivesFree May (top_of m) → EndsWith May 0 (image_script m) (opening (files_of (image_items m)) []) end final
-    → Extends May (top_of m) (files_of (image_items m)) (plain_script m) 0 [] (image_files m) [] final.placed end
-unfolding plain_script
+    → Extends May (top_of m) (files_of (image_items m)) (image_script m) 0 [] (image_files m) [] final.placed end
 extended_of m items script built May end final free ends =
-    extends May (top_of m) (files_of (image_items m)) (linking (image_files m)) (all_link (image_files m)) free (image_files m) [] 0 [] end final
+    subst (λ those. Extends May (top_of m) (files_of (image_items m)) those 0 [] (image_files m) [] final.placed end) (sym (script_parts m))
+    (extends May (top_of m) (files_of (image_items m)) (later_commands m) (later_place_none m) free (image_files m) [] 0 [] end final
     (rw built.items_are at built.there) refl (room_from (top_of m) (image_files m) built.room)
-    (subst (λ those. EndsWith May 0 those (opening (files_of (image_items m)) []) end final) (script_split m) ends)
+    (subst (λ those. EndsWith May 0 those (opening (files_of (image_items m)) []) end final) (script_parts m) ends))
 
 lawful_so : (m : Machine) (items : List Item) (script : List Entry) (built : IsBuilt m items script) (May : Answers) (handed : List Range) (end : End)
     (final : Progress) → GivesFree May (top_of m) → IsRun May (files_of (image_items m)) (image_script m) handed end final
     → ((at : ℕ) → end ≡ NoRoom at → ⊥) → IsLawfulRun m (map (λ (r : Range). r.start) handed) end final
 lawful_so m items script built May handed end final free ran room =
     let placed : List Placed = final.placed in
-    let extended : Extends May (top_of m) (files_of (image_items m)) (plain_script m) 0 [] (image_files m) [] placed end =
+    let extended : Extends May (top_of m) (files_of (image_items m)) (image_script m) 0 [] (image_files m) [] placed end =
     extended_of m items script built May end final free ran.answered in
     let same : map (λ (r : Range). r.start) handed ≡ extended.given =
     ap (map (λ (r : Range). r.start)) ran.handed_are ∙ starts placed ∙ extended.stand in
     let loaded = built.loaded (extended.given ++ extended.extra) extended.lawful in
-    let both : ending end (with_places final extended.extra) ≡ ending Done (at_files (files_of (image_items m)) loaded.0 []) =
+    let both : ending end (with_places final extended.extra) ≡ ending Done (at_files (told_files m loaded.0) loaded.0 []) =
     sym (ran.goes_on room extended.extra) ∙ ap (λ ps. run (files_of (image_items m)) (image_script m) (ps ++ extended.extra)) same ∙ loaded.2 in
     let left = its_progress end Done _ _ both in
     let none : extended.extra ≡ [] = ap (λ (p : Progress). p.places) left in
@@ -95,7 +97,7 @@ lawful_so m items script built May handed end final free ran room =
     ap (λ ps. extended.given ++ ps) none ∙ append-nil extended.given ∙ sym same in
     record {
       done = ap (λ (e : End × Progress). e.0) both;
-      files = ap (λ (p : Progress). p.files) left;
+      files = ap (λ (p : Progress). p.files) left ∙ ap (told_files m) (sym files);
       lawful = subst (ArePlaces (top_of m) [] (image_files m)) given extended.lawful;
       linked = subst (λ ps. AreLinked (place_of placed) (image_files m) ps placed) given
           (subst (λ fs. AreLinked (place_of fs) (image_files m) (extended.given ++ extended.extra) fs) (sym files) loaded.1);
@@ -131,14 +133,23 @@ run_of : (m : Machine) (May : Answers) (handed : List Range) (answer : Result (U
 run_of m May handed answer world script ran =
     subst (λ read. IfOk read (λ those. HasRun May (image_items m) those handed answer world)) script ran
 
+-- what is seen of a memory that holds bytes is bytes
+shows_bytes : (m : Memory) → HoldsBytes m → ShowsBytes (seen m)
+unfolding seen
+shows_bytes m holds place byte is =
+    let there = cond_some (is_ram m.top place) (at m place) byte is in
+    subst (λ b. b < 256) there.1 (holds.each place (ram_from_test m.top place there.0))
+
 -- memory holds the files that were placed, and nothing else was written in the BIOS area
 holds_files : (May : Answers) (items : List Item) (top fill : ℕ) (events : List Event) (handed : List Range) (answer : Result (Unit {0}) LoadFault)
-    (world : Loading) → IsLoadedOver May items top fill events handed answer world → HoldsFiles (memory_of world) (files_now world)
-holds_files May items top fill events handed answer world leaves = record {
+    (world : Loading) → IsLoadedOver May items top fill events handed answer world → HoldsBytes (memory_of world)
+    → HoldsFiles (memory_of world) (files_now world)
+holds_files May items top fill events handed answer world leaves bytes = record {
   files = holds_now (memory_of world) world.placed;
   bios = λ address from below outside.
       leaves.others address (inr (inl (from, below))) (bios_no_work address from) (beside_each (memory_of world) world.placed address outside)
       ∙ guarded_stays top fill events address (bios_guarded top address from below) ∙ sym leaves.fill;
+  alone = shows_bytes (memory_of world) bytes;
 }
 
 -- how a run ends whose load answered so
@@ -154,8 +165,9 @@ has_room end is at without = absurd (cc)
 pub booted : (Gives : Answering) (setting : Setting) (bytes : List ℕ) (m : Machine) (items : List Item) (script : List Entry)
     (before after : Seen) → AllFree Gives → Reads bytes m → IsBuilt m items script → total_size (image_items m) ≤ image_limit
     → script_in (image_items m) ≡ Ok (image_script m)
-    → IsImageLoaded Gives (image_items m) (top_of m) setting (Ok tt) before after → IsBooted Gives setting bytes before after
-booted Gives setting bytes m items script before after free read built small script_read loaded =
+    → (loaded : IsImageLoaded Gives (image_items m) (top_of m) setting (Ok tt) before after) → HoldsBytes (memory_of loaded.world)
+    → IsBooted Gives setting bytes before after
+booted Gives setting bytes m items script before after free read built small script_read loaded bytes_held =
     let May : Answers = Gives after.place.begun in
     let world : Loading = loaded.world in
     let leaves : IsLoadedOver May (image_items m) (top_of m) setting.fill loaded.load.taken after.place.handed (Ok tt) world =
@@ -167,7 +179,7 @@ booted Gives setting bytes m items script before after free read built small scr
     lawful_so m items script built May after.place.handed run.0 (progress_of world)
     (gives_free Gives after.place.begun (top_of m) free loaded.zones) run.1 (has_room run.0 done) in
     let holds : HoldsFiles (memory_of world) (files_now world) =
-    holds_files May (image_items m) (top_of m) setting.fill loaded.load.taken after.place.handed (Ok tt) world leaves in
+    holds_files May (image_items m) (top_of m) setting.fill loaded.load.taken after.place.handed (Ok tt) world leaves bytes_held in
     record {
       machine = m;
       read = read;
@@ -223,10 +235,9 @@ fails_for_room Gives setting m items script why before after free built script_r
     let run : HasRun May (image_items m) (image_script m) after.place.handed (Err why) world =
     run_of m May after.place.handed (Err why) world script_read leaves.ran in
     let frees : GivesFree May (top_of m) = gives_free Gives after.place.begun (top_of m) free loaded.zones in
-    subst (λ those. EndsSo May (top_of m) (files_of (image_items m)) those (files_now world) why) (sym (script_split m))
-    (room_of May (top_of m) (files_of (image_items m)) (plain_script m) (files_now world) run.0 why run.2
+    room_of May (top_of m) (files_of (image_items m)) (image_script m) (files_now world) run.0 why run.2
     (λ room. (lawful_so m items script built May after.place.handed run.0 (progress_of world) frees run.1 room).done)
-    (extended_of m items script built May run.0 (progress_of world) frees run.1.answered).no_room)
+    (extended_of m items script built May run.0 (progress_of world) frees run.1.answered).no_room
 
 -- the last request that an allocator refused is that of the command that found no room
 refused_last : (Gives : Answering) (setting : Setting) (m : Machine) (why : LoadFault) (index : ℕ) (before after : Seen)
@@ -261,21 +272,28 @@ boot_failed Gives setting bytes m items script f before after free read built de
     ]
 boot_failed Gives setting bytes m items script f before after free read built decoded (not_begun unloaded) = without_memory m read unloaded
 
--- both of the answer of a load
+-- a load that is done, after which memory holds bytes
 pub booted_so : (Gives : Answering) (setting : Setting) (m : Machine) (items : List Item) (script : List Entry) (before after : Seen)
-    (r : Result (Unit {0}) Fault) → AllFree Gives → IsBuilt m items script → total_size (image_items m) ≤ image_limit
-    → OnOk r (IsImageLoaded Gives items (top_of m) setting (Ok tt) before after)
-    → OnOk r ((bytes : List ℕ) → Reads bytes m → IsBooted Gives setting bytes before after)
-booted_so Gives setting m items script before after (Ok done) free built small loaded = λ bytes read.
-    booted Gives setting bytes m items script before after free read built small (script_read m items script built small)
-    (subst (λ those. IsImageLoaded Gives those (top_of m) setting (Ok tt) before after) built.items_are loaded)
-booted_so Gives setting m items script before after (Err f) free built small loaded = tt
+    → AllFree Gives → IsBuilt m items script → total_size (image_items m) ≤ image_limit
+    → IsImageLoaded Gives items (top_of m) setting (Ok tt) before after → IsSomeAnd after.world (λ w. HoldsBytes (memory_of w))
+    → (bytes : List ℕ) → Reads bytes m → IsBooted Gives setting bytes before after
+booted_so Gives setting m items script before after free built small loaded held bytes read =
+    let its = subst (λ those. IsImageLoaded Gives those (top_of m) setting (Ok tt) before after) built.items_are loaded in
+    booted Gives setting bytes m items script before after free read built small (script_read m items script built small) its
+    (subst (λ seen. IsSomeAnd seen (λ w. HoldsBytes (memory_of w))) its.world_is held)
 
+-- and a load that ended with a fault
 pub failed_to_boot : (Gives : Answering) (setting : Setting) (m : Machine) (items : List Item) (script : List Entry) (before after : Seen)
-    (r : Result (Unit {0}) Fault) → AllFree Gives → IsBuilt m items script → total_size (image_items m) ≤ image_limit
-    → IfErr r (FailsToLoad Gives items (top_of m) setting before after)
-    → IfErr r (λ f. (bytes : List ℕ) → Reads bytes m → BootMakes Gives setting bytes before after (Err f))
-failed_to_boot Gives setting m items script before after (Ok done) free built small failed = tt
-failed_to_boot Gives setting m items script before after (Err f) free built small failed = λ bytes read.
-    boot_failed Gives setting bytes m items script f before after free read built (script_read m items script built small)
-    (subst (λ those. FailsToLoad Gives those (top_of m) setting before after f) built.items_are failed)
+    (f : Fault) (r : Result (Unit {0}) Fault) → AllFree Gives → IsBuilt m items script → total_size (image_items m) ≤ image_limit
+    → FailsToLoad Gives items (top_of m) setting before after f → IsErrAnd r (λ ended. ended ≡ f)
+    → IfErr r (λ ended. (bytes : List ℕ) → Reads bytes m → BootMakes Gives setting bytes before after (Err ended))
+failed_to_boot Gives setting m items script before after f (Ok done) free built small failed is = absurd is
+failed_to_boot Gives setting m items script before after f (Err ended) free built small failed is = λ bytes read.
+    rw is (boot_failed Gives setting bytes m items script f before after free read built (script_read m items script built small)
+    (subst (λ those. FailsToLoad Gives those (top_of m) setting before after f) built.items_are failed))
+
+-- a world's memory holds bytes, as its own call says
+pub held_by : (seen : Option Loading) (m : Memory) → IsSomeAnd seen (λ w. m ≡ memory_of w) → HoldsBytes m
+    → IsSomeAnd seen (λ w. HoldsBytes (memory_of w))
+held_by None m is held = absurd is
+held_by (Some w) m is held = subst HoldsBytes is held

@@ -8,9 +8,9 @@ use Rattle.std.specs.Option.{option_map_or}
 use Rattle.vt_outside.specs.Placement.{Range, IsFree}
 use Rattle.vt_bytes.proofs.Each.{each_append, each_map}
 use Rattle.loader_script.specs.declared.entry.Entry.{Entry}
-use Rattle.loader_script.specs.declared.entry.Entry.TheVariants.{AddPointer, AddChecksum}
+use Rattle.loader_script.specs.declared.entry.Entry.TheVariants.{Allocate}
 use Rattle.vt_outside.specs.File.{File}
-use Rattle.loader_script.specs.Run.{Placed, Progress, End, Done, Command, NoRoom, bytes_of, cause_of, carried_out}
+use Rattle.loader_script.specs.Run.{Placed, Progress, End, NoRoom, bytes_of, carried_out}
 use Rattle.loader_script.specs.Left.{range_of}
 use Rattle.image_files.specs.declared.file.Placing.{Placing}
 use Rattle.zone_alloc.specs.declared.alloc.Request.{Request}
@@ -22,30 +22,43 @@ use Rattle.image_files.specs.Script.{allocation, place_command, add_pointer, add
 use Rattle.image_files.specs.Places.{range_at, MayStand, ArePlaces}
 use Rattle.image_files.specs.Linked.{BeginsWith}
 use Rattle.image_files.proofs.InTurn.{each_flat_map}
+use Rattle.machine_desc.specs.declared.machine.Machine.{Machine}
+use Rattle.vm_image.specs.Image.{telling, image_files}
 use Rattle.command_acts.specs.Runs.{Answers, EndsWith, done, refused, without_room, allocated, carried, at_files, placed_at, request_of, request_at}
 use Rattle.command_acts.proofs.PlainRuns.{places_of_placed, carried_any}
 use Rattle.vmtables.specs.Loading.{IsRefusedFree}
 use Rattle.vmtables.proofs.PlacesMore.{AfterPlacing, RoomFrom, RoomBy, known, some_places}
 
--- a command that links files
-abbrev pub Links : Entry → Type 0
-Links (AddPointer dest src offset size) = Unit {0}
-Links (AddChecksum file offset start count) = Unit {0}
-Links other = ⊥
+-- a command that asks for no place
+abbrev pub PlacesNone : Entry → Type 0
+PlacesNone (Allocate file align zone) = ⊥
+PlacesNone other = Unit {0}
 
--- the commands that link files are such
-each_file : (commands : ImageFile → List Entry) → ((file : ImageFile) → AllByRecursion Links (commands file)) → (files : List ImageFile)
-    → AllByRecursion (λ file. AllByRecursion Links (commands file)) files
+-- the commands that link files are such, and the one that tells the host where an id is
+each_file : (commands : ImageFile → List Entry) → ((file : ImageFile) → AllByRecursion PlacesNone (commands file)) → (files : List ImageFile)
+    → AllByRecursion (λ file. AllByRecursion PlacesNone (commands file)) files
 each_file commands link [] = tt
 each_file commands link (file ∷ files) = (link file, each_file commands link files)
 
-pub all_link : (files : List ImageFile) → AllByRecursion Links (linking files)
+all_link : (files : List ImageFile) → AllByRecursion PlacesNone (linking files)
 all_link files =
-    each_append Links (flat_map add_pointers (by_name files)) (flat_map add_checksums files)
-    (each_flat_map Links add_pointers (by_name files)
-    (each_file add_pointers (λ file. each_map Links (add_pointer file.name) (λ hole. tt) file.blob.pointers) (by_name files)))
-    (each_flat_map Links add_checksums files
-    (each_file add_checksums (λ file. each_map Links (add_checksum file.name) (λ hole. tt) file.blob.sums) files))
+    each_append PlacesNone (flat_map add_pointers (by_name files)) (flat_map add_checksums files)
+    (each_flat_map PlacesNone add_pointers (by_name files)
+    (each_file add_pointers (λ file. each_map PlacesNone (add_pointer file.name) (λ hole. tt) file.blob.pointers) (by_name files)))
+    (each_flat_map PlacesNone add_checksums files
+    (each_file add_checksums (λ file. each_map PlacesNone (add_checksum file.name) (λ hole. tt) file.blob.sums) files))
+
+telling_places_none : (generation : Option ℕ) → AllByRecursion PlacesNone (telling generation)
+telling_places_none None = tt
+telling_places_none (Some id) = (tt, tt)
+
+-- the commands behind the Allocates of a machine
+abbrev pub later_commands : Machine → List Entry
+later_commands m = linking (image_files m) ++ telling m.generation
+
+pub later_place_none : (m : Machine) → AllByRecursion PlacesNone (later_commands m)
+later_place_none m =
+    each_append PlacesNone (linking (image_files m)) (telling m.generation) (all_link (image_files m)) (telling_places_none m.generation)
 
 -- the zone of an Allocate is the file's
 same_zone : (zone : Zone) → zone_numbered (number_of_zone zone) ≡ zone
@@ -60,13 +73,13 @@ file_request file placing = record { zone = placing.zone; size = length file.blo
 abbrev placing_commands : ImageFile → Option Placing → List Entry
 placing_commands file placing = option_map_or (λ p. place_command file.name p ∷ []) placing []
 
--- a run of commands that link files places none, and has room
+-- a run of commands that ask for no place places none, and has room
 pub record LinksOnly (p final : Progress) (end : End) : Type 0 where
   pub stand : places_of_placed final.placed ≡ places_of_placed p.placed
   pub room : (at : ℕ) → end ≡ NoRoom at → ⊥
 
 links_only : {May : Answers} {index : ℕ} {script : List Entry} {p final : Progress} {end : End}
-    → EndsWith May index script p end final → AllByRecursion Links script → LinksOnly p final end
+    → EndsWith May index script p end final → AllByRecursion PlacesNone script → LinksOnly p final end
 links_only done all = record { stand = refl; room = λ at is. cc }
 links_only (refused is) all = record { stand = refl; room = λ at is. cc }
 links_only (without_room none may) all = absurd all.0
@@ -107,7 +120,7 @@ its_request : (loaded : List File) (file : ImageFile) (placing : Placing)
 its_request loaded file placing bytes =
     ap₂ (λ zone (bs : List ℕ). record { zone = zone; size = length bs; align = placing.align }) (same_zone placing.zone) bytes
 
-module _ (May : Answers) (top : ℕ) (loaded : List File) (commands : List Entry) (links : AllByRecursion Links commands) (free : GivesFree May top) where
+module _ (May : Answers) (top : ℕ) (loaded : List File) (commands : List Entry) (placeless : AllByRecursion PlacesNone commands) (free : GivesFree May top) where
   -- one file that is placed, and those behind it
   extends_one : {index : ℕ} {placed : List Placed} {end : End} {final : Progress} (file : ImageFile) (files : List ImageFile)
       (placing : Placing) (handed : List Range) → file.placing ≡ Some placing → bytes_of loaded file.name ≡ file.blob.bytes
@@ -183,7 +196,7 @@ module _ (May : Answers) (top : ℕ) (loaded : List File) (commands : List Entry
       → EndsWith May index (flat_map allocation files ++ commands) (at_files loaded placed []) end final
       → Extends May top loaded (flat_map allocation files ++ commands) index handed files placed final.placed end
   extends [] handed index placed end final begins ranges room ends =
-      let only = links_only ends links in
+      let only = links_only ends placeless in
       record {
         given = [];
         extra = [];

@@ -5,6 +5,7 @@ use Rattle.command_acts.specs.declared.fault.LoadFault.{LoadFault}
 use Rattle.command_acts.specs.declared.fault.LoadFault.TheVariants as load
 use Rattle.vt_words.specs.declared.setting.Setting.{Setting}
 use Rattle.vmtables.specs.Boot.{BootMakes, without_image, without_room, without_memory}
+use Rattle.vmtables.specs.Build.{CannotBeBuilt}
 use Rattle.vmtables.specs.Calls.{Answering, Seen}
 use Rattle.vmtables.specs.Decode.{CannotBeListed}
 use Rattle.vmtables.specs.Load.{LoadMakes, not_read, not_loaded}
@@ -41,6 +42,9 @@ unbuilt_quiet bytes f (undescribed read) = quiet_description
 unbuilt_quiet bytes f (too_large large) = quiet_large
 unbuilt_quiet bytes f no_memory = quiet_memory
 
+pub build_quiet : (bytes : List ℕ) (f : Fault) → CannotBeBuilt bytes f → IsQuiet (status_of_fault f)
+build_quiet bytes f cannot = unbuilt_quiet bytes f (why_unbuilt bytes f cannot)
+
 unread_quiet : (bytes : List ℕ) (f : Fault) → IsUnread bytes f → IsQuiet (status_of_fault f)
 unread_quiet bytes f (not_container read) = quiet_image
 unread_quiet bytes f no_room = quiet_memory
@@ -61,7 +65,7 @@ load_quiet (load.NoRoom index) = quiet_room
 
 pub boot_quiet : (Gives : Answering) (setting : Setting) (bytes : List ℕ) (before after : Seen) (f : Fault)
     → BootMakes Gives setting bytes before after (Err f) → IsQuiet (status_of_fault f)
-boot_quiet Gives setting bytes before after f (without_image cannot same) = unbuilt_quiet bytes f (why_unbuilt bytes f cannot)
+boot_quiet Gives setting bytes before after f (without_image cannot same) = build_quiet bytes f cannot
 boot_quiet Gives setting bytes before after f (without_room m read loaded refusal) = quiet_room
 boot_quiet Gives setting bytes before after f (without_memory m read unloaded) = quiet_memory
 

@@ -22,7 +22,7 @@ use Rattle.loader_script.specs.Spelling.{Fits, CanBeWritten, entries_of, entry_b
 use Rattle.loader_script.proofs.Named.{find-map}
 use Rattle.loader_script.proofs.Scripts.{length-script, script-again}
 use Rattle.machine_desc.specs.declared.machine.Machine.{Machine}
-use Rattle.vm_image.specs.Image.{image_files, image_script, image_items}
+use Rattle.vm_image.specs.Image.{telling, image_files, image_script, image_items}
 use Rattle.vm_image.specs.Built.{IsBuilt}
 use Rattle.command_acts.specs.Script.{script_in, script_from}
 use Rattle.command_acts.specs.Script.{script_of as script_read_of}
@@ -39,16 +39,21 @@ each_file : (commands : ImageFile → List Entry) → ((file : ImageFile) → Al
 each_file commands again [] = tt
 each_file commands again (file ∷ files) = (again file, each_file commands again files)
 
-script_again : (files : List ImageFile) → AllByRecursion CanBeWritten (script_of files [])
-script_again files =
-    each_append CanBeWritten (flat_map allocation files ++ linking files) []
+script_again : (files : List ImageFile) (later : List Entry) → AllByRecursion CanBeWritten later → AllByRecursion CanBeWritten (script_of files later)
+script_again files later again =
+    each_append CanBeWritten (flat_map allocation files ++ linking files) later
     (each_append CanBeWritten (flat_map allocation files) (linking files)
     (each_flat_map CanBeWritten allocation files (each_file allocation (λ file. placing_again file file.placing refl) files))
     (each_append CanBeWritten (flat_map add_pointers (by_name files)) (flat_map add_checksums files)
     (each_flat_map CanBeWritten add_pointers (by_name files)
     (each_file add_pointers (λ file. each_map CanBeWritten (add_pointer file.name) (λ hole. tt) file.blob.pointers) (by_name files)))
     (each_flat_map CanBeWritten add_checksums files
-    (each_file add_checksums (λ file. each_map CanBeWritten (add_checksum file.name) (λ hole. tt) file.blob.sums) files)))) tt
+    (each_file add_checksums (λ file. each_map CanBeWritten (add_checksum file.name) (λ hole. tt) file.blob.sums) files)))) again
+
+-- and so is the one that tells where the id of a generation is
+telling_again : (generation : Option ℕ) → AllByRecursion CanBeWritten (telling generation)
+telling_again None = tt
+telling_again (Some id) = (tt, tt)
 
 -- the item of a name, of the file of that name
 item_found : (found : Option Item) (file : File) → option_map (λ (item : Item). record { name = item.name; bytes = item.bytes; writable = item.writable }) found ≡ Some file
@@ -77,7 +82,7 @@ script_read m items script built few =
     let spelled = rw built.items_are at built.spelled in
     let found = item_found (named (image_items m) loader_name) _ (sym (find-map (λ (item : Item). record { name = item.name; bytes = item.bytes; writable = item.writable })
     (λ (file : File). bytes_eq file.name loader_name) (image_items m)) ∙ spelled) in
-    let again : AllByRecursion CanBeWritten script = subst (AllByRecursion CanBeWritten) (sym built.script_is) (script_again (image_files m)) in
+    let again : AllByRecursion CanBeWritten script = subst (AllByRecursion CanBeWritten) (sym built.script_is) (script_again (image_files m) (telling m.generation) (telling_again m.generation)) in
     ap script_from found.1
     ∙ spelled_read script found.0.bytes found.2 built.fits again (omega (arith, named_small (image_items m) loader_name found.0 found.1, few))
     ∙ ap Ok built.script_is

@@ -10,7 +10,7 @@ use Rattle.cfg_directory.specs.Files.{files_of}
 use Rattle.image_files.specs.Items.{image_limit}
 use Rattle.image_files.specs.Places.{ArePlaces}
 use Rattle.vm_image.specs.Image.{image_files, image_items, image_script}
-use Rattle.vm_image.specs.Promised.{top_of, HoldsFiles}
+use Rattle.vm_image.specs.Promised.{top_of, told_files, HoldsFiles}
 use Rattle.vt_bytes.specs.Memory.{IsRam, at, seen}
 use Rattle.table_model.specs.Inventory.{Shows, inventory_of}
 use Rattle.command_acts.specs.Runs.{IsRun}
@@ -30,7 +30,8 @@ use Rattle.vmtables.specs.declared.fault.Fault.TheVariants as fault
 
 -- The machine of a description is booted, with this setting: the machine is read from the bytes, the items of its image,
 -- which have few bytes, are loaded over the plan's events of its seed, their script is its script, which is carried out whole with the files
--- at lawful places and writes to no file of fw_cfg, and memory holds them. The rest is as the other processors left it over the events that
+-- at lawful places, and memory holds them. Of the files of fw_cfg it writes only the one that tells the host where the id of the generation
+-- is, where there is an id. The rest is as the other processors left it over the events that
 -- were taken, but for the firmware's work range, which holds the fill byte. Memory shows, from its RSDP and its anchor, exactly the machine's inventory.
 pub record IsBooted (Gives : Answering) (setting : Setting) (bytes : List ℕ) (before after : Seen) : Type 0 where
   pub machine : Machine
@@ -39,7 +40,7 @@ pub record IsBooted (Gives : Answering) (setting : Setting) (bytes : List ℕ) (
   pub loaded : IsImageLoaded Gives (image_items machine) (top_of machine) setting (Ok tt) before after
   pub script : script_in (image_items machine) ≡ Ok (image_script machine)
   pub ran : IsRun (Gives after.place.begun) (files_of (image_items machine)) (image_script machine) after.place.handed Done (progress_of loaded.world)
-  pub files : files_of (items_now loaded.world) ≡ files_of (image_items machine)
+  pub files : files_of (items_now loaded.world) ≡ told_files machine (files_now loaded.world)
   pub lawful : ArePlaces (top_of machine) [] (image_files machine) (map (λ (r : Range). r.start) after.place.handed)
   pub holds : HoldsFiles (memory_of loaded.world) (files_now loaded.world)
   pub others : (address : ℕ) → IsRam (top_of machine) address → is_work address ≡ false

@@ -92,5 +92,8 @@ fn load_image<A: ZoneAlloc, C: Schedule>(
         place,
         plan,
         world,
-    )
+    )?;
+    // That memory holds bytes is said by a call of its own.
+    world.memory().holds_bytes();
+    Ok(())
 }

@@ -1,6 +1,6 @@
 use Rattle.std.proofs.Common.{inl, inr, ⊎_elim, rules, sym, subst, ◌∙◌}
 use Rattle.std.proofs.lemmas.Result.{err_from_is_err_and}
-use Rattle.acpi_model.specs.declared.acpi.AcpiTables.{AcpiTables}
+use Rattle.acpi_decode.specs.declared.walked.Walked.{Walked}
 use Rattle.acpi_decode.specs.Taken.{IsTaken}
 use Rattle.acpi_decode.proofs.Takings.{IsSound, entry_refused, target_refused, table_taken}
 use Rattle.acpi_decode.proofs.take.take_known.Goals as goal
@@ -9,7 +9,7 @@ pub returns-in_err-table-clause-fault : goal.returns-in_err-table-clause-fault
 returns-in_err-table-clause-fault g c =
     let seen = g.V.MemView.seen c.args.view.now in
     let p = err_from_is_err_and c.from_residual-in_err-table.result c.from_residual-in_err-table.ensures.1 in
-    let sound : IsSound c.args.kind seen c.args.address c.args.tables.now = record {
+    let sound : IsSound c.args.kind seen c.args.address c.args.found.now = record {
       header = c.requires.header;
       signed = c.requires.signed;
       room = sym c.has_room.ensures ∙ search rules;
@@ -17,13 +17,13 @@ returns-in_err-table-clause-fault g c =
       none = sym c.has_kind.ensures ∙ search rules;
     } in
     rw (p.1, p.2) (⊎_elim (λ memory. inl memory)
-    (λ bad. inr (entry_refused c.args.kind seen c.args.address c.args.tables.now c.in_err-table.field-0.0 sound bad)) c.in_err-table.ensures.fault)
+    (λ bad. inr (entry_refused c.args.kind seen c.args.address c.args.found.now c.in_err-table.field-0.0 sound bad)) c.in_err-table.ensures.fault)
 
 pub returns-in_err-targets-clause-fault : goal.returns-in_err-targets-clause-fault
 returns-in_err-targets-clause-fault g c =
     let seen = g.V.MemView.seen c.args.view.now in
     let p = err_from_is_err_and c.from_residual-in_err-targets.result c.from_residual-in_err-targets.ensures.1 in
-    let sound : IsSound c.args.kind seen c.args.address c.args.tables.now = record {
+    let sound : IsSound c.args.kind seen c.args.address c.args.found.now = record {
       header = c.requires.header;
       signed = c.requires.signed;
       room = sym c.has_room.ensures ∙ search rules;
@@ -31,19 +31,19 @@ returns-in_err-targets-clause-fault g c =
       none = sym c.has_kind.ensures ∙ search rules;
     } in
     rw (p.1, p.2) (⊎_elim (λ memory. inl memory)
-    (λ faulty. inr (target_refused c.args.kind seen c.args.address c.args.tables.now c.in_ok-table.table c.in_err-targets.field-0.0 sound
+    (λ faulty. inr (target_refused c.args.kind seen c.args.address c.args.found.now c.in_ok-table.table c.in_err-targets.field-0.0 sound
     c.in_ok-table.ensures.read faulty)) c.in_err-targets.ensures.fault)
 
 pub returns-clause-taken : goal.returns-clause-taken
 returns-clause-taken g c =
     let seen = g.V.MemView.seen c.args.view.now in
-    let sound : IsSound c.args.kind seen c.args.address c.args.tables.now = record {
+    let sound : IsSound c.args.kind seen c.args.address c.args.found.now = record {
       header = c.requires.header;
       signed = c.requires.signed;
       room = sym c.has_room.ensures ∙ search rules;
       whole = c.in_ok-test_whole.ensures.passes;
       none = sym c.has_kind.ensures ∙ search rules;
     } in
-    subst (λ (all : AcpiTables). IsTaken seen c.args.address c.args.tables.now all) (sym c.add_table.ensures)
-    (table_taken c.args.kind seen c.args.address c.args.tables.now c.in_ok-table.table c.in_ok-targets.targets sound c.in_ok-table.ensures.read
+    subst (λ (all : Walked). IsTaken seen c.args.address c.args.found.now all) (sym c.add_table.ensures)
+    (table_taken c.args.kind seen c.args.address c.args.found.now c.in_ok-table.table c.in_ok-targets.targets sound c.in_ok-table.ensures.read
     c.in_ok-targets.ensures.read)

@@ -1,4 +1,4 @@
-use Rattle.std.proofs.Common.{inl, inr, ⊎_elim, refl}
+use Rattle.std.proofs.Common.{inl, inr, ⊎_elim}
 use Rattle.std.proofs.lemmas.Result.{err_from_is_err_and}
 use Rattle.acpi_decode.proofs.Walks.{begun_with, begun_is, walk_leads, walk_refused}
 use Rattle.acpi_decode.proofs.walked.walk_from.Goals as goal
@@ -18,9 +18,5 @@ returns-clause-shown g c =
     let seen = g.V.MemView.seen c.args.view.now in
     let root = c.read_root-root.result in
     let head = c.in_ok-head.head in
-    record {
-      leads = walk_leads seen c.args.rsdp root.oem_id root.xsdt head (begun_with root.oem_id head c.new.result)
-          c.take_tables.new.tables c.read_root-root.ensures
-          c.in_ok-length.ensures.passes c.in_ok-head.ensures (begun_is root.oem_id head c.new.result c.new.ensures) c.in_ok-take_tables.ensures.taken;
-      generation = refl;
-    }
+    walk_leads seen c.args.rsdp root.oem_id root.xsdt head (begun_with root.oem_id head c.new.result) c.take_tables.new.found c.read_root-root.ensures
+    c.in_ok-length.ensures.passes c.in_ok-head.ensures (begun_is root.oem_id head c.new.result c.new.ensures) c.in_ok-take_tables.ensures.taken

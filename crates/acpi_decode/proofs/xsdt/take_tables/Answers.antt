@@ -29,7 +29,7 @@ returns-in_err-take_table-clause-fault g c =
     let place : xsdt + c.from.result ≡ xsdt + 36 + 8 * index = omega (arith, c.from.ensures) in
     let named = c.in-Some.ensures.named ∙ ap (λ a. number_at seen a 8) place in
     rw (p.1, p.2) (⊎_elim (λ memory. inl memory)
-    (λ refused. inr (next_refused seen xsdt c.args.tables.now c.loop-index.tables index c.in-Some.address c.in_err-take_table.field-0.0
+    (λ refused. inr (next_refused seen xsdt c.args.found.now c.loop-index.found index c.in-Some.address c.in_err-take_table.field-0.0
     c.requires.passes (omega (arith, c.requires.told, c.loop-index-test.true)) named c.in-Some.ensures.nonzero c.loop-index.invariant refused))
     c.in_err-take_table.ensures.fault)
 
@@ -37,17 +37,17 @@ pub loop-index-preserved : goal.loop-index-preserved
 loop-index-preserved g c =
     let seen = g.V.MemView.seen c.args.view.now in
     let xsdt = c.args.xsdt in
-    let begun = c.args.tables.now in
+    let begun = c.args.found.now in
     let index = c.loop-index.index in
     let place : xsdt + c.from.result ≡ xsdt + 36 + 8 * index = omega (arith, c.from.ensures) in
     elim c.match-read_entry.branch [
       | in-Some+in_ok-take_table w ↦
           let named = w.in-Some.ensures.named ∙ ap (λ a. number_at seen a 8) place in
-          subst (λ tables. IsReached seen xsdt begun tables (index + 1)) (sym w.tables-is)
-          (reached_more seen xsdt begun c.loop-index.tables w.take_table.new.tables index w.in-Some.address named w.in-Some.ensures.nonzero
+          subst (λ found. IsReached seen xsdt begun found (index + 1)) (sym w.found-is)
+          (reached_more seen xsdt begun c.loop-index.found w.take_table.new.found index w.in-Some.address named w.in-Some.ensures.nonzero
           w.in_ok-take_table.ensures.taken c.loop-index.invariant)
       | in_default w ↦
           let zero = sym (ap (λ a. number_at seen a 8) place) ∙ w.in_default.ensures.zero in
-          subst (λ tables. IsReached seen xsdt begun tables (index + 1)) (sym w.tables-is)
-          (passed_over seen xsdt begun c.loop-index.tables index zero c.loop-index.invariant)
+          subst (λ found. IsReached seen xsdt begun found (index + 1)) (sym w.found-is)
+          (passed_over seen xsdt begun c.loop-index.found index zero c.loop-index.invariant)
     ]

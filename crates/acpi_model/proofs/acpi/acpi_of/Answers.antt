@@ -16,7 +16,7 @@ use Rattle.acpi_model.specs.MachineFadt.{fadt_of, fadt_links}
 use Rattle.acpi_model.specs.MachineMadt.{madt_of_machine}
 use Rattle.acpi_model.specs.MachineSrat.{srat_of_machine}
 use Rattle.acpi_model.specs.MachineSlit.{slit_of_machine}
-use Rattle.acpi_model.specs.Acpi.{facs_place, dsdt_place, targets_of}
+use Rattle.acpi_model.specs.Acpi.{facs_place, dsdt_place, id_of, targets_of}
 use Rattle.acpi_model.proofs.MachineTables.{of_part}
 use Rattle.acpi_model.proofs.SameTold.{told_with, told_same}
 use Rattle.acpi_model.proofs.acpi.acpi_of.Goals as goal
@@ -34,10 +34,10 @@ returns c =
     let dsdt = c.in_ok-dsdt.dsdt in
     let hpet = c.hpet_part.result in
     let facs = c.facs_part.result in
-    ap (λ (h : Head). told_with fadt madt srat slit mcfg hpet h.oem_id h (record { facs = facs; dsdt = dsdt }) c.new.result) c.head_of-xsdt.ensures
-    ∙ ap (λ those. told_with fadt madt srat slit mcfg hpet (padded 6 acpi.oem_id) (head_of acpi 1) (record { facs = those; dsdt = dsdt }) c.new.result)
+    ap (λ (h : Head). told_with fadt madt srat slit mcfg hpet h.oem_id h (record { facs = facs; dsdt = dsdt; generation = id_of m }) c.new.result) c.head_of-xsdt.ensures
+    ∙ ap (λ those. told_with fadt madt srat slit mcfg hpet (padded 6 acpi.oem_id) (head_of acpi 1) (record { facs = those; dsdt = dsdt; generation = id_of m }) c.new.result)
     c.facs_part.ensures
-    ∙ ap (λ those. told_with fadt madt srat slit mcfg hpet (padded 6 acpi.oem_id) (head_of acpi 1) (record { facs = option_map (λ power. initial_facs) m.power; dsdt = those })
+    ∙ ap (λ those. told_with fadt madt srat slit mcfg hpet (padded 6 acpi.oem_id) (head_of acpi 1) (record { facs = option_map (λ power. initial_facs) m.power; dsdt = those; generation = id_of m })
     c.new.result) c.in_ok-dsdt.ensures
     ∙ ap (told_with fadt madt srat slit mcfg hpet (padded 6 acpi.oem_id) (head_of acpi 1) (targets_of m acpi)) c.new.ensures
     ∙ told_same (padded 6 acpi.oem_id) (head_of acpi 1) (targets_of m acpi) []

@@ -1,11 +1,8 @@
-use Rattle.std.proofs.Common.{◌≤◌, [], ap, sym, subst, ◌∙◌, length, arith, refl, append-nil}
+use Rattle.std.proofs.Common.{subst, ◌∙◌}
 use Rattle.std.proofs.lemmas.Result.{on_ok_weaker}
-use Rattle.acpi_model.specs.Header.{head_of}
 use Rattle.acpi_model.proofs.AcceptedAcpi.{accepted_fits, not_none}
 use Rattle.machine_desc.proofs.Accepted.{power_needs_acpi}
-use Rattle.dsdt_terms.specs.Dsdt.{dsdt_bytes, dsdt_body}
-use Rattle.dsdt_terms.proofs.MachineTerms.{few_bytes}
-use Rattle.blob_holes.specs.Plain.{Spells}
+use Rattle.dsdt_terms.specs.Dsdt.{dsdt_body}
 use Rattle.acpi_append.specs.DsdtPut.{IsDsdtPut}
 use Rattle.acpi_append.proofs.OfParts.{of_part}
 use Rattle.aml_devices.specs.MachineDsdt.{IsMachineDsdtPut}
@@ -20,19 +17,15 @@ unreachable-requires c =
 pub head_of-requires : goal.head_of-requires
 head_of-requires c = accepted_fits c.args.machine.now c.in-Some.acpi c.requires.accepted c.in-Some.is
 
-pub put_dsdt-requires-clause-few : goal.put_dsdt-requires-clause-few
-put_dsdt-requires-clause-few c =
-    let size = ap length (c.as_slice.ensures ∙ c.in_ok-block.ensures) in
-    omega (arith, size, few_bytes c.args.machine.now c.requires.accepted)
+pub put_block-requires-clause-block : goal.put_block-requires-clause-block
+put_block-requires-clause-block c = c.as_slice.ensures ∙ c.in_ok-block.ensures
 
 pub returns-clause-put : goal.returns-clause-put
 returns-clause-put c =
     let m = c.args.machine.now in
     let before = c.args.blob.now in
-    let after = c.put_dsdt.new.blob in
-    let spelled : Spells (dsdt_body m) c.as_slice.result.now =
-    record { plain = (tt, tt); fit = (refl, tt); written = append-nil (dsdt_bytes m) ∙ sym (c.as_slice.ensures ∙ c.in_ok-block.ensures) } in
-    on_ok_weaker c.put_dsdt.result (λ put.
+    let after = c.put_block.new.blob in
+    on_ok_weaker c.put_block.result (λ put.
     of_part (λ acpi. IsMachineDsdtPut before after acpi m) m.acpi c.in-Some.acpi c.in-Some.is
     (machine_put before after c.in-Some.acpi m c.requires.accepted c.numbers_of_a_machine_fit.ensures
-    (subst (λ head. IsDsdtPut before after head (dsdt_body m)) c.head_of.ensures (put (dsdt_body m) (dsdt_body m, [], refl, spelled, refl))))) c.put_dsdt.ensures.put
+    (subst (λ head. IsDsdtPut before after head (dsdt_body m)) c.head_of.ensures put))) c.put_block.ensures.put

@@ -12,7 +12,7 @@ returns-in_err-smbios-clause-refused c =
     let view = seen c.args.memory.now in
     let p = err_from_is_err_and c.from_residual-in_err-smbios.result c.from_residual-in_err-smbios.ensures.1 in
     let part = acpi_part view c.in_ok-acpi.acpi c.in_ok-acpi.ensures.shown in
-    rw (p.1, p.2) (smbios_told view part.0 c.in_err-smbios.field-0.0 part.1 c.in_err-smbios.ensures.refused)
+    rw (p.1, p.2) (smbios_told view c.in_err-smbios.field-0.0 part c.in_err-smbios.ensures.refused)
 
 pub returns-clause-shown : goal.returns-clause-shown
 returns-clause-shown c =
@@ -22,4 +22,4 @@ returns-clause-shown c =
     let smbios = smbios_part view c.in_ok-smbios.smbios c.in_ok-smbios.ensures.shown none in
     subst (λ (inventory : Inventory). Shows top view inventory)
     (ap (λ n. inventory_of n c.in_ok-acpi.acpi c.in_ok-smbios.smbios) (sym c.top.ensures.value) ∙ sym c.inventory_of.ensures)
-    (inventory_shows top view c.in_ok-acpi.acpi c.in_ok-smbios.smbios c.in_ok-acpi.ensures.shown c.in_ok-acpi.ensures.generation smbios)
+    (inventory_shows top view c.in_ok-acpi.acpi c.in_ok-smbios.smbios c.in_ok-acpi.ensures.shown smbios)

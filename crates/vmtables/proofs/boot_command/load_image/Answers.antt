@@ -1,5 +1,6 @@
+use Rattle.std.proofs.Common.{IsSome, refl, sym, subst}
 use Rattle.command_acts.specs.Allocators.{MayAnswer}
-use Rattle.vmtables.proofs.Booting.{booted_so, failed_to_boot}
+use Rattle.vmtables.proofs.Booting.{booted_so, failed_to_boot, held_by}
 use Rattle.vmtables.proofs.Refused.{unbuilt_each}
 use Rattle.vmtables.proofs.boot_command.load_image.Goals as goal
 
@@ -7,14 +8,20 @@ pub returns-in_err-items-clause-err : goal.returns-in_err-items-clause-err
 returns-in_err-items-clause-err g c =
     unbuilt_each _ _ c.args.machine.now _ c.in_err-items.field-0.0 c.from_residual.result c.in_err-items.ensures.err c.from_residual.ensures.1
 
+pub returns-in_err-load_items-clause-err : goal.returns-in_err-load_items-clause-err
+returns-in_err-load_items-clause-err g c =
+    let image = c.in_ok-items in
+    let failed = c.in_err-load_items in
+    let answer = c.from_residual-in_err-load_items in
+    failed_to_boot (MayAnswer g.A.ZoneAlloc.state g.A.ZoneAlloc.gives) c.args.setting.now c.args.machine.now _ _ _ _ failed.field-0.0 answer.result
+    (λ begun handed request place may. may.lawful) image.ensures.built image.ensures.small failed.ensures.err answer.ensures.1
+
+pub memory-requires : goal.memory-requires
+memory-requires g c = subst IsSome (sym c.in_ok-load_items.ensures.ok.world_is) refl
+
 pub returns-clause-ok : goal.returns-clause-ok
 returns-clause-ok g c =
     let image = c.in_ok-items in
-    booted_so (MayAnswer g.A.ZoneAlloc.state g.A.ZoneAlloc.gives) c.args.setting.now c.args.machine.now _ _ _ _ c.load_items.result
-    (λ begun handed request place may. may.lawful) image.ensures.built image.ensures.small c.load_items.ensures.ok
-
-pub returns-clause-err : goal.returns-clause-err
-returns-clause-err g c =
-    let image = c.in_ok-items in
-    failed_to_boot (MayAnswer g.A.ZoneAlloc.state g.A.ZoneAlloc.gives) c.args.setting.now c.args.machine.now _ _ _ _ c.load_items.result
-    (λ begun handed request place may. may.lawful) image.ensures.built image.ensures.small c.load_items.ensures.err
+    booted_so (MayAnswer g.A.ZoneAlloc.state g.A.ZoneAlloc.gives) c.args.setting.now c.args.machine.now _ _ _ _
+    (λ begun handed request place may. may.lawful) image.ensures.built image.ensures.small c.in_ok-load_items.ensures.ok
+    (held_by _ c.memory.result.now c.memory.ensures c.holds_bytes.ensures)

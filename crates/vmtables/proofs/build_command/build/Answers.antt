@@ -1,6 +1,7 @@
 use Rattle.std.proofs.Common.{refl, subst, sym}
 use Rattle.vmtables.specs.Build.{IsImage, BuildMakes, built, not_built}
-use Rattle.vmtables.proofs.Endings.{cut_off, ended_so, refused, wrote, wrote_streams}
+use Rattle.vmtables.proofs.Endings.{cut_off, ended_so, refused, wrote, wrote_streams, quiet_streams}
+use Rattle.vmtables.proofs.QuietFaults.{build_quiet}
 use Rattle.vmtables.proofs.build_command.build.Goals as goal
 
 pub returns-in_err-bytes-clause-ran : goal.returns-in_err-bytes-clause-ran
@@ -15,6 +16,14 @@ returns-in_err-text-clause-ran g c = λ seen.
     let answer = c.from_residual-in_err-text in
     refused BuildMakes c.in_ok-bytes.bytes c.as_slice.result.now why.field-0.0 answer.result seen seen _ _ _
     (ended_so _ _ _ read.given read.end read.ended) c.as_slice.ensures (not_built why.ensures.err refl) answer.ensures.1
+
+pub returns-in_err-text-clause-streams : goal.returns-in_err-text-clause-streams
+returns-in_err-text-clause-streams g c =
+    let read = c.in_ok-bytes.ensures in
+    let why = c.in_err-text in
+    let answer = c.from_residual-in_err-text in
+    quiet_streams why.field-0.0 answer.result c.in_ok-bytes.bytes _ _ _ (build_quiet c.as_slice.result.now why.field-0.0 why.ensures.err)
+    answer.ensures.1 (read.sound (λ is. cc)) read.too_long
 
 pub returns-clause-ran : goal.returns-clause-ran
 returns-clause-ran g c = λ seen.

@@ -6,7 +6,7 @@ use Rattle.dsdt_terms.specs.Bridge.{bridge_device}
 use Rattle.dsdt_terms.specs.Devices.{clock_device, keyboard_device, timer_device}
 use Rattle.dsdt_terms.specs.Dsdt.{if_there, has_clock, has_keyboard, uart_devices, cpu_devices}
 use Rattle.dsdt_terms.proofs.AcceptedDevices.{few_devices, lawful_uarts, lawful_windows}
-use Rattle.dsdt_terms.proofs.dsdt.devices_of.Goals as goal
+use Rattle.dsdt_terms.proofs.dsdt.placeless_devices.Goals as goal
 
 pub push_bridge-requires : goal.push_bridge-requires
 push_bridge-requires c = lawful_windows c.args.machine.now c.requires
