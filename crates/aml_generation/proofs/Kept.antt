@@ -3,7 +3,8 @@ use Rattle.std.proofs.Common.{◌≡◌, ℕ, false, codes, is_some, Option, Som
 use Rattle.std.proofs.lemmas.Bool.{cond-false, cond_both, true≢false}
 use Rattle.aml_terms.specs.declared.term.Path.{Path}
 use Rattle.aml_terms.specs.Trees.{Tree, Trees, named, scope, device, no_trees, tree}
-use Rattle.aml_generation.specs.Generation.{is_beside, is_system_bus, address_of, zeros, taken_of_value, behind, or_behind, taken_of_names, is_address, taken_of_name, in_device}
+use Rattle.aml_terms.specs.OneSegment.{is_beside, is_system_bus}
+use Rattle.aml_generation.specs.Generation.{address_of, zeros, taken_of_value, behind, or_behind, taken_of_names, is_address, taken_of_name, in_device}
 use Rattle.aml_generation.specs.Generation.{taken_of_device, taken_of_devices, taken_of_bus, or_else, taken_inside, taken}
 
 -- what has no value is none

@@ -6,7 +6,8 @@ use Rattle.std.proofs.lemmas.List.{map-append}
 use Rattle.std.proofs.lemmas.List.Concat.{flat_map-append}
 use Rattle.aml_terms.specs.declared.term.Path.{Path}
 use Rattle.aml_terms.specs.Trees.{Tree, Trees, named, scope, device, no_trees, tree}
-use Rattle.aml_generation.specs.Generation.{is_beside, is_system_bus, address_of, taken_of_value, behind, or_behind, taken_of_names}
+use Rattle.aml_terms.specs.OneSegment.{is_beside, is_system_bus}
+use Rattle.aml_generation.specs.Generation.{address_of, taken_of_value, behind, or_behind, taken_of_names}
 use Rattle.aml_generation.specs.Generation.{taken_of_device, taken_of_devices, taken_of_bus, or_else, taken_inside, taken}
 use Rattle.aml_generation.specs.Candidates.{buses_inside, buses, device_terms, devices_among, address_among, first_some}
 

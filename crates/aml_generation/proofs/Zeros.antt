@@ -5,7 +5,8 @@ use Rattle.std.proofs.lemmas.Option.{none-some}
 use Rattle.std.specs.Option.{option_or}
 use Rattle.aml_terms.specs.declared.term.Path.{Path}
 use Rattle.aml_terms.specs.Trees.{Tree, Trees, named, scope, device, no_trees, tree}
-use Rattle.aml_generation.specs.Generation.{is_beside, is_system_bus, address_of, zeros, taken_of_value, behind, or_behind, taken_of_names, in_device}
+use Rattle.aml_terms.specs.OneSegment.{is_beside, is_system_bus}
+use Rattle.aml_generation.specs.Generation.{address_of, zeros, taken_of_value, behind, or_behind, taken_of_names, in_device}
 use Rattle.aml_generation.specs.Generation.{in_scope, taken_of_device, taken_of_devices, taken_of_bus, or_else, taken_inside, taken}
 use Rattle.aml_generation.specs.Candidates.{address_among}
 use Rattle.aml_generation.proofs.Kept.{Keeps, none_from, keeps_device, keeps_inside}

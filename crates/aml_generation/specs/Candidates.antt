@@ -3,7 +3,8 @@ use Rattle.std.specs.Prelude.{ℕ, List, [], ◌∷◌, ◌++◌, codes, Option,
 use Rattle.std.specs.List.{flat_map}
 use Rattle.std.specs.Option.{option_or}
 use Rattle.aml_terms.specs.Trees.{Tree, Trees, named, scope, device, no_trees, tree}
-use Rattle.aml_generation.specs.Generation.{is_system_bus, is_beside, address_of}
+use Rattle.aml_terms.specs.OneSegment.{is_beside, is_system_bus}
+use Rattle.aml_generation.specs.Generation.{address_of}
 
 -- the terms of each scope of the system bus, however deep, in the order in which the scopes begin
 abbrev mutual

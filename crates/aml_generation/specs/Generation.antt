@@ -1,22 +1,9 @@
 -- Where terms lead to the id of the machine's generation (Microsoft, Virtual Machine Generation ID; QEMU, docs/specs/vmgenid.rst), and the
 -- terms without that address.
-use Rattle.std.specs.Prelude.{ℕ, ◌+◌, ◌*◌, ◌^◌, Bool, false, not, ◌&&◌, ◌==◌, nat_lt, is_some, List, [], ◌∷◌, codes, Option, Some, None, if◌then◌else◌}
-use Rattle.std.specs.Str.{bytes_eq}
+use Rattle.std.specs.Prelude.{ℕ, ◌+◌, ◌*◌, ◌^◌, Bool, false, ◌&&◌, nat_lt, is_some, codes, Option, Some, None, if◌then◌else◌}
 use Rattle.aml_terms.specs.declared.term.Path.{Path}
+use Rattle.aml_terms.specs.OneSegment.{is_system_bus, is_beside}
 use Rattle.aml_terms.specs.Trees.{Tree, Trees, int, fixed, pack, named, scope, device, no_trees, tree}
-
--- the segments are this one alone
-abbrev pub is_alone : List ℕ → List (List ℕ) → Bool
-is_alone segment [] = false
-is_alone segment (first ∷ []) = bytes_eq first segment
-is_alone segment (first ∷ second ∷ more) = false
-
--- the path of the system bus (ACPI 6.5, 5.3.1), and that of a name beside it
-abbrev pub is_system_bus : Path → Bool
-is_system_bus path = path.root && (path.parents == 0) && is_alone (codes "_SB_") path.segments
-
-abbrev pub is_beside : List ℕ → Path → Bool
-is_beside segment path = not path.root && (path.parents == 0) && is_alone segment path.segments
 
 -- the integer that a value is, in either of its spellings
 abbrev pub integer_of : Tree → Option ℕ

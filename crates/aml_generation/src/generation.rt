@@ -3,7 +3,6 @@ ghost use Rattle.aml_terms.specs.Trees.{view, views};
 ghost use Rattle.aml_generation.specs.Generation.{is_address, taken_of_name, taken_of_names, taken_of_device, taken_of_devices, taken_of_bus, taken_inside, taken};
 
 use crate::address::take_address;
-use crate::paths::{is_beside, is_system_bus};
 use aml_terms::{Path, Term};
 use vt_outside::List;
 
@@ -46,7 +45,7 @@ fn take_inside(term: &mut Term) -> Option<u64>
 fn take_of_bus(path: &Path, terms: &mut List<Term>) -> Option<u64>
     ensures { (result, views terms.new) ≡ taken_of_bus path.now (views terms.old) }
 {
-    if is_system_bus(path) {
+    if path.is_system_bus() {
         take_of_devices(terms)
     } else {
         None
@@ -70,7 +69,7 @@ fn take_of_device(term: &mut Term) -> Option<u64>
     ensures { (result, view term.new) ≡ taken_of_device (view term.old) }
 {
     match term {
-        Term::Device(path, terms) if is_beside(b"VGEN", path) => take_of_names(terms),
+        Term::Device(path, terms) if path.is_beside(b"VGEN") => take_of_names(terms),
         _ => None,
     }
 }
@@ -92,7 +91,7 @@ fn is_address(term: &Term) -> bool
     ensures { result ≡ is_address (view term.now) }
 {
     match term {
-        Term::Named(path, _) => is_beside(b"ADDR", path),
+        Term::Named(path, _) => path.is_beside(b"ADDR"),
         _ => false,
     }
 }

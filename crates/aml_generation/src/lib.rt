@@ -9,6 +9,5 @@
 mod address;
 mod generation;
 pub mod laws;
-mod paths;
 
 pub use generation::take_generation;

@@ -2,6 +2,7 @@ pub mod Trees
 pub mod Opcodes
 pub mod Lengths
 pub mod Paths
+pub mod OneSegment
 pub mod Grammar
 pub mod WellFormed
 pub mod Written

@@ -9,6 +9,7 @@
 mod equal;
 mod fault;
 pub mod laws;
+mod one_segment;
 mod opcode;
 mod term;
 

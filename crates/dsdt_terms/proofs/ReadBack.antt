@@ -122,7 +122,7 @@ bridge_template b =
     (value_taken 3 0x53 (codes "_CRS") (Buffer (template_of (bridge_items b))) (table ∷ []) [] refl
     (value_passed 3 0x53 (codes "_PRT") (Package routes) [] [] refl refl)))))
 
-bridge_table : (b : Bridge) → table_in (view (bridge_device b)) ≡ views (map route_term b.routes)
+pub bridge_table : (b : Bridge) → table_in (view (bridge_device b)) ≡ views (map route_term b.routes)
 bridge_table b =
     let spaces = resources (bridge_items b) in
     let routes = map route_term b.routes in

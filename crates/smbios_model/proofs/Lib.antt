@@ -11,5 +11,6 @@ pub mod PushedParts
 pub mod LawfulBodies
 pub mod LawfulParts
 pub mod PartsByType
+pub mod ToldByType
 pub mod GotBack
 pub mod WayBack

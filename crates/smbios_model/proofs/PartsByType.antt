@@ -14,11 +14,11 @@ use Rattle.smbios_model.specs.MachineStructures.{Part, with_handles, structures_
 use Rattle.smbios_model.proofs.LawfulBodies.{IsLawfulBody}
 use Rattle.smbios_model.proofs.LawfulParts.{IsLawfulPart, lawful_parts}
 
-is_of : ℕ → Structure → Bool
+unfoldable pub is_of : ℕ → Structure → Bool
 is_of number s = number_of s.body == number
 
 -- what the structures of a type say
-pub bodies_of : ℕ → List Structure → List Body
+unfoldable pub bodies_of : ℕ → List Structure → List Body
 bodies_of number structures = map (λ (s : Structure). s.body) (filter (is_of number) structures)
 
 -- the same by parts, which are each of one type

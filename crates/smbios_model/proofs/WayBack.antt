@@ -6,93 +6,40 @@ use Rattle.std.specs.List.{cons_option, filter_map, AllByRecursion}
 use Rattle.std.specs.Option.{option_to_list}
 use Rattle.vt_bytes.proofs.Each.{each_weaker}
 use Rattle.machine_desc.specs.declared.machine.Machine.{Machine}
-use Rattle.machine_desc.specs.declared.machine.System.{System as SystemPart}
-use Rattle.machine_desc.specs.declared.smbios_parts.Socket.{Socket}
-use Rattle.machine_desc.specs.declared.smbios_parts.Slot.{Slot as SlotPart}
-use Rattle.machine_desc.specs.declared.smbios_parts.Dimm.{Dimm}
 use Rattle.machine_desc.specs.declared.smbios_parts.MemRange.{MemRange}
-use Rattle.machine_desc.specs.declared.smbios_parts.Firmware.{Firmware}
-use Rattle.machine_desc.specs.declared.smbios_parts.Chassis.{Chassis as ChassisPart}
 use Rattle.machine_desc.specs.Rules.{is_lawful_slot, IsAccepted, HasFittingUuids}
 use Rattle.machine_desc.specs.Fields.{IsFittingRange}
 use Rattle.machine_desc.proofs.Accepted.{own_uuid, fitting_ranges}
 use Rattle.smbios_model.specs.declared.smbios.Body.{Body}
-use Rattle.smbios_model.specs.declared.smbios.Body.TheVariants.{Bios, System, Chassis, Processor, Slot, OemStrings, Device, Mapped}
+use Rattle.smbios_model.specs.declared.smbios.Body.TheVariants.{OemStrings}
 use Rattle.smbios_model.specs.declared.smbios.Structure.{Structure}
-use Rattle.smbios_model.specs.BiosInformation.{firmware_in}
-use Rattle.smbios_model.specs.SystemInformation.{system_part_in}
-use Rattle.smbios_model.specs.ChassisInformation.{chassis_part_in}
-use Rattle.smbios_model.specs.ProcessorInformation.{socket_in}
-use Rattle.smbios_model.specs.SlotInformation.{slot_part_in}
-use Rattle.smbios_model.specs.MemoryDevice.{dimm_in}
-use Rattle.smbios_model.specs.MappedAddress.{range_in}
 use Rattle.smbios_model.specs.MachineStructures.{if_some, bios_body, system_body, chassis_body, processor_body, slot_body, device_body, mapped_body}
 use Rattle.smbios_model.specs.MachineStructures.{parts_of, structures_of}
+use Rattle.smbios_model.specs.ToldParts.{firmware_told, system_told, chassis_told, socket_told, slot_told, texts_told, dimm_told, range_told, all_told}
+use Rattle.smbios_model.specs.ToldParts.{oem_strings_in, the_system_in, the_firmware_in, the_chassis_in, on_nodes}
 use Rattle.smbios_model.proofs.GotBack.{system_back, slot_back, dimm_back, range_back}
 use Rattle.smbios_model.proofs.LawfulParts.{always, each_true, lawful_slots}
-use Rattle.smbios_model.proofs.PartsByType.{bodies_of, bodies_in, are_typed, of_type}
+use Rattle.smbios_model.proofs.PartsByType.{bodies_in, are_typed, of_type}
+use Rattle.smbios_model.proofs.ToldByType.{IsToldBy, told_of_type, firmware_type, system_type, chassis_type, socket_type, slot_type, texts_type, dimm_type, range_type}
 
--- the part of a machine that a body tells
-
-abbrev firmware_told : Body → Option Firmware
-firmware_told (Bios info) = Some (firmware_in info)
-firmware_told body = None
-
-abbrev system_told : Body → Option SystemPart
-system_told (System info) = Some (system_part_in info)
-system_told body = None
-
-abbrev chassis_told : Body → Option ChassisPart
-chassis_told (Chassis info) = Some (chassis_part_in info)
-chassis_told body = None
-
-abbrev socket_told : Body → Option Socket
-socket_told (Processor info) = Some (socket_in info)
-socket_told body = None
-
-abbrev slot_told : Body → Option SlotPart
-slot_told (Slot info) = Some (slot_part_in info)
-slot_told body = None
-
-abbrev texts_told : Body → Option (List (List ℕ))
-texts_told (OemStrings texts) = Some texts
-texts_told body = None
-
-abbrev dimm_told : Body → Option Dimm
-dimm_told (Device info) = Some (dimm_in info)
-dimm_told body = None
-
-abbrev range_told : Body → Option MemRange
-range_told (Mapped info) = Some (range_in info)
-range_told body = None
-
--- a system of which nothing is known
-abbrev unknown : SystemPart
-unknown = record { manufacturer = []; product = []; version = []; serial = []; sku = []; family = []; uuid = None }
-
--- Of a range structures don't tell the node. Ranges on these nodes, one after the other; those for which there is none stay.
+-- the node of a range, and a range on the first one
 abbrev node_of : MemRange → ℕ
 node_of r = r.node
 
 abbrev off_node : MemRange → MemRange
 off_node r = record r { node = 0 }
 
-abbrev on_nodes : List ℕ → List MemRange → List MemRange
-on_nodes [] ranges = ranges
-on_nodes (node ∷ nodes) [] = []
-on_nodes (node ∷ nodes) (r ∷ ranges) = record r { node = node } ∷ on_nodes nodes ranges
-
 -- a machine with the parts that structures tell, and with its own of which they don't
 abbrev pub machine_in : Machine → List Structure → Machine
 machine_in m structures = record m {
-  oem_strings = get_or (filter_map texts_told (bodies_of 11 structures)) 0 [];
-  system = get_or (filter_map system_told (bodies_of 1 structures)) 0 unknown;
-  firmware = slice_get (filter_map firmware_told (bodies_of 0 structures)) 0;
-  chassis = slice_get (filter_map chassis_told (bodies_of 3 structures)) 0;
-  sockets = filter_map socket_told (bodies_of 4 structures);
-  dimms = filter_map dimm_told (bodies_of 17 structures);
-  ranges = on_nodes (map node_of m.ranges) (filter_map range_told (bodies_of 19 structures));
-  slots = filter_map slot_told (bodies_of 9 structures);
+  oem_strings = oem_strings_in structures;
+  system = the_system_in structures;
+  firmware = the_firmware_in structures;
+  chassis = the_chassis_in structures;
+  sockets = all_told socket_told structures;
+  dimms = all_told dimm_told structures;
+  ranges = on_nodes (map node_of m.ranges) (all_told range_told structures);
+  slots = all_told slot_told structures;
 }
 
 -- elements of which each is got back are all got back
@@ -104,18 +51,19 @@ all_back body_of back (e ∷ elements) each =
 
 -- the elements that the structures of a type tell
 got_back : {Element : Type 0} (m : Machine) → IsAccepted m → (number : ℕ) (body_of : Element → Body) (back : Body → Option Element)
-    (elements : List Element) → bodies_in number (parts_of m) ≡ map body_of elements ++ [] → AllByRecursion (λ e. back (body_of e) ≡ Some e) elements
-    → filter_map back (bodies_of number (structures_of m)) ≡ elements
-got_back m accepted number body_of back elements are each =
-    ap (filter_map back) (of_type number (parts_of m) (are_typed m accepted) ∙ are ∙ append-nil (map body_of elements))
+    → IsToldBy number back → (elements : List Element) → bodies_in number (parts_of m) ≡ map body_of elements ++ []
+    → AllByRecursion (λ e. back (body_of e) ≡ Some e) elements → all_told back (structures_of m) ≡ elements
+got_back m accepted number body_of back by elements are each =
+    told_of_type number back by (structures_of m)
+    ∙ ap (filter_map back) (of_type number (parts_of m) (are_typed m accepted) ∙ are ∙ append-nil (map body_of elements))
     ∙ all_back body_of back elements each
 
 -- where each element is got back, whatever it is
 any_back : {Element : Type 0} (m : Machine) → IsAccepted m → (number : ℕ) (body_of : Element → Body) (back : Body → Option Element)
-    (elements : List Element) → bodies_in number (parts_of m) ≡ map body_of elements ++ [] → ((e : Element) → back (body_of e) ≡ Some e)
-    → filter_map back (bodies_of number (structures_of m)) ≡ elements
-any_back m accepted number body_of back elements are each =
-    got_back m accepted number body_of back elements are (always (λ e. back (body_of e) ≡ Some e) each elements)
+    → IsToldBy number back → (elements : List Element) → bodies_in number (parts_of m) ≡ map body_of elements ++ []
+    → ((e : Element) → back (body_of e) ≡ Some e) → all_told back (structures_of m) ≡ elements
+any_back m accepted number body_of back by elements are each =
+    got_back m accepted number body_of back by elements are (always (λ e. back (body_of e) ≡ Some e) each elements)
 
 first_given : {Given : Type 0} (given : Option Given) → slice_get (option_to_list given) 0 ≡ given
 first_given None = refl
@@ -139,31 +87,32 @@ on_own_nodes [] = refl
 on_own_nodes (r ∷ ranges) = ap (λ others. r ∷ others) (on_own_nodes ranges)
 
 -- structures tell all of a machine's ranges but their nodes
-ranges_but_nodes : (m : Machine) → IsAccepted m → filter_map range_told (bodies_of 19 (structures_of m)) ≡ map off_node m.ranges
+pub ranges_but_nodes : (m : Machine) → IsAccepted m → all_told range_told (structures_of m) ≡ map (λ (r : MemRange). record r { node = 0 }) m.ranges
 ranges_but_nodes m accepted =
-    ap (filter_map range_told) (of_type 19 (parts_of m) (are_typed m accepted) ∙ append-nil (map mapped_body m.ranges))
+    told_of_type 19 range_told range_type (structures_of m)
+    ∙ ap (filter_map range_told) (of_type 19 (parts_of m) (are_typed m accepted) ∙ append-nil (map mapped_body m.ranges))
     ∙ ranges_told m.ranges (fitting_ranges m accepted)
 
 -- so two machines with the same structures have as many
 pub as_many_ranges : (a b : Machine) → IsAccepted a → IsAccepted b → structures_of a ≡ structures_of b → length a.ranges ≡ length b.ranges
 as_many_ranges a b a_accepted b_accepted same =
     sym (length-map a.ranges off_node)
-    ∙ ap length (sym (ranges_but_nodes a a_accepted) ∙ ap (λ those. filter_map range_told (bodies_of 19 those)) same ∙ ranges_but_nodes b b_accepted)
+    ∙ ap length (sym (ranges_but_nodes a a_accepted) ∙ ap (all_told range_told) same ∙ ranges_but_nodes b b_accepted)
     ∙ length-map b.ranges off_node
 
-ranges_back : (m : Machine) → IsAccepted m → on_nodes (map node_of m.ranges) (filter_map range_told (bodies_of 19 (structures_of m))) ≡ m.ranges
+ranges_back : (m : Machine) → IsAccepted m → on_nodes (map node_of m.ranges) (all_told range_told (structures_of m)) ≡ m.ranges
 ranges_back m accepted = ap (on_nodes (map node_of m.ranges)) (ranges_but_nodes m accepted) ∙ on_own_nodes m.ranges
 
 pub machine_back : (m : Machine) → IsAccepted m → HasFittingUuids m → machine_in m (structures_of m) ≡ m
 machine_back m accepted fits =
-    let firmware = any_back m accepted 0 bios_body firmware_told (option_to_list m.firmware) refl (λ f. refl) in
-    let system = got_back m accepted 1 system_body system_told (m.system ∷ []) refl (ap Some (system_back m.system fits.system (own_uuid m accepted)), tt) in
-    let chassis = any_back m accepted 3 chassis_body chassis_told (option_to_list m.chassis) refl (λ c. refl) in
-    let sockets = any_back m accepted 4 processor_body socket_told m.sockets refl (λ s. refl) in
-    let slots = got_back m accepted 9 slot_body slot_told m.slots refl
+    let firmware = any_back m accepted 0 bios_body firmware_told firmware_type (option_to_list m.firmware) refl (λ f. refl) in
+    let system = got_back m accepted 1 system_body system_told system_type (m.system ∷ []) refl (ap Some (system_back m.system fits.system (own_uuid m accepted)), tt) in
+    let chassis = any_back m accepted 3 chassis_body chassis_told chassis_type (option_to_list m.chassis) refl (λ c. refl) in
+    let sockets = any_back m accepted 4 processor_body socket_told socket_type m.sockets refl (λ s. refl) in
+    let slots = got_back m accepted 9 slot_body slot_told slot_type m.slots refl
     (each_weaker (λ s. is_lawful_slot s ≡ true) (λ s. slot_told (slot_body s) ≡ Some s) (λ s lawful. ap Some (slot_back s lawful)) m.slots
     (each_true is_lawful_slot m.slots (lawful_slots m accepted))) in
-    let texts = any_back m accepted 11 OemStrings texts_told (if_some m.oem_strings) refl (λ texts. refl) in
-    let dimms = any_back m accepted 17 device_body dimm_told m.dimms refl (λ d. ap Some (dimm_back d)) in
+    let texts = any_back m accepted 11 OemStrings texts_told texts_type (if_some m.oem_strings) refl (λ texts. refl) in
+    let dimms = any_back m accepted 17 device_body dimm_told dimm_type m.dimms refl (λ d. ap Some (dimm_back d)) in
     let ranges = ranges_back m accepted in
     rw (texts, first_if_some m.oem_strings, system, firmware, first_given m.firmware, chassis, first_given m.chassis, sockets, dimms, ranges, slots) refl

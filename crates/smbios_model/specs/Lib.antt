@@ -12,6 +12,7 @@ pub mod BootInformation
 pub mod Structures
 pub mod Anchor
 pub mod MachineStructures
+pub mod ToldParts
 pub mod Smbios
 pub use Rattle.vt_bytes.specs.Numbers
 pub use Rattle.vt_bytes.specs.View

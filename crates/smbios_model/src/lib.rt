@@ -16,7 +16,6 @@ mod machine_structures;
 mod mapped_address;
 mod memory_array;
 mod memory_device;
-mod oem_strings;
 mod processor_information;
 mod slot_information;
 mod smbios;
@@ -41,4 +40,5 @@ pub use structure_types::{
     OEM_STRINGS_TYPE, PROCESSOR_TYPE, SLOT_TYPE, SYSTEM_TYPE,
 };
 pub use system_information::{SystemInfo, system_of, uuid_field};
+pub use texts::{copies_of, three_copies_of, two_copies_of};
 pub use units::BYTES_IN_MIB;

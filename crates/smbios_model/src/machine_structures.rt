@@ -13,11 +13,11 @@ use crate::chassis_information::chassis_of;
 use crate::mapped_address::mapped_of;
 use crate::memory_array::{ARRAY_HANDLE, array_of};
 use crate::memory_device::device_of;
-use crate::oem_strings::oem_strings_of;
 use crate::processor_information::processor_of;
 use crate::slot_information::slot_of;
 use crate::smbios::{Body, Structure};
 use crate::system_information::system_of;
+use crate::texts::copies_of;
 use machine_desc::{Chassis, Dimm, Firmware, Machine, MemRange, Slot, Socket, System};
 use std::alloc::Global;
 use vt_outside::{List, OutOfMemory, Text};
@@ -233,7 +233,7 @@ fn push_oem_strings(
     push(
         structures,
         0x0E00,
-        Body::OemStrings(oem_strings_of(alloc, texts)?),
+        Body::OemStrings(copies_of(alloc, texts)?),
     )
 }
 

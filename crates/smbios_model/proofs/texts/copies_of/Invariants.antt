@@ -1,5 +1,5 @@
 use Rattle.std.proofs.Common.{◌≡◌, take}
-use Rattle.smbios_model.proofs.oem_strings.oem_strings_of.Given as goal
+use Rattle.smbios_model.proofs.texts.copies_of.Given as goal
 
 abbrev pub invariant-loop-text : goal.invariant-loop-text
 invariant-loop-text l = l.copies ≡ take l.text-index l.texts
