@@ -2,7 +2,8 @@
 //! that of ACPI tables (ACPI 6.5, 5.2.5).
 //!
 //! An anchor stands on a multiple of 16 below 1 MiB. The contract is that the least valid one of each kind is found exactly, and that
-//! the structures that the SMBIOS anchor leads to are read exactly where the memory shows them, and else their first fault.
+//! the structures that the SMBIOS anchor leads to are read exactly where the memory shows them, and else their first fault. The machine of an
+//! inventory, [`describe`], is passed on.
 #![tactic(auto)]
 
 mod acpi;
@@ -21,4 +22,5 @@ pub use fault::ScanFault;
 pub use inventory::scan;
 pub use rsdp::find_rsdp;
 pub use smbios::scan_smbios;
+pub use table_describe::{DescribeFault, describe};
 pub use view::Seen;

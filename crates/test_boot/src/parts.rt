@@ -1,117 +1,11 @@
 //! Descriptions with every part that SMBIOS tells, and the dumps of the machines that they describe.
 
 use crate::dumps::is_dumped;
-use fixtures::{BOOTED, Run, boot, copy_of, ends_in, is_same};
+use fixtures::{BOOTED, EVERY_PART, EVERY_PART_DUMP, Run, boot, copy_of, ends_in, is_same};
 use std::alloc::Global;
 use std::test::Fail;
 use vmtables::{State, World};
 use vt_outside::{Bytes, OutOfMemory};
-
-// Each part with each key, and a slot with none.
-const EVERY_PART: &str = "version = 1
-top_mib = 2048
-oem_strings = [\"EX-1\", \"made for tests\"]
-
-[system]
-manufacturer = \"Example Co\"
-product = \"Server\"
-version = \"1\"
-serial = \"S-0001\"
-sku = \"EX-SRV-1\"
-family = \"Servers\"
-uuid = \"6f1a5e0c-2b4d-4c7e-9a38-0d5c1b7e42f9\"
-
-[firmware]
-vendor = \"Example\"
-version = \"1.0\"
-date = \"01/02/2024\"
-major = 1
-minor = 2
-
-[chassis]
-manufacturer = \"Example Co\"
-version = \"B2\"
-serial = \"C-0001\"
-asset = \"A-0001\"
-sku = \"EX-CHS-1\"
-kind = 23
-
-[[socket]]
-designation = \"CPU 0\"
-manufacturer = \"Example Co\"
-version = \"EX-8\"
-serial = \"P-0001\"
-asset = \"A-0002\"
-part = \"EX-CPU-8\"
-cores = 8
-threads = 16
-mhz = 2600
-
-[[dimm]]
-locator = \"DIMM 0\"
-bank = \"Bank 0\"
-manufacturer = \"Example Co\"
-serial = \"M-0001\"
-asset = \"A-0003\"
-part = \"EX-MEM-2\"
-size_mib = 2048
-speed = 3200
-
-[[range]]
-base_mib = 0
-size_mib = 2048
-node = 0
-
-[[slot]]
-designation = \"SLOT 1\"
-kind = 0xA5
-width = 8
-used = true
-id = 258
-bus = 3
-device = 31
-function = 5
-
-[[slot]]
-";
-
-const EVERY_PART_DUMP: &str = "top 80000000 fill 00
-000f0000 5f534d335fd5180300000100fe010000
-000f0010 0000007f000000000000000000000000
-7f000000 00180000010200e80300080000000000
-7f000010 000000100102ffff4578616d706c6500
-7f000020 312e300030312f30322f323032340000
-7f000030 011b0001010203040c5e1a6f4d2b7e4c
-7f000040 9a380d5c1b7e42f90605064578616d70
-7f000050 6c6520436f0053657276657200310053
-7f000060 2d303030310045582d5352562d310053
-7f000070 65727665727300000316000301170203
-7f000080 04030303020000000000000000054578
-7f000090 616d706c6520436f00423200432d3030
-7f0000a0 303100412d303030310045582d434853
-7f0000b0 2d310000043000040103010200000000
-7f0000c0 0000000003000000280a280a4101ffff
-7f0000d0 ffffffff040506080810020001000800
-7f0000e0 080010004350552030004578616d706c
-7f0000f0 6520436f0045582d3800502d30303031
-7f000100 00412d303030320045582d4350552d38
-7f000110 00000911000901a50804010201010000
-7f000120 0003fd534c4f54203100000911010900
-7f000130 01010301000001000000000000000b05
-7f000140 000e0245582d31006d61646520666f72
-7f000150 20746573747300001017001003030300
-7f000160 002000feff0100000000000000000000
-7f000170 00112800110010feffffffffff000809
-7f000180 000102070200800c0304050600000000
-7f000190 00800c00000000000044494d4d203000
-7f0001a0 42616e6b2030004578616d706c652043
-7f0001b0 6f004d2d3030303100412d3030303300
-7f0001c0 45582d4d454d2d320000131f00130000
-7f0001d0 0000ffff1f0000100100000000000000
-7f0001e0 0000000000000000000000200b002000
-7f0001f0 00000000000000007f04007f00000000
-end
-";
 
 // Counts of cores at the border of their byte; sizes of modules at the border of their field, and the greatest one; ranges that end below
 // 4 TiB, at 4 TiB, and at the greatest address.

@@ -2,10 +2,11 @@
 //! QEMU's tables.
 
 use crate::agree::both_tell;
-use crate::memories::{mend, put, put_digits};
+use crate::memories::put_digits;
 use crate::rsdp::rsdp_of;
 use crate::{iasl, qemu};
 use anchor_scan::Seen;
+use fixtures::{mend, put};
 use guest_memory::GuestMemory;
 use std::alloc::Global;
 use std::process::Abort;

@@ -1,10 +1,10 @@
 //! The greatest tables that are bounded: an XSDT of 256 entries, and a SLIT of 1,024 nodes; and an MCFG of 2^20 allocations.
 
 use crate::agree::agree;
-use crate::memories::{mend, put};
 use crate::rsdp::rsdp_of;
 use crate::told::told;
 use anchor_scan::Seen;
+use fixtures::{mend, put};
 use guest_memory::GuestMemory;
 use std::alloc::Global;
 use std::process::Abort;

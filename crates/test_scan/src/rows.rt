@@ -2,9 +2,12 @@
 //! hand from ACPI 6.5, 5.2.
 
 use crate::agree::both_tell;
-use crate::memories::{Put, memory_of, mend_all, mend_rsdp_at, put_all};
+use crate::memories::mend_rsdp_at;
 use anchor_scan::Seen;
-use fixtures::{WITH_ACPI_AND_HPET_DUMP, WITH_APIC_DUMP, WITH_NODES_DUMP, WITH_POWER_DUMP};
+use fixtures::{
+    Put, WITH_ACPI_AND_HPET_DUMP, WITH_APIC_DUMP, WITH_NODES_DUMP, WITH_POWER_DUMP, memory_of,
+    mend_all, put_all,
+};
 use guest_memory::GuestMemory;
 use std::alloc::Global;
 use std::process::Abort;

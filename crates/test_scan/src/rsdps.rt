@@ -1,7 +1,7 @@
 //! RSDPs in the memory of a guest, and which of them is found. They were made by hand from ACPI 6.5, 5.2.5.
 
-use crate::memories::{Put, clear_all, put_all};
 use anchor_scan::find_rsdp;
+use fixtures::{Put, clear_all, put_all};
 use guest_memory::GuestMemory;
 use std::alloc::Global;
 use std::process::Abort;

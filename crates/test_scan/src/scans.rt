@@ -1,10 +1,9 @@
 //! Memories of guests, each with a change, and what a scan from both anchors tells of it.
 
-use crate::memories::{Put, memory_of, mend_all, put_all};
 use crate::told::{are_words, push_generation, push_tables};
 use crate::words::{push_fault, push_name, push_number};
 use anchor_scan::{ScanFault, scan};
-use fixtures::{EMPTY_DUMP, WITH_POWER_DUMP};
+use fixtures::{EMPTY_DUMP, Put, WITH_POWER_DUMP, memory_of, mend_all, put_all};
 use guest_memory::GuestMemory;
 use smbios_decode::SmbiosFault;
 use std::alloc::Global;

@@ -4,7 +4,6 @@
 ghost use Rattle.std.specs.Prelude.{IfOk};
 ghost use Rattle.machine_desc.specs.Rules.{IsAccepted};
 
-use crate::memories::memory_of;
 use crate::told::are_words;
 use anchor_scan::scan;
 use desc_toml::laws::read_machine_is_accepted;
@@ -15,7 +14,7 @@ use fixtures::{
     WITH_ALL_OF_POWER, WITH_ALL_OF_POWER_DUMP, WITH_APIC, WITH_APIC_DUMP, WITH_DEVICES,
     WITH_DEVICES_DUMP, WITH_GENERATION, WITH_GENERATION_DUMP, WITH_INTERRUPTS,
     WITH_INTERRUPTS_DUMP, WITH_NODES, WITH_NODES_DUMP, WITH_POWER, WITH_POWER_AND_HPET,
-    WITH_POWER_AND_HPET_DUMP, WITH_POWER_DUMP,
+    WITH_POWER_AND_HPET_DUMP, WITH_POWER_DUMP, memory_of,
 };
 use guest_memory::GuestMemory;
 use machine_desc::Machine;

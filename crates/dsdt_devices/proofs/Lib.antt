@@ -1,0 +1,9 @@
+pub mod FirstTold
+pub mod Views
+pub mod BusTerms
+pub mod ToldOfLists
+pub mod ToldOfMachines
+pub mod NamedValues
+pub mod PortsBack
+pub mod BridgeBack
+pub mod DevicesBack

@@ -1,0 +1,10 @@
+use Rattle.std.proofs.Common.{◌≡◌, ◌++◌, map, drop}
+use Rattle.std.specs.List.{filter_map}
+use Rattle.aml_terms.specs.Trees.{view}
+use Rattle.dsdt_devices.specs.BusTerms.{bus_terms}
+use Rattle.dsdt_devices.specs.Told.{uart_in}
+use Rattle.dsdt_devices.proofs.uart.uarts_in.Given as goal
+
+abbrev pub invariant-loop-term : goal.invariant-loop-term
+invariant-loop-term l =
+    l.uarts ++ filter_map uart_in (bus_terms (map view (drop l.term-index l.terms))) ≡ filter_map uart_in (bus_terms (map view l.terms))

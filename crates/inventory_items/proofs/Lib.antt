@@ -1,0 +1,2 @@
+pub mod EqualItems
+pub mod EqualRecords

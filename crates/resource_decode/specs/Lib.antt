@@ -1,0 +1,2 @@
+pub mod Items
+pub use Rattle.resource_items.specs.Templates

@@ -1,0 +1,3 @@
+pub mod MachineBack
+pub mod Failing
+pub mod Answers
