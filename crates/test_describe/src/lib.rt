@@ -7,6 +7,8 @@ mod changes;
 #[cfg(test)]
 mod descriptions;
 #[cfg(test)]
+mod large_server;
+#[cfg(test)]
 mod machines;
 #[cfg(test)]
 mod made;

@@ -1,6 +1,7 @@
 //! Machines that are got back from their inventories.
 
-use crate::descriptions::{EVERY_KEY, MINIMAL, OF_32_PROCESSORS, SERVER};
+use crate::descriptions::{EVERY_KEY, MINIMAL, SERVER};
+use crate::large_server::OF_32_PROCESSORS;
 use anchor_scan::describe;
 use desc_toml::read_machine;
 use fixtures::{
