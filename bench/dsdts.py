@@ -1,11 +1,13 @@
 #!/usr/bin/env python3
-"""Writes dumps with a great DSDT, on which `decode --list` is measured. It serves bench/run.sh and is no part of the product.
+"""Writes dumps with a great DSDT, on which `decode` and `decode --list` are measured. It serves bench/run.sh and is no part of the product.
 
 usage: dsdts.py KIND BYTES FILE
 
 The DSDT has at most BYTES bytes, and an FADT leads to it. KIND is one of these:
 
   names    names of words, one after the other
+  short    names of zeros, one after the other, which is the least that a term may have: 6 bytes each
+  buffer   one name of a buffer of zeros
   zeros    one package of zeros, more than a package may have, which is told once all of them are read
   scopes   scopes that nest as deep as they may, each of which holds the next one and nothing else; the last holds empty scopes
 """
@@ -31,6 +33,15 @@ def names(size):
     return b"".join(name_of(segment, value) for segment in itertools.islice(segments(), size // (5 + len(value))))
 
 
+def short(size):
+    return name_of(b"ZERO", b"\0") * (size // 6)
+
+
+def buffer(size):
+    body = b"\x0c" + (size - 32).to_bytes(4, "little") + bytes(size - 32)
+    return name_of(b"DATA", b"\x11" + length_of(len(body)) + body)
+
+
 def zeros(size):
     """A package of the most values by its count, and of zeros up to the end by its length."""
     body = bytes([MOST_VALUES]) + bytes(size - 16)
@@ -50,7 +61,7 @@ def scopes(size):
     return terms
 
 
-KINDS = {"names": names, "zeros": zeros, "scopes": scopes}
+KINDS = {"names": names, "short": short, "buffer": buffer, "zeros": zeros, "scopes": scopes}
 
 
 def dump(terms):

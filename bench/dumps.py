@@ -1,5 +1,5 @@
 #!/usr/bin/env python3
-"""Writes dumps that make much work, on which `decode --list` is measured. It serves bench/run.sh and is no part of the product.
+"""Writes dumps that make much work, on which `decode` and `decode --list` are measured. It serves bench/run.sh and is no part of the product.
 
 usage: dumps.py KIND BYTES FILE
 
@@ -11,6 +11,8 @@ The dump has at most BYTES bytes; an input may have 67,108,864. KIND is one of t
   reverse       the same rows the other way round, of which the second is out of order
   structures    SMBIOS structures of 6 bytes each, the least that one may have, in as many rows as fit
   entries       an SRAT of entries of 2 bytes each, the least that one may have, in as many rows as fit
+  fill          a MADT of entries of 3 bytes each, all of them the fill byte, so that they have no rows: up to the top of memory where BYTES is
+                what an input may have, and fewer in proportion
   tables        an XSDT that names as many tables as it may, 256 where BYTES is what an input may have and fewer in proportion, one within
                 the other, each up to the top of memory, which has bytes at random in as many rows as fit; each sums to zero
 """
@@ -78,8 +80,8 @@ def structures(size):
     return dump_text(memory)
 
 
-def with_xsdt(addresses):
-    memory = Memory(TOP, 0)
+def with_xsdt(addresses, fill=0):
+    memory = Memory(TOP, fill)
     memory.write(RSDP, pointer_to(XSDT))
     memory.write(XSDT, xsdt_of(addresses))
     return memory
@@ -90,6 +92,14 @@ def entries(size):
     memory = with_xsdt([HIGH])
     taken = min(16 * most_rows(size, others=len(memory.rows)), UPPER_WINDOW_SIZE)
     memory.write(HIGH, table_of(b"SRAT", bytes(12) + b"\xff\x02" * ((taken - 48) // 2)))
+    return dump_text(memory)
+
+
+def fill(size):
+    """Entries of type 3 and length 3 (ACPI 6.5, 5.2.12); it stands for the NMI sources, which aren't read."""
+    body = UPPER_WINDOW_SIZE * size // MOST_BYTES - HEADER.size
+    memory = with_xsdt([HIGH], fill=3)
+    memory.write(HIGH, table_of(b"APIC", bytes(8) + b"\3\3\3" * ((body - 8) // 3)))
     return dump_text(memory)
 
 
@@ -116,6 +126,7 @@ KINDS = {
     "reverse": reverse,
     "structures": structures,
     "entries": entries,
+    "fill": fill,
     "tables": tables,
 }
 

@@ -1,8 +1,9 @@
 #!/usr/bin/env bash
 # Compares `vmtables boot` and `vmtables build` for each description of examples/ and for great ones, `vmtables load` for large
-# containers and for one of a machine of QEMU, and `vmtables decode --list` for the dumps of descriptions and for a long one, with other
-# programs, run side by side in one run; and so `aml_again`, which reads AML terms and writes them again. It prints ratios, what ours takes
-# over what the other program takes, and for some inputs the peak of memory in MiB. Then it prints what `decode --list` takes of dumps that
+# containers and for one of a machine of QEMU, `vmtables decode` and `decode --list` for the dumps of descriptions and for a long one, and
+# `vmtables gen` for two numbers of processors, with other programs or one another, run side by side in one run; and so `aml_again`, which reads
+# AML terms and writes them again. It prints ratios, what ours takes over what the other program takes, for `gen` the instructions too where
+# perf or valgrind counts them, and for some inputs the peak of memory in MiB. Then it prints what `decode` and `decode --list` take of dumps that
 # make much work, by many rows or tables, or by a great DSDT. Nothing is proved or judged here.
 #
 # usage: bench/run.sh [ROUNDS]     each program is run ROUNDS times, 11 if nothing is said; medians are compared
@@ -24,10 +25,14 @@ few_terms=$((64 << 10))
 most_input=$((64 << 20))   # bytes of the longest dumps that make much work, and parts of it
 parts=(1 10 100)
 terms=(names packages) # kinds of bench/aml.py
-hostile=(random unbroken rows reverse structures entries tables) # kinds of bench/dumps.py
+hostile=(random unbroken rows reverse structures entries fill tables) # kinds of bench/dumps.py
 devices=(bridge processors)            # descriptions of bench/descriptions.py, of devices of which a DSDT tells
 dsdts=(names zeros scopes)             # kinds of bench/dsdts.py, and how many bytes the DSDT of each has
 dsdt_sizes=($((4 << 20)) $((1 << 20)))
+short_sizes=($((24 << 20)) $((12 << 20)) $((3 << 20))) # bytes of a DSDT of shortest names: the first is as many as a dump has room for
+buffer_sizes=($((32 << 20)) $((4 << 20)))              # of one of a buffer of fill bytes, which has no rows: the first is all of RAM above 1 MiB
+described=server                       # the example whose dump is decoded beside the readers of its tables
+processors=(4096 1024)                 # of the machines of gen
 
 # against WHAT INPUT WORD..: one more program to compare with, what it reads from standard input, and its words.
 against() {
@@ -56,10 +61,19 @@ add_description() {
     against "dmidecode on its SMBIOS structures" /dev/null dmidecode --from-dump "$folder/smbios.bin"
     tables=("$folder"/*.aml)
     [ "${#tables[@]}" -eq 0 ] || against "iasl -d on its ACPI tables" /dev/null iasl -d "${tables[@]}"
+    against_compiler "$folder"
     name="build $(basename "$1" .toml)"
     against "build" "$1" "$program" build
     against "the program's --version" /dev/null "$program" --version
     against "cat of as many bytes as the description has" "$1" cat
+    against_compiler "$folder"
+}
+
+# against_compiler FOLDER: where the tables there have a DSDT, iasl, which makes one again of the text that it made of it.
+against_compiler() {
+    [ -e "$1/DSDT.aml" ] && command -v iasl >/dev/null || return 0
+    [ -e "$1/text.dsl" ] || iasl -d -p "$1/text" "$1/DSDT.aml" >/dev/null 2>&1 </dev/null || exit 1
+    against "iasl on the text of its DSDT" /dev/null iasl -p "$1/made" "$1/text.dsl"
 }
 
 # make_script FILE LINE: makes a program of a line of shell.
@@ -89,18 +103,65 @@ add_list() {
     against "boot | cat" "$1" "$folder/copied"
 }
 
+# The description of the machine of a dump, once add_list has made what it is compared with.
+add_decode() {
+    local name folder=$work/$described
+    name="decode $described"
+    against "decode" "$folder/dump" "$program" decode
+    against "the program's --version" /dev/null "$program" --version
+    against "decode --list" "$folder/dump" "$program" decode --list
+    [ ! -x "$folder/readers" ] || against "dmidecode and iasl -d on its tables" /dev/null "$folder/readers"
+    name="boot|decode $described"
+    make_script "$folder/there_and_back" "'$program' boot | '$program' decode"
+    against "boot | decode" "$root/examples/$described.toml" "$folder/there_and_back"
+    against "boot" "$root/examples/$described.toml" "$program" boot
+}
+
+# The machines of gen, the greatest one beside one of a fourth of its processors.
+add_gen() {
+    local name="gen ${processors[0]}"
+    against "gen" /dev/null "$program" gen "${processors[0]}"
+    against "gen ${processors[1]}" /dev/null "$program" gen "${processors[1]}"
+    against "the program's --version" /dev/null "$program" --version
+}
+
+# instructions WORD..: how many instructions the program runs in user mode, told by perf or else by valgrind; nothing where neither tells it.
+instructions() {
+    local told=
+    if command -v perf >/dev/null; then
+        perf stat -x, -e instructions:u -o "$work/counted" "$program" "$@" >/dev/null 2>&1 </dev/null
+        told=$(awk -F, '$3 ~ /^instructions/ && $1 ~ /^[0-9]+$/ { print $1 }' "$work/counted")
+    fi
+    if [ -z "$told" ] && command -v valgrind >/dev/null; then
+        told=$(valgrind --tool=callgrind --callgrind-out-file=/dev/null "$program" "$@" 2>&1 >/dev/null </dev/null |
+            sed -n 's/.*Collected : \([0-9]*\).*/\1/p')
+    fi
+    echo "$told"
+}
+
+compare_instructions() {
+    local many few
+    many=$(instructions gen "${processors[0]}")
+    few=$(instructions gen "${processors[1]}")
+    if [ -z "$many" ] || [ -z "$few" ]; then
+        echo "skipped: instructions, which neither perf nor valgrind tells"
+        return
+    fi
+    awk -v many="$many" -v few="$few" -v what="gen ${processors[0]} over gen ${processors[1]}" \
+        'BEGIN { printf "instructions of %s: %d over %d, %.3f\n", what, many, few, many / few }'
+}
+
 # add_devices NAME: a description of devices, of whose DSDT iasl makes a text, and a DSDT again of that.
 add_devices() {
     local name folder=$work/$1 description=$work/$1.toml command
     mkdir "$folder"
     "$program" boot <"$description" >"$folder/dump" && python3 "$root/tools/dump_tables.py" "$folder/dump" "$folder" || exit 1
-    ! command -v iasl >/dev/null || iasl -d -p "$folder/text" "$folder/DSDT.aml" >/dev/null 2>&1 </dev/null || exit 1
     for command in boot build; do
         name="$command $1"
         against "$command" "$description" "$program" "$command"
         against "the program's --version" /dev/null "$program" --version
         against "iasl -d on its DSDT" /dev/null iasl -d "$folder/DSDT.aml"
-        against "iasl on the text of its DSDT" /dev/null iasl -p "$folder/made" "$folder/text.dsl"
+        against_compiler "$folder"
     done
     name="list $1"
     against "decode --list" "$folder/dump" "$program" decode --list
@@ -184,7 +245,8 @@ compare_memory() {
     shift
     /usr/bin/time -f %M -o "$work/peak" "$program" "$@" <"$input" >"$work/output" || return
     what=${input#"$work"/}
-    what="$1 ${what#"$root"/examples/}"
+    what="$* ${what#"$root"/examples/}"
+    [ "$input" != /dev/null ] || what=$*
     awk -v held="$guest_memory" -v given="$(stat -c %s "$input")" -v what="$what" \
         '{ printf "peak memory of %s: %.1f MiB, with an input of %.1f and guest memory of %.1f\n", what, $1 / 1024, given / 2 ^ 20, held / 2 ^ 20 }' \
         "$work/peak"
@@ -199,6 +261,9 @@ compare_all_memory() {
     for input in large many full random writes; do
         compare_memory "$work/$input.container" load
     done
+    compare_memory /dev/null gen "${processors[0]}"
+    compare_memory "$work/server/dump" decode
+    compare_memory "$work/processors/dump" decode
     compare_memory "$work/server/dump" decode --list
     compare_memory "$work/rows.dump" decode --list
     compare_memory "$work/processors/dump" decode --list
@@ -207,24 +272,33 @@ compare_all_memory() {
     done
 }
 
-# measure_dump WRITER KIND BYTES WHAT: what the program takes of a dump that makes much work, of the kind that a program of this folder writes
-# for so many bytes, and what it says.
+# measure_dump WRITER KIND BYTES WHAT: what both commands take of a dump that makes much work, of the kind that a program of this folder writes
+# for so many bytes, and what they say.
 measure_dump() {
-    local status says
     python3 "$root/bench/$1" "$2" "$3" "$work/hostile.dump" || exit 1
-    /usr/bin/time -q -f '%e %M' -o "$work/peak" "$program" decode --list <"$work/hostile.dump" >"$work/output" 2>"$work/said"
+    measure_command "$4" decode
+    measure_command "$4" decode --list
+    rm -f "$work/hostile.dump"
+}
+
+# measure_command WHAT WORD..: what the program takes of that dump with the words.
+measure_command() {
+    local status says what=$1
+    shift
+    /usr/bin/time -q -f '%e %M' -o "$work/peak" "$program" "$@" <"$work/hostile.dump" >"$work/output" 2>"$work/said"
     status=$?
     says=$(head -1 "$work/said")
-    awk -v kind="$4" -v given="$(stat -c %s "$work/hostile.dump")" -v held="$guest_memory" -v status="$status" \
-        -v says="${says:-$(wc -l <"$work/output") lines, $(stat -c %s "$work/output") bytes}" \
-        '{ printf "%-11s %10.2f %10.1f %8.2f %10.1f %6d  %s\n", kind, given / 2 ^ 20, held / 2 ^ 20, $1, $2 / 1024, status, says }' "$work/peak"
-    rm -f "$work/hostile.dump" "$work/output"
+    awk -v kind="$what" -v words="$*" -v given="$(stat -c %s "$work/hostile.dump")" -v held="$guest_memory" -v status="$status" \
+        -v says="${says:-$(wc -l <"$work/output") lines, $(stat -c %s "$work/output") bytes}" '{
+            printf "%-11s %-13s %10.2f %10.1f %8.2f %10.1f %6d  %s\n", kind, words, given / 2 ^ 20, held / 2 ^ 20, $1, $2 / 1024, status, says
+        }' "$work/peak"
+    rm -f "$work/output"
 }
 
 measure_dumps() {
     local kind part size
-    echo "decode --list of dumps that make much work, run once; sizes in MiB"
-    printf '%-11s %10s %10s %8s %10s %6s  %s\n' dump input "guest RAM" seconds peak status says
+    echo "decode and decode --list of dumps that make much work, run once; sizes in MiB"
+    printf '%-11s %-13s %10s %10s %8s %10s %6s  %s\n' dump command input "guest RAM" seconds peak status says
     for kind in "${hostile[@]}"; do
         for part in "${parts[@]}"; do
             measure_dump dumps.py "$kind" $((most_input / part)) "$kind"
@@ -234,6 +308,12 @@ measure_dumps() {
         for size in "${dsdt_sizes[@]}"; do
             measure_dump dsdts.py "$kind" "$size" "DSDT $kind"
         done
+    done
+    for size in "${short_sizes[@]}"; do
+        measure_dump dsdts.py short "$size" "DSDT short"
+    done
+    for size in "${buffer_sizes[@]}"; do
+        measure_dump dsdts.py buffer "$size" "DSDT buffer"
     done
 }
 
@@ -248,6 +328,8 @@ done
 for description in "${devices[@]}"; do
     add_devices "$description"
 done
+add_decode
+add_gen
 add_long_list
 python3 "$root/bench/containers.py" "$work" || exit 1
 # random is the last, since add_long_dump goes on with its group
@@ -261,6 +343,7 @@ for kind in "${terms[@]}"; do
     add_terms "$kind"
 done
 python3 "$root/bench/compare.py" "$rounds" "$work/programs" "$work/output"
+compare_instructions
 if [ -x /usr/bin/time ]; then
     compare_all_memory
     measure_dumps

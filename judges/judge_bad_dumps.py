@@ -1,6 +1,6 @@
 #!/usr/bin/env python3
-"""Judges the line that `vmtables decode --list` tells of bytes that are no dump, and of memories whose tables have a fault (docs/FORMATS.md
-has the faults). It is no part of the product: it serves the checks of judges/run.sh alone.
+"""Judges the line that `vmtables decode --list`, and `decode` alone, tell of bytes that are no dump, and of memories whose tables have a fault
+(docs/FORMATS.md has the faults). It is no part of the product: it serves the checks of judges/run.sh alone.
 
 usage: judge_bad_dumps.py PROGRAM MINIMAL WITH_HPET
 
@@ -204,8 +204,9 @@ def is_found(listed, status, line):
 
 def case_faults(program, case):
     what, given, status, line, told = case
-    listed = list_of(program, given)
+    listed, decoded = list_of(program, given), list_of(program, given, options=())
     yield from (f"{what}: {fault}" for fault in [*end_faults(listed, status, line), *told])
+    yield from (f"{what}, decoded: {fault}" for fault in end_faults(decoded, status, line))
     if not is_found(listed, status, line):
         yield f"no judge: {what}: nothing is wrong with another line"
 

@@ -49,10 +49,10 @@ class NotTold(Exception):
     """A tool ends with a fault, or tells something else than it was asked."""
 
 
-def list_of(program, memory):
-    """How `decode --list` of a memory ends. Bytes that are no memory's are given as they are."""
+def list_of(program, memory, options=("--list",)):
+    """How `decode --list`, or `decode` with other options, of a memory ends. Bytes that are no memory's are given as they are."""
     given = memory if isinstance(memory, bytes) else dump_text(memory)
-    run = subprocess.run([program, "decode", "--list"], input=given, capture_output=True)
+    run = subprocess.run([program, "decode", *options], input=given, capture_output=True)
     return Listed(run.returncode, run.stdout.decode("latin-1"), run.stderr.decode("latin-1"))
 
 

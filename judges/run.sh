@@ -8,10 +8,12 @@
 # description, and judge_load.py judges the memory that it leaves of them; of a description it must be the memory that `boot` leaves,
 # and of a machine what SeaBIOS leaves in its guest, as judge_guest.py compares them. What `vmtables decode --list` prints of the dumps of
 # the descriptions, of the memory of QEMU's machines, and of tables that others made is judged by what dmidecode and iasl tell of the same
-# bytes (judge_list.py), and what it tells of bad dumps and of memories with a fault by judge_bad_dumps.py. AML terms that iasl compiles must come
-# back as they are from `aml_again`, which reads terms and writes them again. Debian's kernel of Linux boots on the memory of two descriptions,
-# and what it finds there must be what is described (linux_guest.py). Last, the commands that README.md shows must print what it says. Nothing
-# is proved here.
+# bytes (judge_list.py), and what it tells of bad dumps and of memories with a fault by judge_bad_dumps.py. What `vmtables decode` prints of
+# the dumps of descriptions, of drawn ones too, must be what is described, and boot to the same dump; `vmtables gen` must count what the
+# machine has that it generates (judge_round_trips.py); and of memories that are no machine's `decode` must tell the first item that fails
+# (judge_items.py). AML terms that iasl compiles must come back as they are from `aml_again`, which reads terms and writes them again. Debian's
+# kernel of Linux boots on the memory of two descriptions, and what it finds there must be what is described (linux_guest.py). Last, the
+# commands that README.md shows must print what it says. Nothing is proved here.
 #
 # usage: judges/run.sh [PROGRAM]     PROGRAM stands for ./vmtables
 #
@@ -272,7 +274,28 @@ judge_templates() {
     judge_list templates
 }
 
-# Has the program refuse dumps that are none, and memories with a fault.
+# Has descriptions, those of the machines of gen and drawn ones among them, go to their dumps and back. Those that bench/descriptions.py writes
+# are there once the greatest one was judged.
+judge_round_trips() {
+    local said
+    description="round trips"
+    echo "$description"
+    said=$(python3 "$here/judge_round_trips.py" "$program" examples/*.toml "$here/linux_server.toml" \
+        "$work"/{greatest,bridge,processors}.toml 2>&1) || { fault judge_round_trips.py "the descriptions" "$said"; return; }
+    echo "  decode and gen: $said"
+}
+
+# Has the program refuse to describe memories without a fault that are no machine's: the one that boot left of the description with every key,
+# with a change.
+judge_items() {
+    local said
+    description="memories that are no machine's"
+    echo "$description"
+    said=$(python3 "$here/judge_items.py" "$program" "$work/every-key/dump" 2>&1) || { fault judge_items.py "the items" "$said"; return; }
+    echo "  decode: $said"
+}
+
+# Has the program refuse dumps that are none, and memories with a fault, listed and decoded.
 judge_bad_dumps() {
     local said
     description="bad dumps"
@@ -284,7 +307,7 @@ judge_bad_dumps() {
         { fault vmtables boot "$(cat "$folder/said")"; return; }
     said=$(python3 "$here/judge_bad_dumps.py" "$program" "$folder/minimal" "$folder/hpet" 2>&1)
     case $? in
-    0) echo "  decode --list: $said" ;;
+    0) echo "  decode and decode --list: $said" ;;
     3) echo "  skipped: $said" ;;
     *) fault judge_bad_dumps.py "the lines" "$said" ;;
     esac
@@ -529,6 +552,8 @@ judge_all() {
     judge_examples
     judge_greatest
     judge_few_devices
+    judge_round_trips
+    judge_items
     judge_templates
     judge_bad_dumps
     judge_terms

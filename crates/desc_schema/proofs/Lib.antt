@@ -8,7 +8,10 @@ pub mod Least
 pub mod OneValue
 pub mod Saying
 pub mod Fitting
-pub mod Writing
+pub mod Putting
+pub mod WalkedAgain
+pub mod Shallow
+pub mod WriterSteps
 pub mod UuidText
 pub mod EachTable
 pub mod Named

@@ -12,6 +12,7 @@ ghost use Rattle.desc_schema.specs.Deep.{WalksAreDeepEnough};
 ghost use Rattle.desc_schema.specs.Says.{WalkGivesWhatIsSaid};
 ghost use Rattle.desc_schema.specs.Fits.{WalkedValuesFit};
 ghost use Rattle.desc_schema.specs.Written.{IsReadBack, hyphenated, WrittenValuesAreWalked};
+ghost use Rattle.desc_schema.specs.Written.{WrittenDocumentsAreShallow, WrittenDocumentsHaveValidDates};
 
 /// Says that `walk_document` has one answer for a document and a schema, aside from want of memory.
 pub fn one_answer_is_given()
@@ -48,9 +49,22 @@ pub fn walked_values_fit()
 {}
 
 /// Says that the document that is written of values, in the schema's order, is walked as these values again, however UUIDs are
-/// spelled so that they are read back. The values fit the schema, whose names and words differ, and whose defaults are of their kind.
+/// spelled so that they are read back. The values fit the schema, whose names and words differ, whose numbers are integers of TOML, and
+/// whose defaults are of their kind.
 pub fn written_values_are_walked()
     ensures { WrittenValuesAreWalked }
+{}
+
+/// Says that in the document that is written of values, whatever they are, tables and arrays are inside one another at most twice as
+/// deep as the schema has tables, so that a reader of TOML with a limit on depth takes it.
+pub fn written_documents_are_shallow()
+    ensures { WrittenDocumentsAreShallow }
+{}
+
+/// Says that the document that is written of values, whatever they are, has no date-time that a text of TOML can't have, so that it
+/// can always be printed.
+pub fn written_documents_have_valid_dates()
+    ensures { WrittenDocumentsHaveValidDates }
 {}
 
 /// Says that a UUID that is spelled in the hyphenated form, in lower case (RFC 9562, section 4), is read back.

@@ -16,6 +16,10 @@
 //!
 //! A record takes its values out of the list by position, and tests nothing: the laws say that they fit their kinds. They say too
 //! that the document that is written of values is walked as these values again, so that a description can be printed from its values.
+//!
+//! `write_document` writes that document: it takes the values out of the list, in the schema's order, and gives the root table. Its
+//! contract is exact too, want of memory aside. Laws say how deep the table is at most, and that no date-time in it stops it from being
+//! printed.
 #![tactic(auto)]
 
 mod fault;
@@ -27,9 +31,11 @@ mod single;
 mod taking;
 mod value;
 mod walk;
+mod writing;
 
 pub use fault::{KeyPlace, Place, WalkError, WalkFault};
 pub use names::key_name;
 pub use schema::{Key, Kind, Otherwise, Scalar, TableSchema};
 pub use value::{Value, Values};
 pub use walk::walk_document;
+pub use writing::write_document;

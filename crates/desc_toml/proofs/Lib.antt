@@ -5,3 +5,10 @@ pub mod Says
 pub mod Shown
 pub mod Faulty
 pub mod Fields
+pub mod Valued
+pub mod ValuedParts
+pub mod ValuedDevices
+pub mod LawfulParts
+pub mod ValuedMachine
+pub mod SoundSchema
+pub mod Printed

@@ -209,7 +209,7 @@ numa_keys =
 -- table 17: numbers of 64 and 8 bits, and the tables of its windows and its routes
 abbrev pub bridge_keys : List Field
 bridge_keys =
-    number 0 (codes "ecam") 0xFFFFFFFFFFFFFFFF 0 ∷
+    number 0 (codes "ecam") 0x7FFFFFFFFFFFFFFF 0 ∷
     number 1 (codes "last_bus") 0xFF 255 ∷
     parts 2 (codes "window") 18 ∷
     parts 3 (codes "route") 19 ∷ []
@@ -218,8 +218,8 @@ bridge_keys =
 abbrev pub window_keys : List Field
 window_keys =
     key 0 (codes "kind") (One (Word (codes "io" ∷ codes "mem32" ∷ codes "mem64" ∷ []))) None ∷
-    number_given 1 (codes "base") 0xFFFFFFFFFFFFFFFF ∷
-    number_given 2 (codes "size") 0xFFFFFFFFFFFFFFFF ∷
+    number_given 1 (codes "base") 0x7FFFFFFFFFFFFFFF ∷
+    number_given 2 (codes "size") 0x7FFFFFFFFFFFFFFF ∷
     flag 3 (codes "prefetch") false ∷ []
 
 -- table 19: numbers of 8, 8 and 32 bits

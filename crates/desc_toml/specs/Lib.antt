@@ -1,5 +1,6 @@
 pub mod Keys
 pub mod Values
+pub mod Printed
 pub mod Reading
 pub mod Tables
 pub mod Lines

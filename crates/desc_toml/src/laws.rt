@@ -1,6 +1,8 @@
 //! Laws of what bytes are read as. Each is the contract of a function that does nothing.
 
 ghost use Rattle.std.specs.Prelude.{◌≡◌, None, Some, ◌↔◌, ℕ, List};
+ghost use Rattle.std.specs.Str.{IsUtf8};
+ghost use Rattle.toml.specs.Parse.{parse_document};
 ghost use Rattle.machine_desc.specs.declared.machine.Machine.{Machine};
 ghost use Rattle.machine_desc.specs.Rules.{IsAccepted, HasFittingUuids};
 ghost use Rattle.machine_desc.specs.Fields.{HasFittingFields};
@@ -9,6 +11,7 @@ ghost use Rattle.desc_toml.specs.declared.fault.DescFault.{DescFault};
 ghost use Rattle.desc_toml.specs.declared.fault.DescFault.TheVariants.{OutOfMemory};
 ghost use Rattle.desc_schema.specs.Names.{NumbersAscend, NumbersAreNames};
 ghost use Rattle.desc_toml.specs.Keys.{schema};
+ghost use Rattle.desc_toml.specs.Printed.{document_of};
 ghost use Rattle.desc_toml.specs.Tables.{Describes};
 
 /// Says that at most one machine is read from given bytes.
@@ -44,4 +47,11 @@ pub fn told_fault_is_of_the_bytes()
 pub fn keys_are_named_by_their_numbers()
     ensures ascend { NumbersAscend schema }
     ensures named { NumbersAreNames schema }
+{}
+
+/// Says that a machine is read from each text of the document that it is printed as: the machine is accepted, and its numbers fit their
+/// fields, as those of each machine of the program do.
+pub fn a_printed_machine_is_read_again()
+    ensures { (m : Machine) → IsAccepted m → HasFittingFields m → (text : List ℕ) → IsUtf8 text → parse_document text ≡ Some (document_of m)
+        → Reads text m }
 {}

@@ -238,7 +238,7 @@ const NUMA: &[Key] = &[
 ];
 
 const BRIDGE: &[Key] = &[
-    number!(0, "ecam", 0xFFFF_FFFF_FFFF_FFFF, 0),
+    number!(0, "ecam", 0x7FFF_FFFF_FFFF_FFFF, 0),
     number!(1, "last_bus", 0xFF, 255),
     parts!(2, "window", 18),
     parts!(3, "route", 19),
@@ -246,8 +246,8 @@ const BRIDGE: &[Key] = &[
 
 const WINDOW: &[Key] = &[
     key!(0, "kind", WINDOW_KIND, Otherwise::Required),
-    number!(1, "base", 0xFFFF_FFFF_FFFF_FFFF),
-    number!(2, "size", 0xFFFF_FFFF_FFFF_FFFF),
+    number!(1, "base", 0x7FFF_FFFF_FFFF_FFFF),
+    number!(2, "size", 0x7FFF_FFFF_FFFF_FFFF),
     flag!(3, "prefetch", false),
 ];
 

@@ -17,3 +17,4 @@ pub mod ReadAgain
 pub mod Fronts
 pub mod Given
 pub mod Faults
+pub mod FeedsOfDump

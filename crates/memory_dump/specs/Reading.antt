@@ -1,10 +1,10 @@
 -- How a dump is read: line by line, up to the first fault.
 use Rattle.std.specs.Prelude.{◌≡◌, ℕ, ◌+◌, ◌*◌, ◌%◌, Bool, ◌&&◌, not, ◌==◌, List, [], ◌∷◌, length, take, drop, Option, Some, None, Result, Ok, Err}
 use Rattle.std.specs.Prelude.{nat_lt, nat_le, slice_index, if◌then◌else◌}
-use Rattle.std.specs.List.{count_by}
 use Rattle.std.specs.Str.{bytes_eq}
 use Rattle.std.specs.Int.{w32, from_be_bytes}
 use Rattle.vt_bytes.specs.Memory.{Memory, is_ram, with_bytes}
+use Rattle.vt_outside.specs.Stream.{line_feeds}
 use Rattle.memory_dump.specs.Dump.{header_line, last_line, row_text}
 use Rattle.memory_dump.specs.Rows.{blank, is_fill}
 use Rattle.memory_dump.specs.declared.row.Row.{Row}
@@ -31,7 +31,7 @@ lines_of (byte ∷ bytes) = one_more byte (lines_of bytes)
 
 -- How many line feeds the bytes have: what is told with a text that was cut off.
 abbrev pub whole_lines : List ℕ → ℕ
-whole_lines bytes = count_by (λ byte. byte == 10) bytes
+whole_lines bytes = line_feeds bytes
 
 -- the number below 16 that a digit stands for, and another byte for any
 abbrev pub digit_value : ℕ → ℕ

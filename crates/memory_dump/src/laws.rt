@@ -1,6 +1,6 @@
 //! Laws over all memories and all texts, each the contract of a function that does nothing.
 
-ghost use Rattle.std.specs.Prelude.{◌≡◌, ◌≢◌, ◌<◌, ◌^◌, ◌++◌, ℕ, List, [], Ok, Err, Some};
+ghost use Rattle.std.specs.Prelude.{◌≡◌, ◌≢◌, ◌+◌, ◌<◌, ◌^◌, ◌++◌, ℕ, List, [], Ok, Err, Some, length};
 ghost use Rattle.vt_bytes.specs.Memory.{Memory, IsMemory};
 ghost use Rattle.memory_dump.specs.declared.fault.DumpFault.TheVariants.{OutOfMemory as NoMemory, Truncated};
 ghost use Rattle.memory_dump.specs.declared.row.Row.{Row};
@@ -8,11 +8,17 @@ ghost use Rattle.memory_dump.specs.Dump.{dump};
 ghost use Rattle.guest_memory.specs.Bytes.{HoldsBytes};
 ghost use Rattle.memory_dump.specs.Rows.{AreRows, IsSpelled, Rows, memory_of, rows_of, text_of};
 ghost use Rattle.memory_dump.specs.Reading.{read_so, row_of};
+ghost use Rattle.vt_outside.specs.Stream.{line_feeds};
 
 /// States that the text of a memory is that of its rows which aren't all the fill byte, and that these are a lawful dump's.
 pub fn a_text_is_that_of_rows()
     ensures text { (m : Memory) → dump m ≡ text_of (rows_of m) }
     ensures lawful { (m : Memory) → IsMemory m → HoldsBytes m → AreRows (rows_of m) }
+{}
+
+/// States that a dump has a line for each of its rows, and two more: the first one, and the last.
+pub fn a_dump_has_a_line_for_each_row()
+    ensures { (m : Memory) → IsMemory m → HoldsBytes m → line_feeds (dump m) ≡ length (rows_of m).rows + 2 }
 {}
 
 /// States that the rows of the memory that a lawful dump's rows make are these rows, and that the rows of a memory make it.

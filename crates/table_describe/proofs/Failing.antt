@@ -50,3 +50,19 @@ none_fails i m item accepted fits is failing =
 -- and the machine is the candidate of its inventory
 pub its_candidate : (i : Inventory) (m : Machine) → IsAccepted m → HasFittingFields m → inventory_of m ≡ i → candidate i ≡ m
 its_candidate i m accepted fits is = ap candidate (sym is) ∙ machine_back m accepted fits
+
+-- at most one item is the first in which two inventories differ
+one_difference : (number : ℕ) (those : List (Inventory → Inventory → Type 0)) (a b : Inventory) (item other : ℕ) → IsFirstDifference number those a b item
+    → IsFirstDifference number those a b other → item ≡ other
+one_difference number [] a b item other is also = absurd is
+one_difference number (Agree ∷ more) a b item other (inl first) (inl first_too) = first.0 ∙ sym first_too.0
+one_difference number (Agree ∷ more) a b item other (inl first) (inr later) = absurd (first.1 later.0)
+one_difference number (Agree ∷ more) a b item other (inr later) (inl first) = absurd (first.1 later.0)
+one_difference number (Agree ∷ more) a b item other (inr later) (inr later_too) = one_difference (number + 1) more a b item other later.1 later_too.1
+
+-- and at most one is the first that fails
+pub one_fails_first : (i : Inventory) (item other : ℕ) → IsFirstFailing i item → IsFirstFailing i other → item ≡ other
+one_fails_first i item other (inl first) (inl first_too) = first.0 ∙ sym first_too.0
+one_fails_first i item other (inl first) (inr later) = absurd (first.1 later.0)
+one_fails_first i item other (inr later) (inl first) = absurd (first.1 later.0)
+one_fails_first i item other (inr later) (inr later_too) = one_difference 1 items i (inventory_of (candidate i)) item other later.1 later_too.1

@@ -6,11 +6,15 @@ use std::test::Fail;
 use vt_outside::{ListSource, Source};
 
 // A few of each kind; `vt_words` says which words are a command, and has tests of its own.
-static NO_COMMANDS: [&[&str]; 30] = [
+static NO_COMMANDS: [&[&str]; 33] = [
     &[],
     // other commands, now or later
     &["lint"],
     &["gen"],
+    &["gen", "0"],
+    &["gen", "4097"],
+    &["gen", "04"],
+    &["gen", "1", "1"],
     &["--help"],
     &["--version"],
     // other spellings
@@ -35,8 +39,7 @@ static NO_COMMANDS: [&[&str]; 30] = [
     &["build", "--policy", "low"],
     &["build", "--seed", "0"],
     &["boot", "--top", "64"],
-    // a list without the word that asks for it, with it twice, and with other words
-    &["decode"],
+    // a list that is asked for twice, and with other words
     &["decode", "--list", "--list"],
     &["decode", "x"],
     &["decode", "--list", "x"],

@@ -20,7 +20,11 @@ struct Row(&'static str, Command);
 const COMMANDS: &[Row] = &[
     // each command with its defaults
     Row("|build", Command::Build),
-    Row("|decode|--list", Command::Decode),
+    Row("|decode", Command::Decode),
+    Row("|decode|--list", Command::List),
+    Row("|gen|1", Command::Gen(1)),
+    Row("|gen|300", Command::Gen(300)),
+    Row("|gen|4096", Command::Gen(4096)),
     Row("|boot", Command::Boot(DEFAULTS)),
     Row(
         "|load",

@@ -2,8 +2,8 @@
 //! always the same.
 
 use fixtures::{
-    MINIMAL, SEEDED_ROOM, WITH_DEVICES, WITH_GENERATION, WITH_INTERRUPTS, WITH_NODES, decode, ends,
-    is_same, listed, sink, source, status_of,
+    MINIMAL, SEEDED_ROOM, WITH_DEVICES, WITH_GENERATION, WITH_INTERRUPTS, WITH_NODES, ends,
+    is_same, listed, listing, sink, source, status_of,
 };
 use std::alloc::Global;
 use std::test::Fail;
@@ -146,7 +146,7 @@ fn is_listed_in(
     dump: &mut ListSink,
 ) -> Result<(), Fail> {
     boot(alloc, words, description, dump)?;
-    ends(alloc, &decode(list, dump.taken()), &listed(list))
+    ends(alloc, &listing(list, dump.taken()), &listed(list))
 }
 
 fn boot(alloc: Global, words: &[&str], description: &str, dump: &mut ListSink) -> Result<(), Fail> {

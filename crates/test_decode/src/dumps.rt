@@ -1,6 +1,6 @@
 //! Bytes that are no dump, and the first line of each that is at fault.
 
-use fixtures::{Ending, decode, ends};
+use fixtures::{Ending, ends, listing};
 use std::alloc::Global;
 use std::test::Fail;
 use vmtables::{State, Status};
@@ -73,7 +73,7 @@ fn bytes_that_are_no_dump(rt: HostRuntime) -> Result<(), Fail> {
 }
 
 fn is_no_dump(alloc: Global, bytes: &str, say: &str) -> Result<(), Fail> {
-    ends(alloc, &decode(say, bytes.as_bytes()), &no_dump(say))
+    ends(alloc, &listing(say, bytes.as_bytes()), &no_dump(say))
 }
 
 // Bytes that are no dump, in a world in which nothing was begun.

@@ -4,8 +4,8 @@
 use fixtures::{
     EMPTY_DUMP, LONG_TEXTS_DUMP, MINIMAL_DUMP, ON_THE_BORDER_DUMP, QUOTES_DUMP,
     WITH_ACPI_AND_HPET_DUMP, WITH_ACPI_DUMP, WITH_ALL_OF_POWER_DUMP, WITH_APIC_DUMP,
-    WITH_DEVICES_DUMP, WITH_INTERRUPTS_DUMP, WITH_NODES_DUMP, WITH_POWER_DUMP, decode, ends,
-    listed,
+    WITH_DEVICES_DUMP, WITH_INTERRUPTS_DUMP, WITH_NODES_DUMP, WITH_POWER_DUMP, ends, listed,
+    listing,
 };
 use std::alloc::Global;
 use std::test::Fail;
@@ -207,5 +207,5 @@ fn are_listed(alloc: Global, rows: &[Row]) -> Result<(), Fail> {
 }
 
 fn is_listed(alloc: Global, dump: &str, list: &str) -> Result<(), Fail> {
-    ends(alloc, &decode(list, dump.as_bytes()), &listed(list))
+    ends(alloc, &listing(list, dump.as_bytes()), &listed(list))
 }

@@ -1,7 +1,7 @@
 //! Streams that fail, streams in pieces, and streams that tell nothing.
 
 use fixtures::{
-    Ending, MINIMAL_DUMP, READ_FAULT, ROOM, Run, decode, ends, front, is_same, listed, status_of,
+    Ending, MINIMAL_DUMP, READ_FAULT, ROOM, Run, ends, front, is_same, listed, listing, status_of,
 };
 use std::alloc::Global;
 use std::test::Fail;
@@ -47,7 +47,7 @@ fn from<'a>(case: &'a str, piece: usize, failing_reads: &'a [u32]) -> Run<'a> {
     Run {
         piece,
         failing_reads,
-        ..decode(case, MINIMAL_DUMP.as_bytes())
+        ..listing(case, MINIMAL_DUMP.as_bytes())
     }
 }
 
@@ -81,7 +81,7 @@ fn sink_fails(
     let run = Run {
         room,
         failing_writes,
-        ..decode(case, MINIMAL_DUMP.as_bytes())
+        ..listing(case, MINIMAL_DUMP.as_bytes())
     };
     let ending = Ending {
         status: Status::WriteFault,
@@ -98,7 +98,7 @@ fn sinks_that_have_just_room(rt: HostRuntime) -> Result<(), Fail> {
     let run = Run {
         room: 76,
         failing_writes: &[4],
-        ..decode("room for the list", MINIMAL_DUMP.as_bytes())
+        ..listing("room for the list", MINIMAL_DUMP.as_bytes())
     };
     ends(rt.alloc(), &run, &listed(LIST))
 }

@@ -1,7 +1,7 @@
 //! Dumps of memories whose tables have a fault, and the first one of each. The memories were made by a program apart from this one, from
 //! DSP0134 and ACPI 6.5.
 
-use fixtures::{Ending, WITH_ACPI_AND_HPET_DUMP, copy_of, decode, ends};
+use fixtures::{Ending, WITH_ACPI_AND_HPET_DUMP, copy_of, ends, listing};
 use std::alloc::Global;
 use std::test::Fail;
 use vmtables::{State, Status};
@@ -229,7 +229,7 @@ fn are_refused(alloc: Global, rows: &[Row]) -> Result<(), Fail> {
 }
 
 fn is_refused(alloc: Global, dump: &[u8], say: &str) -> Result<(), Fail> {
-    ends(alloc, &decode(say, dump), &no_tables(say))
+    ends(alloc, &listing(say, dump), &no_tables(say))
 }
 
 // A digit of the signature of the HPET table, in its dump: that of the fifth half byte behind the address, in the seventh line.

@@ -1,7 +1,7 @@
 //! A world is as it was after a list, whether a machine is loaded in it or not, and whatever becomes of the list.
 
 use fixtures::{
-    BOOTED, Ending, MINIMAL, MINIMAL_DUMP, boot, booted, decode, ends_in, is_same, listed,
+    BOOTED, Ending, MINIMAL, MINIMAL_DUMP, boot, booted, ends_in, is_same, listed, listing,
 };
 use std::alloc::Global;
 use std::test::Fail;
@@ -31,7 +31,7 @@ fn lists_leave(alloc: Global, world: &mut World) -> Result<(), Fail> {
         state: State::Done,
         ..listed("smbios none\nacpi none\n")
     };
-    let another = decode("another memory", b"top 04100000 fill a5\nend\n");
+    let another = listing("another memory", b"top 04100000 fill a5\nend\n");
     ends_in(alloc, &another, world, &list)?;
     let refused = Ending {
         status: Status::DumpRefused,
@@ -39,7 +39,7 @@ fn lists_leave(alloc: Global, world: &mut World) -> Result<(), Fail> {
         out: Some(b""),
         ..BOOTED
     };
-    ends_in(alloc, &decode("no dump", b""), world, &refused)
+    ends_in(alloc, &listing("no dump", b""), world, &refused)
 }
 
 // The world still has the machine's top, and the checksum of its anchor at the lowest place of the F segment.

@@ -7,8 +7,6 @@ mod changes;
 #[cfg(test)]
 mod descriptions;
 #[cfg(test)]
-mod large_server;
-#[cfg(test)]
 mod machines;
 #[cfg(test)]
 mod made;

@@ -1,12 +1,12 @@
 //! Machines that are got back from their inventories.
 
 use crate::descriptions::{EVERY_KEY, MINIMAL, SERVER};
-use crate::large_server::OF_32_PROCESSORS;
 use anchor_scan::describe;
 use desc_toml::read_machine;
 use fixtures::{
-    EMPTY, EVERY_PART, ON_THE_BORDER, QUOTES, WITH_ACPI, WITH_ACPI_AND_HPET, WITH_ALL_OF_POWER,
-    WITH_APIC, WITH_DEVICES, WITH_GENERATION, WITH_INTERRUPTS, WITH_NODES, WITH_POWER,
+    EMPTY, EVERY_PART, OF_32_PROCESSORS, ON_THE_BORDER, QUOTES, WITH_ACPI, WITH_ACPI_AND_HPET,
+    WITH_ALL_OF_POWER, WITH_APIC, WITH_DEVICES, WITH_GENERATION, WITH_INTERRUPTS, WITH_NODES,
+    WITH_POWER,
 };
 use inventory_items::first_difference;
 use machine_desc::Machine;

@@ -11,7 +11,7 @@ use fixtures::{
     WITH_INTERRUPTS_DUMP, WITH_NODES_DUMP, WITH_POWER_DUMP, is_same, sink,
 };
 use guest_memory::GuestMemory;
-use memory_dump::{dump_to, read_dump, whole_lines};
+use memory_dump::{dump_to, read_dump, row_count, whole_lines};
 use std::alloc::Global;
 use std::test::Fail;
 use vt_outside::{Failed, ListSink};
@@ -138,4 +138,27 @@ fn has_lines(text: &[u8], count: u32) -> Result<(), Fail> {
         return Err(Fail::new(format_args!("a text is too long")));
     }
     is_same("a text", "whole lines", &whole_lines(text), &count)
+}
+
+// Dumps, and how many rows they have.
+static ROWS: [(&str, u32); 4] = [
+    ("top 04000000 fill 5a\nend\n", 0),
+    (EMPTY_DUMP, 5),
+    (MINIMAL_DUMP, 5),
+    (LONG_TEXTS_DUMP, 29),
+];
+
+#[test]
+fn rows_are_counted(rt: HostRuntime) -> Result<(), Fail> {
+    for (text, count) in &ROWS {
+        has_rows(rt.alloc(), text, *count)?;
+    }
+    Ok(())
+}
+
+fn has_rows(alloc: Global, text: &str, count: u32) -> Result<(), Fail> {
+    let memory = read(alloc, text.as_bytes())?;
+    let rows = row_count(&memory);
+    drop(memory);
+    is_same(text, "rows", &rows, &count)
 }

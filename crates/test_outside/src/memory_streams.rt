@@ -4,7 +4,8 @@ use crate::asserts::{Call, Reading, SIX, answers_all, are_bytes, reads_all};
 use std::alloc::Global;
 use std::test::Fail;
 use vt_outside::{
-    Bytes, Failed, List, ListSink, ListSource, OutOfMemory, SureSink, SureSource, is_listed,
+    Bytes, Failed, LineCounter, List, ListSink, ListSource, OutOfMemory, SureSink, SureSource,
+    is_listed,
 };
 
 #[test]
@@ -52,6 +53,21 @@ static SURE: [Call; 2] = [Call::Write(b"abc", Ok(3)), Call::Flush(Ok(()))];
 #[test]
 fn a_sink_that_never_fails(rt: HostRuntime) {
     answers_all(&rt, &mut SureSink::new(), &SURE);
+}
+
+static LINES: [Call; 4] = [
+    Call::Write(b"a\nb\n", Ok(4)),
+    Call::Write(b"c", Ok(1)),
+    Call::Write(b"\n", Ok(1)),
+    Call::Flush(Ok(())),
+];
+
+#[test]
+fn a_sink_that_counts_line_feeds(rt: HostRuntime) {
+    let mut lines = LineCounter::new();
+    answers_all(&rt, &mut lines, &LINES);
+    let count = lines.line_feeds();
+    assert_eq!(rt; count, 3);
 }
 
 #[test]

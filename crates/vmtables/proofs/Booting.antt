@@ -1,5 +1,5 @@
 -- A machine's image that was loaded is a machine that is booted.
-use Rattle.std.proofs.Common.{◌≡◌, ℕ, ◌≤◌, ◌+◌, ◌<◌, List, [], ◌++◌, map, Option, Some, None, Result, Ok, Err, IfOk, IfErr, IsSomeAnd, inl, inr}
+use Rattle.std.proofs.Common.{◌≡◌, ℕ, ◌≤◌, ◌+◌, ◌<◌, List, [], ◌++◌, map, Option, Some, None, Result, Ok, Err, IfOk, IfErr, OnOk, IsSomeAnd, inl, inr}
 use Rattle.std.proofs.Common.{refl, ap, sym, subst, ◌∙◌, append_assoc, append-nil, arith}
 use Rattle.std.specs.List.{flat_map}
 use Rattle.std.specs.Result.{IsErrAnd}
@@ -9,7 +9,6 @@ use Rattle.vt_bytes.proofs.Seen.{ram_from_test}
 use Rattle.vt_bytes.specs.Memory.{Memory, is_ram, at, seen}
 use Rattle.guest_memory.specs.Bytes.{HoldsBytes}
 use Rattle.machine_desc.specs.declared.machine.Machine.{Machine}
-use Rattle.desc_toml.specs.Reading.{Reads}
 use Rattle.loader_script.specs.declared.entry.Entry.{Entry}
 use Rattle.vt_outside.specs.File.{File}
 use Rattle.loader_script.specs.Left.{range_of}
@@ -40,7 +39,8 @@ use Rattle.load_states.specs.declared.event.Event.{Event}
 use Rattle.load_states.specs.Loads.{HasRun, IsLoadedOver}
 use Rattle.load_states.specs.LoadState.{memory_of, files_now, progress_of}
 use Rattle.load_states.specs.LoadState.{LoadState as Loading}
-use Rattle.vmtables.specs.Boot.{IsBooted, BootMakes, without_room, without_memory}
+use Rattle.desc_toml.specs.Reading.{Reads}
+use Rattle.vmtables.specs.Boot.{IsBooted, IsMachineBooted, BootMakes, FailsToBoot, not_booted, without_room, without_memory}
 use Rattle.vmtables.specs.Calls.{Answering, Seen}
 use Rattle.vmtables.specs.Loading.{IsImageLoaded, IsRefusedFree, FailsToLoad, ended_early, not_begun}
 use Rattle.vmtables.specs.declared.fault.Fault.{Fault}
@@ -162,12 +162,12 @@ has_room : (end : End) → end ≡ Done → (at : ℕ) → end ≡ NoRoom at →
 has_room end is at without = absurd (cc)
 
 -- the image's load is done: its machine is booted
-pub booted : (Gives : Answering) (setting : Setting) (bytes : List ℕ) (m : Machine) (items : List Item) (script : List Entry)
-    (before after : Seen) → AllFree Gives → Reads bytes m → IsBuilt m items script → total_size (image_items m) ≤ image_limit
+pub booted : (Gives : Answering) (setting : Setting) (m : Machine) (items : List Item) (script : List Entry)
+    (before after : Seen) → AllFree Gives → IsBuilt m items script → total_size (image_items m) ≤ image_limit
     → script_in (image_items m) ≡ Ok (image_script m)
     → (loaded : IsImageLoaded Gives (image_items m) (top_of m) setting (Ok tt) before after) → HoldsBytes (memory_of loaded.world)
-    → IsBooted Gives setting bytes before after
-booted Gives setting bytes m items script before after free read built small script_read loaded bytes_held =
+    → IsMachineBooted Gives setting m before after
+booted Gives setting m items script before after free built small script_read loaded bytes_held =
     let May : Answers = Gives after.place.begun in
     let world : Loading = loaded.world in
     let leaves : IsLoadedOver May (image_items m) (top_of m) setting.fill loaded.load.taken after.place.handed (Ok tt) world =
@@ -181,8 +181,6 @@ booted Gives setting bytes m items script before after free read built small scr
     let holds : HoldsFiles (memory_of world) (files_now world) =
     holds_files May (image_items m) (top_of m) setting.fill loaded.load.taken after.place.handed (Ok tt) world leaves bytes_held in
     record {
-      machine = m;
-      read = read;
       small = small;
       loaded = loaded;
       script = script_read;
@@ -258,39 +256,51 @@ refused_last Gives setting m why index before after script_read is loaded refusa
     subst (λ handed. IsRefusedFree May (top_of m) handed after.place.refused) (sym run.1.handed_are)
     (subst (IsRefusedFree May (top_of m) (map range_of (files_now world))) (sym asked) refusal)
 
--- what `boot` makes of a machine whose image failed to load
-pub boot_failed : (Gives : Answering) (setting : Setting) (bytes : List ℕ) (m : Machine) (items : List Item) (script : List Entry) (f : Fault) (before after : Seen)
-    → AllFree Gives → Reads bytes m → IsBuilt m items script → script_in (image_items m) ≡ Ok (image_script m)
-    → FailsToLoad Gives (image_items m) (top_of m) setting before after f → BootMakes Gives setting bytes before after (Err f)
-boot_failed Gives setting bytes m items script f before after free read built decoded (ended_early {why = why} loaded) =
+-- how the boot of a machine fails whose image failed to load
+boot_failed : (Gives : Answering) (setting : Setting) (m : Machine) (items : List Item) (script : List Entry) (f : Fault) (before after : Seen)
+    → AllFree Gives → IsBuilt m items script → script_in (image_items m) ≡ Ok (image_script m)
+    → FailsToLoad Gives (image_items m) (top_of m) setting before after f → FailsToBoot Gives setting m before after f
+boot_failed Gives setting m items script f before after free built decoded (ended_early {why = why} loaded) =
     elim (fails_for_room Gives setting m items script why before after free built decoded loaded) as
-    (λ _. BootMakes Gives setting bytes before after (Err (fault.Load why))) [
+    (λ _. FailsToBoot Gives setting m before after (fault.Load why)) [
       | room index is refusal ↦
-          subst (λ w. BootMakes Gives setting bytes before after (Err (fault.Load w))) (sym is)
-          (without_room m read (subst (λ w. IsImageLoaded Gives (image_items m) (top_of m) setting (Err w) before after) is loaded)
+          subst (λ w. FailsToBoot Gives setting m before after (fault.Load w)) (sym is)
+          (without_room (subst (λ w. IsImageLoaded Gives (image_items m) (top_of m) setting (Err w) before after) is loaded)
           (refused_last Gives setting m why index before after decoded is loaded refusal))
     ]
-boot_failed Gives setting bytes m items script f before after free read built decoded (not_begun unloaded) = without_memory m read unloaded
+boot_failed Gives setting m items script f before after free built decoded (not_begun unloaded) = without_memory unloaded
 
 -- a load that is done, after which memory holds bytes
 pub booted_so : (Gives : Answering) (setting : Setting) (m : Machine) (items : List Item) (script : List Entry) (before after : Seen)
     → AllFree Gives → IsBuilt m items script → total_size (image_items m) ≤ image_limit
     → IsImageLoaded Gives items (top_of m) setting (Ok tt) before after → IsSomeAnd after.world (λ w. HoldsBytes (memory_of w))
-    → (bytes : List ℕ) → Reads bytes m → IsBooted Gives setting bytes before after
-booted_so Gives setting m items script before after free built small loaded held bytes read =
+    → IsMachineBooted Gives setting m before after
+booted_so Gives setting m items script before after free built small loaded held =
     let its = subst (λ those. IsImageLoaded Gives those (top_of m) setting (Ok tt) before after) built.items_are loaded in
-    booted Gives setting bytes m items script before after free read built small (script_read m items script built small) its
+    booted Gives setting m items script before after free built small (script_read m items script built small) its
     (subst (λ seen. IsSomeAnd seen (λ w. HoldsBytes (memory_of w))) its.world_is held)
 
 -- and a load that ended with a fault
 pub failed_to_boot : (Gives : Answering) (setting : Setting) (m : Machine) (items : List Item) (script : List Entry) (before after : Seen)
     (f : Fault) (r : Result (Unit {0}) Fault) → AllFree Gives → IsBuilt m items script → total_size (image_items m) ≤ image_limit
     → FailsToLoad Gives items (top_of m) setting before after f → IsErrAnd r (λ ended. ended ≡ f)
-    → IfErr r (λ ended. (bytes : List ℕ) → Reads bytes m → BootMakes Gives setting bytes before after (Err ended))
+    → IfErr r (FailsToBoot Gives setting m before after)
 failed_to_boot Gives setting m items script before after f (Ok done) free built small failed is = absurd is
-failed_to_boot Gives setting m items script before after f (Err ended) free built small failed is = λ bytes read.
-    rw is (boot_failed Gives setting bytes m items script f before after free read built (script_read m items script built small)
+failed_to_boot Gives setting m items script before after f (Err ended) free built small failed is =
+    rw is (boot_failed Gives setting m items script f before after free built (script_read m items script built small)
     (subst (λ those. FailsToLoad Gives those (top_of m) setting before after f) built.items_are failed))
+
+-- the boot of the machine that bytes describe
+
+pub described_boot : (Gives : Answering) (setting : Setting) (bytes : List ℕ) (m : Machine) (before after : Seen) (r : Result (Unit {0}) Fault)
+    → Reads bytes m → OnOk r (IsMachineBooted Gives setting m before after) → OnOk r (IsBooted Gives setting bytes before after)
+described_boot Gives setting bytes m before after (Ok done) read is = record { machine = m; read = read; booted = is }
+described_boot Gives setting bytes m before after (Err f) read is = tt
+
+pub described_failed : (Gives : Answering) (setting : Setting) (bytes : List ℕ) (m : Machine) (before after : Seen) (r : Result (Unit {0}) Fault)
+    → Reads bytes m → IfErr r (FailsToBoot Gives setting m before after) → IfErr r (λ ended. BootMakes Gives setting bytes before after (Err ended))
+described_failed Gives setting bytes m before after (Ok done) read failed = tt
+described_failed Gives setting bytes m before after (Err f) read failed = not_booted m read failed
 
 -- a world's memory holds bytes, as its own call says
 pub held_by : (seen : Option Loading) (m : Memory) → IsSomeAnd seen (λ w. m ≡ memory_of w) → HoldsBytes m

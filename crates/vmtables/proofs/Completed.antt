@@ -19,19 +19,24 @@ use Rattle.command_acts.specs.Runs.{result_of}
 use Rattle.command_acts.specs.Script.{script_in}
 use Rattle.vm_image.specs.Image.{image_items}
 use Rattle.vt_words.specs.declared.command.Command.{Command as CommandOf}
-use Rattle.vt_words.specs.declared.command.Command.TheVariants.{Boot, Build, Load}
+use Rattle.vt_words.specs.declared.command.Command.TheVariants.{Boot, Build, Gen, Load}
 use Rattle.vt_words.specs.declared.command.LoadOptions.{LoadOptions}
 use Rattle.vt_words.specs.declared.setting.Setting.{Setting}
-use Rattle.vmtables.specs.Boot.{BootMakes, without_image, without_room, without_memory}
-use Rattle.vmtables.specs.Build.{BuildMakes, not_built}
+use Rattle.vmtables.specs.Boot.{BootMakes, FailsToBoot, too_large, not_built, without_room, without_memory}
+use Rattle.vmtables.specs.Boot as boot_made
+use Rattle.vmtables.specs.Build.{BuildMakes}
+use Rattle.vmtables.specs.Build as build_made
 use Rattle.vmtables.specs.Load.{LoadMakes, mib, not_read, not_loaded}
-use Rattle.vmtables.specs.Calls.{Answering, Input, Made, ReadsAll, Wrote, WasRead, Seen}
+use Rattle.vmtables.specs.Calls.{Answering, Input, Unread, Cut, Whole, Made, ReadsAll, ReadsNone, Wrote, WasRead, Seen}
 use Rattle.vmtables.specs.Complete.{Call, IsFed, HasRoom, IsDone, DescribesFew, RunsWhole}
 use Rattle.vmtables.specs.Described.{IsTooLarge}
+use Rattle.generated_machine.specs.Generated.{generated}
+use Rattle.vmtables.specs.Generate.{GenMakes, not_counted, plain}
 use Rattle.vmtables.specs.Loading.{IsImageLoaded, FailsToLoad, ended_early, not_begun}
 use Rattle.vmtables.specs.Outcome.{input_limit, status_of}
 use Rattle.vmtables.proofs.Ends.{ends_as, for_want, with_text, with_fault}
-use Rattle.vmtables.proofs.Refused.{IsUnbuilt, undescribed, too_large, no_memory, why_unbuilt, IsUnread, not_container, no_room, why_unread}
+use Rattle.vmtables.proofs.Refused.{IsUnbuilt, undescribed, of_large, no_memory, why_unbuilt, IsUnread, not_container, no_room, why_unread}
+use Rattle.vmtables.proofs.Refused.{IsUndescribed, none_read, unread, why_undescribed}
 use Rattle.vmtables.specs.declared.fault.Fault.{Fault}
 use Rattle.vmtables.specs.declared.status.Status.TheVariants as status
 
@@ -82,15 +87,29 @@ not_too_large bytes few large =
 -- bytes of which an image can be made fail for want of memory alone
 unbuilt_fault : (bytes : List ℕ) → DescribesFew bytes → (f : Fault) → IsUnbuilt bytes f → Completed (Err f)
 unbuilt_fault bytes few f (undescribed read) = absurd (cc)
-unbuilt_fault bytes few f (too_large large) = absurd (not_too_large bytes few large)
+unbuilt_fault bytes few f (of_large large) = absurd (not_too_large bytes few large)
 unbuilt_fault bytes few f no_memory = inr refl
+
+-- bytes of which a machine is read fail for want of memory alone
+undescribed_fault : (bytes : List ℕ) → DescribesFew bytes → (f : Fault) → IsUndescribed bytes f → Completed (Err f)
+undescribed_fault bytes few f (none_read read) = absurd (cc)
+undescribed_fault bytes few f unread = inr refl
+
+-- and so does the boot of a machine whose files are few, where no place was refused
+few_fault : (Gives : Answering) (setting : Setting) (m : Machine) (before after : Seen) → total_size (image_items m) ≤ image_limit
+    → (Rose before.place.refusals after.place.refusals → ⊥) → (f : Fault) → FailsToBoot Gives setting m before after f → Completed (Err f)
+few_fault Gives setting m before after few room f (too_large large same) = absurd (omega (arith, few, large))
+few_fault Gives setting m before after few room f (not_built same) = inr refl
+few_fault Gives setting m before after few room f (without_room {index = index} loaded refusal) = absurd (room (loaded.no_room index refl).0)
+few_fault Gives setting m before after few room f (without_memory unloaded) = inr refl
 
 boot_fault : (Gives : Answering) (setting : Setting) (bytes : List ℕ) (before after : Seen) → DescribesFew bytes
     → (Rose before.place.refusals after.place.refusals → ⊥) → (f : Fault) → BootMakes Gives setting bytes before after (Err f) → Completed (Err f)
-boot_fault Gives setting bytes before after few room f (without_image cannot same) = unbuilt_fault bytes few f (why_unbuilt bytes f cannot)
-boot_fault Gives setting bytes before after few room f (without_room {index = index} m read loaded refusal) =
-    absurd (room (loaded.no_room index refl).0)
-boot_fault Gives setting bytes before after few room f (without_memory m read unloaded) = inr refl
+boot_fault Gives setting bytes before after few room f (boot_made.not_read cannot same) =
+    undescribed_fault bytes few f (why_undescribed bytes f cannot)
+boot_fault Gives setting bytes before after few room f (boot_made.not_booted m read fails) =
+    let same : few.0 ≡ m = same_machine few.0 m (sym few.1 ∙ read) in
+    few_fault Gives setting m before after (subst (λ (those : Machine). total_size (image_items those) ≤ image_limit) same few.2) room f fails
 
 pub boot_completed : (Gives : Answering) (setting : Setting) (bytes : List ℕ) (call : Call Gives (Boot setting)) → DescribesFew bytes → IsFed bytes call
     → HasRoom call → IsDone call
@@ -101,7 +120,7 @@ boot_completed Gives setting bytes call few fed room =
     fed.had fed.within fed.read fed.written ran.did ran.read ran.wrote (boot_fault Gives setting bytes call.before call.after few room))
 
 build_fault : (bytes : List ℕ) (before after : Seen) → DescribesFew bytes → (f : Fault) → BuildMakes bytes before after (Err f) → Completed (Err f)
-build_fault bytes before after few f (not_built cannot same) = unbuilt_fault bytes few f (why_unbuilt bytes f cannot)
+build_fault bytes before after few f (build_made.not_built cannot same) = unbuilt_fault bytes few f (why_unbuilt bytes f cannot)
 
 pub build_completed : (Gives : Answering) (bytes : List ℕ) (call : Call Gives Build) → DescribesFew bytes → IsFed bytes call → IsDone call
 build_completed Gives bytes call few fed =
@@ -159,3 +178,27 @@ load_completed Gives options bytes items call read whole fed room =
     (whole_call (LoadMakes Gives options.top_mib options.setting) call.before call.after bytes ran.input ran.made call.answered.ended call.source call.source_after
     call.out call.out_after fed.had fed.within fed.read fed.written ran.did ran.read ran.wrote
     (load_ends Gives options.top_mib options.setting bytes items call.before call.after read whole))
+
+-- a call that reads nothing is done, or ends with a fault that it makes
+plain_call : (Makes : Seen → Seen → Made → Type 0) (before after : Seen) (in_all : Input) (made : Made) (ended : Result (Unit {0}) Fault)
+    (out out_after : SinkSeen) → (Rose out.faults out_after.faults → ⊥) → ReadsNone Makes before after in_all made → Wrote made ended out out_after
+    → ((f : Fault) → Makes before after (Err f) → Completed (Err f)) → Completed ended
+plain_call Makes before after Unread (Ok text) (Ok done) out out_after written did wrote own = inl refl
+plain_call Makes before after Unread (Ok text) (Err f) out out_after written did wrote own = absurd (written wrote.1.rose)
+plain_call Makes before after Unread (Err made) (Ok done) out out_after written did wrote own = absurd wrote
+plain_call Makes before after Unread (Err made) (Err f) out out_after written did wrote own =
+    subst (λ g. Completed (Err g)) (sym wrote.0) (own made did)
+plain_call Makes before after (Cut why) made ended out out_after written did wrote own = absurd did
+plain_call Makes before after (Whole bytes) made ended out out_after written did wrote own = absurd did
+
+gen_fault : (Gives : Answering) (processors : ℕ) (before after : Seen) → total_size (image_items (generated processors)) ≤ image_limit
+    → (Rose before.place.refusals after.place.refusals → ⊥) → (f : Fault) → GenMakes Gives processors before after (Err f) → Completed (Err f)
+gen_fault Gives processors before after few room f (not_counted fails) = few_fault Gives plain (generated processors) before after few room f fails
+
+pub gen_completed : (Gives : Answering) (processors : ℕ) (call : Call Gives (Gen processors)) → total_size (image_items (generated processors)) ≤ image_limit
+    → (Rose call.out.faults call.out_after.faults → ⊥) → HasRoom call → IsDone call
+gen_completed Gives processors call few written room =
+    let ran = call.answered.ran in
+    call_done Gives (Gen processors) call
+    (plain_call (GenMakes Gives processors) call.before call.after ran.input ran.made call.answered.ended call.out call.out_after
+    written ran.did ran.wrote (gen_fault Gives processors call.before call.after few room))

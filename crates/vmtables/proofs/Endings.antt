@@ -6,7 +6,7 @@ use Rattle.vt_bytes.specs.Memory.{IsMemory}
 use Rattle.guest_memory.specs.Bytes.{HoldsBytes}
 use Rattle.memory_dump.specs.Dump.{dump}
 use Rattle.vmtables.specs.Dumped.{IsDumpOf}
-use Rattle.vmtables.specs.Calls.{Answering, Seen, Unread, Whole, Cut, Made, ReadsAll, Ran, Streams, WasEnded, WasCut, TookWhole}
+use Rattle.vmtables.specs.Calls.{Answering, Seen, Unread, Whole, Cut, Made, ReadsAll, ReadsNone, Ran, Streams, WasEnded, WasCut, TookWhole}
 use Rattle.vmtables.specs.Causes.{input_fault}
 use Rattle.vmtables.specs.Does.{Does}
 use Rattle.vmtables.specs.Outcome.{input_limit, given_count, status_of, status_of_fault}
@@ -100,6 +100,23 @@ wrote Makes (Ok done) bytes text before after source source_after out out_after 
     record { input = Whole bytes; made = Ok text; did = makes; read = read; wrote = took }
 wrote Makes (Err f) bytes text before after source source_after out out_after read makes took failed front =
     record { input = Whole bytes; made = Ok text; did = makes; read = read; wrote = (failed, front) }
+
+-- A command that reads nothing, and makes no text.
+pub plain_refused : (Makes : Seen → Seen → Made → Type 0) (f : Fault) (r : Result (Unit {0}) Fault) (before after : Seen) (source : SourceSeen)
+    (out : SinkSeen) → Makes before after (Err f) → IsErrAnd r (λ ended. ended ≡ f) → Ran (ReadsNone Makes before after) r source source out out
+plain_refused Makes f (Ok done) before after source out made is = absurd is
+plain_refused Makes f (Err ended) before after source out made is =
+    record { input = Unread; made = Err f; did = made; read = refl; wrote = (is, refl) }
+
+-- A command that reads nothing, and wrote the text that it made, or a part of that.
+pub plain_wrote : (Makes : Seen → Seen → Made → Type 0) (r : Result (Unit {0}) Fault) (text : List ℕ) (before after : Seen) (source : SourceSeen)
+    (out out_after : SinkSeen) → Makes before after (Ok text)
+    → OnOk r (TookWhole text out out_after) → IfErr r (λ f. f ≡ fault.WriteFault) → OnErr r (TookFront text out out_after)
+    → Ran (ReadsNone Makes before after) r source source out out_after
+plain_wrote Makes (Ok done) text before after source out out_after makes took failed front =
+    record { input = Unread; made = Ok text; did = makes; read = refl; wrote = took }
+plain_wrote Makes (Err f) text before after source out out_after makes took failed front =
+    record { input = Unread; made = Ok text; did = makes; read = refl; wrote = (failed, front) }
 
 -- what is known of the memory of a world that was dumped
 pub world_dumped : (seen : Option LoadState) (world : LoadState) → seen ≡ Some world → IsSomeAnd seen (λ w. IsMemory (memory_of w))

@@ -11,4 +11,6 @@ pub mod BootEnds
 pub mod Given
 pub mod Ends
 pub mod Completed
+pub mod Counted
 pub mod Listed
+pub mod Told

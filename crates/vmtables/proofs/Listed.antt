@@ -1,7 +1,7 @@
 -- Calls of `decode --list` of which nothing outside failed: out took the list, or the first fault was told, or memory ran out.
-use Rattle.std.proofs.Common.{◌≡◌, ◌≢◌, ◌⊎◌, inl, inr, ℕ, List, ◌++◌, Some, Result, Ok, Err, IfErr, refl, ap, sym, subst, ◌∙◌}
+use Rattle.std.proofs.Common.{◌≡◌, ◌≢◌, ◌⊎◌, inl, inr, ℕ, List, ◌++◌, Result, Ok, Err, IfErr, refl, ap, sym, subst, ◌∙◌}
 use Rattle.std.proofs.lemmas.List.{append_cancel_left}
-use Rattle.vt_outside.specs.Stream.{SinkSeen, behind}
+use Rattle.vt_outside.specs.Stream.{SinkSeen, Bytes, behind}
 use Rattle.vt_bytes.specs.Memory.{Memory, seen}
 use Rattle.desc_toml.specs.Reading.{Reads}
 use Rattle.machine_desc.specs.declared.machine.Machine.{Machine}
@@ -16,12 +16,13 @@ use Rattle.anchor_scan.proofs.OneScan.{one_scan}
 use Rattle.command_acts.specs.declared.fault.LoadFault.TheVariants as load
 use Rattle.load_states.specs.LoadState.{memory_of}
 use Rattle.scan_text.specs.List.{list_of}
-use Rattle.vt_words.specs.declared.command.Command.TheVariants.{Boot, Decode}
+use Rattle.vt_words.specs.declared.command.Command.{Command}
+use Rattle.vt_words.specs.declared.command.Command.TheVariants.{Boot, List as Listing}
 use Rattle.vt_words.specs.declared.setting.Setting.{Setting}
 use Rattle.vmtables.specs.Boot.{BootMakes, booted}
-use Rattle.vmtables.specs.Calls.{Answering, Said, Seen, TookWhole, Wrote}
-use Rattle.vmtables.specs.Complete.{Call, IsDone, IsFed, IsListed, IsRefused}
-use Rattle.vmtables.specs.Decode.{CannotBeListed, DecodeMakes, DumpRefuses, DumpShows, listed, not_listed}
+use Rattle.vmtables.specs.Calls.{Answering, Made, ReadsAll, Said, Seen, TookWhole, Wrote}
+use Rattle.vmtables.specs.Complete.{Call, HasBooted, IsDone, IsFed, IsListed, IsRefused}
+use Rattle.vmtables.specs.Decode.{CannotBeListed, ListMakes, DumpRefuses, DumpShows, listed, not_listed}
 use Rattle.vmtables.specs.Dumped.{IsDumpOf}
 use Rattle.vmtables.specs.Outcome.{faulty_line, line_of, status_of, status_of_fault}
 use Rattle.vmtables.specs.declared.fault.Fault.{Fault}
@@ -45,7 +46,7 @@ abbrev scan_told : ScanFault → Result Inventory ScanFault
 scan_told why = Err why
 
 -- a dump's memory shows one inventory
-one_shown : (bytes : List ℕ) (a b : Inventory) → DumpShows bytes a → DumpShows bytes b → a ≡ b
+pub one_shown : (bytes : List ℕ) (a b : Inventory) → DumpShows bytes a → DumpShows bytes b → a ≡ b
 one_shown bytes a b is also =
     let same = one_memory also.memory is.memory bytes also.dumped is.dumped in
     let both : scanned a ≡ scanned b = one_scan is.memory.top (seen is.memory) (Ok a) (Ok b) is.shown
@@ -53,7 +54,7 @@ one_shown bytes a b is also =
     cc
 
 -- and then its tables have no fault
-never_both : (bytes : List ℕ) (inventory : Inventory) (why : ScanFault) → DumpShows bytes inventory → DumpRefuses bytes why → ⊥
+pub never_both : (bytes : List ℕ) (inventory : Inventory) (why : ScanFault) → DumpShows bytes inventory → DumpRefuses bytes why → ⊥
 never_both bytes inventory why is also =
     let same = one_memory also.memory is.memory bytes also.dumped is.dumped in
     let both : scanned inventory ≡ scan_told why = one_scan is.memory.top (seen is.memory) (Ok inventory) (Err why) is.shown
@@ -68,13 +69,13 @@ one_refused bytes a b is also =
     cc
 
 -- a dump has no fault of its own
-dump_is_read : (m : Memory) (bytes : List ℕ) (why : DumpFault) → IsDumpOf m bytes → read_so bytes ≡ Err why → ⊥
+pub dump_is_read : (m : Memory) (bytes : List ℕ) (why : DumpFault) → IsDumpOf m bytes → read_so bytes ≡ Err why → ⊥
 dump_is_read m bytes why is read =
     let both : dump_told why ≡ Ok m = sym read ∙ text_read bytes m is.lawful is.holds (sym is.text_is) in
     absurd (cc)
 
 -- so that of a dump whose memory shows an inventory nothing but memory is wanting
-shown_fault : (bytes : List ℕ) (inventory : Inventory) (f : Fault) → DumpShows bytes inventory → IsUnlisted bytes f → f ≡ fault.OutOfMemory
+pub shown_fault : (bytes : List ℕ) (inventory : Inventory) (f : Fault) → DumpShows bytes inventory → IsUnlisted bytes f → f ≡ fault.OutOfMemory
 shown_fault bytes inventory f is (no_dump {why = why} read line) = absurd (dump_is_read is.memory bytes why is.dumped read)
 shown_fault bytes inventory f is (tables {why = why} refuses) = absurd (never_both bytes inventory why is refuses)
 shown_fault bytes inventory f is refused.memory = refl
@@ -83,7 +84,7 @@ abbrev dump_fault : DumpFault → ℕ → Fault
 dump_fault why line = fault.Dump why line
 
 -- and bytes have one fault
-one_fault : (bytes : List ℕ) (a b : Fault) → a ≢ fault.OutOfMemory → b ≢ fault.OutOfMemory → IsUnlisted bytes a → IsUnlisted bytes b → a ≡ b
+pub one_fault : (bytes : List ℕ) (a b : Fault) → a ≢ fault.OutOfMemory → b ≢ fault.OutOfMemory → IsUnlisted bytes a → IsUnlisted bytes b → a ≡ b
 one_fault bytes a b some other (no_dump {why = why} {line = line} read at) (no_dump {why = also} {line = there} read_too at_too) =
     let told : dump_told why ≡ Err also = sym read ∙ read_too in
     let same : why ≡ also = cc in
@@ -99,12 +100,12 @@ one_fault bytes a b some other is refused.memory = absurd (other refl)
 -- What `decode --list` made of the bytes.
 
 made_of_shown : (bytes : List ℕ) (inventory : Inventory) (before after : Seen) (made : List ℕ) → DumpShows bytes inventory
-    → DecodeMakes bytes before after (Ok made) → made ≡ list_of inventory
+    → ListMakes bytes before after (Ok made) → made ≡ list_of inventory
 made_of_shown bytes inventory before after made is (listed others shows written same) =
     written ∙ ap list_of (one_shown bytes others inventory shows is)
 
 fault_of_shown : (bytes : List ℕ) (inventory : Inventory) (before after : Seen) (f : Fault) → DumpShows bytes inventory
-    → DecodeMakes bytes before after (Err f) → f ≡ fault.OutOfMemory
+    → ListMakes bytes before after (Err f) → f ≡ fault.OutOfMemory
 fault_of_shown bytes inventory before after f is (not_listed cannot same) = shown_fault bytes inventory f is (why_unlisted bytes f cannot)
 
 -- of a dump of a memory whose tables have no fault memory alone is wanting
@@ -117,15 +118,15 @@ sound_fault bytes m f dumped sound (tables {why = why} refuses) =
 sound_fault bytes m f dumped sound refused.memory = refl
 
 fault_of_sound : (bytes : List ℕ) (m : Memory) (before after : Seen) (f : Fault) → IsDumpOf m bytes → ((why : ScanFault) → Refuses (seen m) why → ⊥)
-    → DecodeMakes bytes before after (Err f) → f ≡ fault.OutOfMemory
+    → ListMakes bytes before after (Err f) → f ≡ fault.OutOfMemory
 fault_of_sound bytes m before after f dumped sound (not_listed cannot same) = sound_fault bytes m f dumped sound (why_unlisted bytes f cannot)
 
 -- Such a dump is listed.
-pub decode_done : (Gives : Answering) (bytes : List ℕ) (m : Memory) (call : Call Gives Decode) → IsDumpOf m bytes
+pub list_done : (Gives : Answering) (bytes : List ℕ) (m : Memory) (call : Call Gives Listing) → IsDumpOf m bytes
     → ((why : ScanFault) → Refuses (seen m) why → ⊥) → IsFed bytes call → IsDone call
-decode_done Gives bytes m call dumped sound fed =
+list_done Gives bytes m call dumped sound fed =
     let ran = call.answered.ran in
-    elim (ends_as DecodeMakes call.before call.after bytes ran.input ran.made call.answered.ended call.source call.source_after call.out call.out_after
+    elim (ends_as ListMakes call.before call.after bytes ran.input ran.made call.answered.ended call.source call.source_after call.out call.out_after
     fed.had fed.within fed.read fed.written ran.did ran.read ran.wrote) [
       | for_want ended ↦ inr (call.answered.status ∙ ap status_of ended)
       | with_text makes ended took ↦ inl (call.answered.status ∙ ap status_of ended)
@@ -134,11 +135,11 @@ decode_done Gives bytes m call dumped sound fed =
     ]
 
 -- The list of what the memory shows.
-pub decode_listed : (Gives : Answering) (bytes : List ℕ) (inventory : Inventory) (call : Call Gives Decode) → DumpShows bytes inventory → IsFed bytes call
+pub list_listed : (Gives : Answering) (bytes : List ℕ) (inventory : Inventory) (call : Call Gives Listing) → DumpShows bytes inventory → IsFed bytes call
     → IsListed inventory call
-decode_listed Gives bytes inventory call is fed =
+list_listed Gives bytes inventory call is fed =
     let ran = call.answered.ran in
-    elim (ends_as DecodeMakes call.before call.after bytes ran.input ran.made call.answered.ended call.source call.source_after call.out call.out_after
+    elim (ends_as ListMakes call.before call.after bytes ran.input ran.made call.answered.ended call.source call.source_after call.out call.out_after
     fed.had fed.within fed.read fed.written ran.did ran.read ran.wrote) [
       | for_want ended ↦ inr (call.answered.status ∙ ap status_of ended)
       | with_text {made = made} makes ended took ↦ inl (
@@ -151,23 +152,23 @@ decode_listed Gives bytes inventory call is fed =
 
 -- a fault of the bytes comes of no text
 text_of_refused : (bytes made : List ℕ) (before after : Seen) (f : Fault) → f ≢ fault.OutOfMemory → CannotBeListed bytes f
-    → DecodeMakes bytes before after (Ok made) → ⊥
+    → ListMakes bytes before after (Ok made) → ⊥
 text_of_refused bytes made before after f other cannot (listed inventory shows written same) =
     other (shown_fault bytes inventory f shows (why_unlisted bytes f cannot))
 
 -- Whether a fault is want of memory.
-data IsWant (f : Fault) : Type 0 where
+pub data IsWant (f : Fault) : Type 0 where
   is_memory : f ≡ fault.OutOfMemory → IsWant f
   is_other : (f ≡ fault.OutOfMemory → ⊥) → IsWant f
 
-is_want : (bytes : List ℕ) (f : Fault) → IsUnlisted bytes f → IsWant f
+pub is_want : (bytes : List ℕ) (f : Fault) → IsUnlisted bytes f → IsWant f
 is_want bytes f (no_dump read line) = is_other (λ is. cc)
 is_want bytes f (tables refuses) = is_other (λ is. cc)
 is_want bytes f refused.memory = is_memory refl
 
 -- which fault `decode --list` made of bytes that have one
 fault_of_refused : (bytes : List ℕ) (before after : Seen) (f made : Fault) → f ≢ fault.OutOfMemory → CannotBeListed bytes f
-    → DecodeMakes bytes before after (Err made) → (made ≡ f) ⊎ (made ≡ fault.OutOfMemory)
+    → ListMakes bytes before after (Err made) → (made ≡ f) ⊎ (made ≡ fault.OutOfMemory)
 fault_of_refused bytes before after f made some cannot (not_listed cannot_too same) =
     let is = why_unlisted bytes f cannot in
     let is_too = why_unlisted bytes made cannot_too in
@@ -176,16 +177,18 @@ fault_of_refused bytes before after f made some cannot (not_listed cannot_too sa
       | is_other another ↦ inl (one_fault bytes made f another some is_too is)
     ]
 
--- The first fault of the bytes, and its line.
-pub decode_told : (Gives : Answering) (bytes : List ℕ) (f : Fault) (call : Call Gives Decode) → f ≢ fault.OutOfMemory → CannotBeListed bytes f
-    → IsFed bytes call → IsRefused f call
-decode_told Gives bytes f call some cannot fed =
+-- A call of which nothing outside failed tells this fault, if its command makes no other of the bytes, and no text.
+pub refused_call : (Gives : Answering) (command : Command) (Makes : List ℕ → Seen → Seen → Made → Type 0) (bytes : List ℕ) (f : Fault)
+    (call : Call Gives command) → ReadsAll Makes call.before call.after call.answered.ran.input call.answered.ran.made → IsFed bytes call
+    → ((made : List ℕ) → Makes bytes call.before call.after (Ok made) → ⊥)
+    → ((made : Fault) → Makes bytes call.before call.after (Err made) → (made ≡ f) ⊎ (made ≡ fault.OutOfMemory)) → IsRefused f call
+refused_call Gives command Makes bytes f call did fed no_text one_fault =
     let ran = call.answered.ran in
-    elim (ends_as DecodeMakes call.before call.after bytes ran.input ran.made call.answered.ended call.source call.source_after call.out call.out_after
-    fed.had fed.within fed.read fed.written ran.did ran.read ran.wrote) [
+    elim (ends_as Makes call.before call.after bytes ran.input ran.made call.answered.ended call.source call.source_after call.out call.out_after
+    fed.had fed.within fed.read fed.written did ran.read ran.wrote) [
       | for_want ended ↦ inr (call.answered.status ∙ ap status_of ended)
-      | with_text {made = made} makes ended took ↦ absurd (text_of_refused bytes made call.before call.after f some cannot makes)
-      | with_fault {why = why} makes ended ↦ elim (fault_of_refused bytes call.before call.after f why some cannot makes) [
+      | with_text {made = made} makes ended took ↦ absurd (no_text made makes)
+      | with_fault {why = why} makes ended ↦ elim (one_fault why makes) [
         | inl same ↦ inl (
           call.answered.status ∙ ap status_of ended ∙ ap status_of_fault same,
           subst (λ those. IfErr those (λ g. Said (line_of g) call.say call.say_after)) (ended ∙ ap (λ g. Err g) same) call.answered.said,
@@ -193,6 +196,13 @@ decode_told Gives bytes f call some cannot fed =
         | inr want ↦ inr (call.answered.status ∙ ap status_of ended ∙ ap status_of_fault want)
       ]
     ]
+
+-- The first fault of the bytes, and its line.
+pub list_told : (Gives : Answering) (bytes : List ℕ) (f : Fault) (call : Call Gives Listing) → f ≢ fault.OutOfMemory → CannotBeListed bytes f
+    → IsFed bytes call → IsRefused f call
+list_told Gives bytes f call some cannot fed =
+    refused_call Gives Listing ListMakes bytes f call call.answered.ran.did fed
+    (λ made. text_of_refused bytes made call.before call.after f some cannot) (λ made. fault_of_refused bytes call.before call.after f made some cannot)
 
 -- A boot that is done, and then its dump listed.
 
@@ -207,6 +217,7 @@ never_ok (fault.Load (load.Command index cause)) is = cc
 never_ok (fault.Load (load.NoRoom index)) is = cc
 never_ok (fault.Dump why line) is = cc
 never_ok (fault.Tables why) is = cc
+never_ok (fault.NotProfile item) is = cc
 never_ok fault.WriteFault is = cc
 never_ok fault.OutOfMemory is = cc
 never_ok fault.InputTooLong is = cc
@@ -223,35 +234,37 @@ boot_text : (Gives : Answering) (setting : Setting) (description text : List ℕ
 boot_text Gives setting description text before after (booted is dumped) = record {
   machine = is.machine;
   read = is.read;
-  shows = record { memory = memory_of is.loaded.world; dumped = dumped; shown = is.shown };
+  shows = record { memory = memory_of is.booted.loaded.world; dumped = dumped; shown = is.booted.shown };
 }
 
 -- what a sink took of one text is that text
-same_text : (front made text : List ℕ) (out out_after : SinkSeen) → out.taken ≡ Some front → out_after.taken ≡ behind (Some front) text
+same_text : (front made text : List ℕ) (out out_after : SinkSeen) → out.taken ≡ Bytes front → out_after.taken ≡ behind (Bytes front) text
     → TookWhole made out out_after → made ≡ text
 same_text front made text out out_after had has took =
     let taken : out_after.taken ≡ behind out.taken made = ap (λ (s : SinkSeen). s.taken) took.took in
-    let both : Some (front ++ made) ≡ Some (front ++ text) = ap (λ t. behind t made) (sym had) ∙ sym taken ∙ has in
+    let both : Bytes (front ++ made) ≡ Bytes (front ++ text) = ap (λ t. behind t made) (sym had) ∙ sym taken ∙ has in
     append_cancel_left front made text (cc)
 
 -- a boot that ended so, of which the answer is Ok
-boot_done : (Gives : Answering) (setting : Setting) (description front text : List ℕ) (boot : Call Gives (Boot setting)) (ended : Result (Unit {0}) Fault)
-    → boot.answered.ended ≡ ended → boot.answer ≡ status.Ok → boot.source.left ≡ Some description → boot.out.taken ≡ Some front
-    → boot.out_after.taken ≡ behind (Some front) text → IsBootText description text
-boot_done Gives setting description front text boot (Err f) is ok had begun took =
-    absurd (never_ok f (sym (ap status_of is) ∙ sym boot.answered.status ∙ ok))
-boot_done Gives setting description front text boot (Ok done) is ok had begun took =
+boot_done : (Gives : Answering) (setting : Setting) (description text : List ℕ) (boot : Call Gives (Boot setting)) (ended : Result (Unit {0}) Fault)
+    → boot.answered.ended ≡ ended → HasBooted description text boot → IsBootText description text
+boot_done Gives setting description text boot (Err f) is has =
+    absurd (never_ok f (sym (ap status_of is) ∙ sym boot.answered.status ∙ has.done))
+boot_done Gives setting description text boot (Ok done) is has =
     let ran = boot.answered.ran in
     let made = done_so (BootMakes Gives setting) boot.before boot.after description ran.input ran.made done boot.source boot.source_after boot.out boot.out_after
-    had ran.did ran.read (subst (λ those. Wrote ran.made those boot.out boot.out_after) is ran.wrote) in
-    let same = same_text front made.0 text boot.out boot.out_after begun took made.2 in
+    has.had ran.did ran.read (subst (λ those. Wrote ran.made those boot.out boot.out_after) is ran.wrote) in
+    let same = same_text has.front made.0 text boot.out boot.out_after has.began has.took made.2 in
     boot_text Gives setting description text boot.before boot.after
     (subst (λ those. BootMakes Gives setting description boot.before boot.after (Ok those)) same made.1)
 
-pub boot_listed : (Gives Others : Answering) (setting : Setting) (description front text : List ℕ) (boot : Call Gives (Boot setting))
-    (list : Call Others Decode) → boot.answer ≡ status.Ok → boot.source.left ≡ Some description → boot.out.taken ≡ Some front
-    → boot.out_after.taken ≡ behind (Some front) text → IsFed text list
+pub boot_wrote : (Gives : Answering) (setting : Setting) (description text : List ℕ) (boot : Call Gives (Boot setting)) → HasBooted description text boot
+    → IsBootText description text
+boot_wrote Gives setting description text boot has = boot_done Gives setting description text boot boot.answered.ended refl has
+
+pub boot_listed : (Gives Others : Answering) (setting : Setting) (description text : List ℕ) (boot : Call Gives (Boot setting))
+    (list : Call Others Listing) → HasBooted description text boot → IsFed text list
     → (machine : Machine) × Reads description machine × IsListed (inventory_of machine) list
-boot_listed Gives Others setting description front text boot list ok had begun took fed =
-    let is = boot_done Gives setting description front text boot boot.answered.ended refl ok had begun took in
-    (is.machine, is.read, decode_listed Others text (inventory_of is.machine) list is.shows fed)
+boot_listed Gives Others setting description text boot list has fed =
+    let is = boot_wrote Gives setting description text boot has in
+    (is.machine, is.read, list_listed Others text (inventory_of is.machine) list is.shows fed)

@@ -1,20 +1,28 @@
--- Faults of a command's own say nothing of its streams.
-use Rattle.std.proofs.Common.{ℕ, List, Err}
+-- Faults of a command's own say nothing of its streams, and none of a boot is that of words which are no command.
+use Rattle.std.proofs.Common.{◌≡◌, ◌≢◌, ℕ, List, Result, Ok, Err, sym, ◌∙◌}
+use Rattle.std.specs.Result.{IsErrAnd}
 use Rattle.cfg_directory.specs.declared.item.Item.{Item}
 use Rattle.command_acts.specs.declared.fault.LoadFault.{LoadFault}
 use Rattle.command_acts.specs.declared.fault.LoadFault.TheVariants as load
 use Rattle.vt_words.specs.declared.setting.Setting.{Setting}
-use Rattle.vmtables.specs.Boot.{BootMakes, without_image, without_room, without_memory}
+use Rattle.machine_desc.specs.declared.machine.Machine.{Machine}
+use Rattle.vmtables.specs.Boot.{BootMakes, FailsToBoot, too_large, not_built, without_room, without_memory}
+use Rattle.vmtables.specs.Boot as boot_made
 use Rattle.vmtables.specs.Build.{CannotBeBuilt}
 use Rattle.vmtables.specs.Calls.{Answering, Seen}
-use Rattle.vmtables.specs.Decode.{CannotBeListed}
+use Rattle.vmtables.specs.Decode.{CannotBeListed, CannotBeTold}
+use Rattle.generated_machine.specs.Generated.{generated}
+use Rattle.vmtables.specs.Generate.{GenMakes, not_counted, plain}
 use Rattle.vmtables.specs.Load.{LoadMakes, not_read, not_loaded}
 use Rattle.vmtables.specs.Loading.{FailsToLoad, ended_early, not_begun}
 use Rattle.vmtables.specs.Outcome.{status_of_fault, status_of_load}
 use Rattle.vmtables.specs.declared.fault.Fault.{Fault}
+use Rattle.vmtables.specs.declared.fault.Fault.TheVariants as fault
 use Rattle.vmtables.specs.declared.status.Status.TheVariants as status
 use Rattle.vmtables.proofs.Endings.{IsQuiet}
-use Rattle.vmtables.proofs.Refused.{IsUnbuilt, undescribed, too_large, no_memory, why_unbuilt, IsUnread, not_container, no_room, why_unread, IsUnlisted, no_dump, tables, memory, why_unlisted}
+use Rattle.vmtables.proofs.Refused.{IsUnbuilt, undescribed, of_large, no_memory, why_unbuilt, IsUnread, not_container, no_room, why_unread}
+use Rattle.vmtables.proofs.Refused.{IsUnlisted, no_dump, tables, memory, why_unlisted, IsUndescribed, none_read, unread, why_undescribed}
+use Rattle.vmtables.proofs.Refused.{IsUntold, unlisted, no_machine, why_untold}
 
 quiet_description : IsQuiet status.DescriptionRefused
 quiet_description = record { done = λ is. cc; read = λ is. cc; long = λ is. cc; written = λ is. cc }
@@ -39,7 +47,7 @@ quiet_tables = record { done = λ is. cc; read = λ is. cc; long = λ is. cc; wr
 
 unbuilt_quiet : (bytes : List ℕ) (f : Fault) → IsUnbuilt bytes f → IsQuiet (status_of_fault f)
 unbuilt_quiet bytes f (undescribed read) = quiet_description
-unbuilt_quiet bytes f (too_large large) = quiet_large
+unbuilt_quiet bytes f (of_large large) = quiet_large
 unbuilt_quiet bytes f no_memory = quiet_memory
 
 pub build_quiet : (bytes : List ℕ) (f : Fault) → CannotBeBuilt bytes f → IsQuiet (status_of_fault f)
@@ -63,11 +71,28 @@ load_quiet load.ScriptLength = quiet_image
 load_quiet (load.Command index cause) = quiet_image
 load_quiet (load.NoRoom index) = quiet_room
 
+untold_quiet : (bytes : List ℕ) (f : Fault) → IsUntold bytes f → IsQuiet (status_of_fault f)
+untold_quiet bytes f (unlisted cannot) = list_quiet bytes f cannot
+untold_quiet bytes f (no_machine fails) = quiet_tables
+
+pub tell_quiet : (bytes : List ℕ) (f : Fault) → CannotBeTold bytes f → IsQuiet (status_of_fault f)
+tell_quiet bytes f cannot = untold_quiet bytes f (why_untold bytes f cannot)
+
+undescribed_quiet : (bytes : List ℕ) (f : Fault) → IsUndescribed bytes f → IsQuiet (status_of_fault f)
+undescribed_quiet bytes f (none_read read) = quiet_description
+undescribed_quiet bytes f unread = quiet_memory
+
+pub machine_quiet : (Gives : Answering) (setting : Setting) (m : Machine) (before after : Seen) (f : Fault)
+    → FailsToBoot Gives setting m before after f → IsQuiet (status_of_fault f)
+machine_quiet Gives setting m before after f (too_large large same) = quiet_large
+machine_quiet Gives setting m before after f (not_built same) = quiet_memory
+machine_quiet Gives setting m before after f (without_room loaded refusal) = quiet_room
+machine_quiet Gives setting m before after f (without_memory unloaded) = quiet_memory
+
 pub boot_quiet : (Gives : Answering) (setting : Setting) (bytes : List ℕ) (before after : Seen) (f : Fault)
     → BootMakes Gives setting bytes before after (Err f) → IsQuiet (status_of_fault f)
-boot_quiet Gives setting bytes before after f (without_image cannot same) = build_quiet bytes f cannot
-boot_quiet Gives setting bytes before after f (without_room m read loaded refusal) = quiet_room
-boot_quiet Gives setting bytes before after f (without_memory m read unloaded) = quiet_memory
+boot_quiet Gives setting bytes before after f (boot_made.not_read cannot same) = undescribed_quiet bytes f (why_undescribed bytes f cannot)
+boot_quiet Gives setting bytes before after f (boot_made.not_booted m read fails) = machine_quiet Gives setting m before after f fails
 
 failed_quiet : (Gives : Answering) (items : List Item) (top : ℕ) (setting : Setting) (before after : Seen) (f : Fault)
     → FailsToLoad Gives items top setting before after f → IsQuiet (status_of_fault f)
@@ -78,3 +103,37 @@ pub container_quiet : (Gives : Answering) (top_mib : ℕ) (setting : Setting) (b
     → LoadMakes Gives top_mib setting bytes before after (Err f) → IsQuiet (status_of_fault f)
 container_quiet Gives top_mib setting bytes before after f (not_read cannot same) = unread_quiet bytes f (why_unread bytes f cannot)
 container_quiet Gives top_mib setting bytes before after f (not_loaded items contained failed) = failed_quiet Gives items _ setting before after f failed
+
+pub gen_quiet : (Gives : Answering) (processors : ℕ) (before after : Seen) (f : Fault) → GenMakes Gives processors before after (Err f)
+    → IsQuiet (status_of_fault f)
+gen_quiet Gives processors before after f (not_counted fails) = machine_quiet Gives plain (generated processors) before after f fails
+
+-- Nor is one of a boot that of words which are no command.
+
+machine_known : (Gives : Answering) (setting : Setting) (m : Machine) (before after : Seen) (f : Fault)
+    → FailsToBoot Gives setting m before after f → f ≢ fault.Usage
+machine_known Gives setting m before after f (too_large large same) = λ is. cc
+machine_known Gives setting m before after f (not_built same) = λ is. cc
+machine_known Gives setting m before after f (without_room loaded refusal) = λ is. cc
+machine_known Gives setting m before after f (without_memory unloaded) = λ is. cc
+
+undescribed_known : (bytes : List ℕ) (f : Fault) → IsUndescribed bytes f → f ≢ fault.Usage
+undescribed_known bytes f (none_read read) = λ is. cc
+undescribed_known bytes f unread = λ is. cc
+
+boot_fault_known : (Gives : Answering) (setting : Setting) (bytes : List ℕ) (before after : Seen) (f : Fault)
+    → BootMakes Gives setting bytes before after (Err f) → f ≢ fault.Usage
+boot_fault_known Gives setting bytes before after f (boot_made.not_read cannot same) = undescribed_known bytes f (why_undescribed bytes f cannot)
+boot_fault_known Gives setting bytes before after f (boot_made.not_booted m read fails) = machine_known Gives setting m before after f fails
+
+abbrev failed_for : Fault → Result (Unit {0}) Fault
+failed_for f = Err f
+
+same_failure : (a b : Fault) → failed_for a ≡ failed_for b → a ≡ b
+same_failure a b is = cc
+
+pub boot_known : (Gives : Answering) (setting : Setting) (bytes : List ℕ) (before after : Seen) (f : Fault) (r : Result (Unit {0}) Fault)
+    → BootMakes Gives setting bytes before after (Err f) → IsErrAnd r (λ ended. ended ≡ f) → r ≢ Err fault.Usage
+boot_known Gives setting bytes before after f (Ok done) makes is = absurd is
+boot_known Gives setting bytes before after f (Err ended) makes is =
+    λ usage. boot_fault_known Gives setting bytes before after f makes (sym is ∙ same_failure ended fault.Usage usage)

@@ -67,6 +67,11 @@ ReadsAll Makes before after (Whole bytes) made = Makes bytes before after made
 ReadsAll Makes before after (Cut why) made = (made ≡ Err (input_fault why)) × (after ≡ before)
 ReadsAll Makes before after Unread made = ⊥
 
+-- What a command does that reads nothing.
+abbrev pub ReadsNone : (Seen → Seen → Made → Type 0) → Doing
+ReadsNone Makes before after Unread made = Makes before after made
+ReadsNone Makes before after _ made = ⊥
+
 -- A sink took a text, whole, and all that it took is flushed.
 pub record TookWhole (text : List ℕ) (out out_after : SinkSeen) : Type 0 where
   pub took : out_after ≡ record out { taken = behind out.taken text; flushed = out_after.flushed }

@@ -10,8 +10,10 @@ use Rattle.cfg_directory.specs.declared.container.ImageFault.{ImageFault}
 use Rattle.cfg_directory.specs.declared.container.ImageFault.TheVariants as container
 use Rattle.anchor_scan.specs.declared.fault.ScanFault.{ScanFault}
 use Rattle.anchor_scan.specs.declared.fault.ScanFault.TheVariants as scan
+use Rattle.table_describe.specs.declared.description.DescribeFault.{DescribeFault}
+use Rattle.table_describe.specs.declared.description.DescribeFault.TheVariants as describing
 use Rattle.vmtables.specs.declared.fault.Fault.{Fault}
-use Rattle.vmtables.specs.declared.fault.Fault.TheVariants.{ReadFault, Description, Container, Tables, OutOfMemory, InputTooLong, ImageTooLarge}
+use Rattle.vmtables.specs.declared.fault.Fault.TheVariants.{ReadFault, Description, Container, Tables, NotProfile, OutOfMemory, InputTooLong, ImageTooLarge}
 
 -- that of the reading of an input
 abbrev pub input_fault : InputFault → Fault
@@ -34,3 +36,7 @@ IsOfContainer refused fault = fault ≡ Container refused
 abbrev pub IsOfTables : ScanFault → Fault → Type 0
 IsOfTables scan.OutOfMemory fault = fault ≡ OutOfMemory
 IsOfTables refused fault = fault ≡ Tables refused
+
+abbrev pub IsOfDescribing : DescribeFault → Fault → Type 0
+IsOfDescribing describing.OutOfMemory fault = fault ≡ OutOfMemory
+IsOfDescribing (describing.NotProfile item) fault = fault ≡ NotProfile item

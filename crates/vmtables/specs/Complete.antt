@@ -1,7 +1,7 @@
 -- Commands that are done, unless memory runs out: a lawful input, and nothing outside failed.
 use Rattle.std.specs.Prelude.{◌≡◌, ◌≢◌, ◌⊎◌, ℕ, ◌≤◌, List, length, map, Some, Ok}
 use Rattle.vt_outside.specs.Placement.{Range}
-use Rattle.vt_outside.specs.Stream.{SinkSeen, SourceSeen, Rose, behind}
+use Rattle.vt_outside.specs.Stream.{SinkSeen, SourceSeen, Rose, Bytes, behind}
 use Rattle.cfg_directory.specs.declared.item.Item.{Item}
 use Rattle.cfg_directory.specs.Container.{read_so}
 use Rattle.cfg_directory.specs.Items.{total_size}
@@ -13,18 +13,22 @@ use Rattle.cfg_directory.specs.Files.{files_of}
 use Rattle.image_files.specs.Items.{image_limit}
 use Rattle.loader_script.specs.declared.entry.Entry.{Entry}
 use Rattle.loader_script.specs.Run.{Done, run}
+use Rattle.generated_machine.specs.Generated.{generated}
 use Rattle.machine_desc.specs.declared.machine.Machine.{Machine}
+use Rattle.machine_desc.specs.Fields.{HasFittingFields}
+use Rattle.machine_desc.specs.Rules.{IsAccepted}
+use Rattle.table_describe.specs.Failing.{IsFirstFailing}
 use Rattle.command_acts.specs.Script.{script_in}
 use Rattle.vm_image.specs.Image.{image_items}
 use Rattle.vt_words.specs.declared.command.Command.{Command}
-use Rattle.vt_words.specs.declared.command.Command.TheVariants.{Boot, Build, Decode, Load}
+use Rattle.vt_words.specs.declared.command.Command.TheVariants.{Boot, Build, Decode, Gen, List as Listing, Load}
 use Rattle.vt_words.specs.declared.command.LoadOptions.{LoadOptions}
 use Rattle.vt_words.specs.declared.setting.Setting.{Setting}
 use Rattle.scan_text.specs.List.{list_of}
 use Rattle.table_model.specs.declared.inventory.Inventory.{Inventory}
 use Rattle.table_model.specs.Inventory.{inventory_of}
 use Rattle.vmtables.specs.Calls.{Answered, Answering, Said, Seen, TookWhole}
-use Rattle.vmtables.specs.Decode.{CannotBeListed, DumpShows}
+use Rattle.vmtables.specs.Decode.{CannotBeListed, CannotBeTold, DumpShows, IsDescriptionOf}
 use Rattle.vmtables.specs.Dumped.{IsDumpOf}
 use Rattle.vmtables.specs.Does.{Does}
 use Rattle.vmtables.specs.Outcome.{input_limit, line_of, status_of_fault}
@@ -80,9 +84,20 @@ abbrev pub IsLoadComplete : Answering → Type 0
 IsLoadComplete Gives = (options : LoadOptions) (bytes : List ℕ) (items : List Item) (call : Call Gives (Load options))
     → read_so bytes ≡ Ok items → RunsWhole items (map (λ (r : Range). r.start) call.after.place.handed) → IsFed bytes call → HasRoom call → IsDone call
 
+-- a machine that is generated, whose files have no more bytes than an image may have
+abbrev pub IsGenComplete : Answering → Type 0
+IsGenComplete Gives = (processors : ℕ) (call : Call Gives (Gen processors)) → total_size (image_items (generated processors)) ≤ image_limit
+    → ¬ Rose call.out.faults call.out_after.faults → HasRoom call → IsDone call
+
 -- the call is done, and out took the list of the inventory; or memory ran out
 abbrev pub IsListed : {Gives : Answering} {command : Command} → Inventory → Call Gives command → Type 0
 IsListed inventory call = ((call.answer ≡ status.Ok) × TookWhole (list_of inventory) call.out call.out_after) ⊎ (call.answer ≡ status.OutOfMemory)
+
+-- the call is done, and out took a description of the machine; or memory ran out
+abbrev pub IsTold : {Gives : Answering} {command : Command} → Machine → Call Gives command → Type 0
+IsTold machine call =
+    ((call.answer ≡ status.Ok) × ((text : List ℕ) × IsDescriptionOf machine text × TookWhole text call.out call.out_after))
+    ⊎ (call.answer ≡ status.OutOfMemory)
 
 -- the call answered the status of the fault, and said its line; or memory ran out
 abbrev pub IsRefused : {Gives : Answering} {command : Command} → Fault → Call Gives command → Type 0
@@ -90,23 +105,49 @@ IsRefused why call =
     ((call.answer ≡ status_of_fault why) × Said (line_of why) call.say call.say_after) ⊎ (call.answer ≡ status.OutOfMemory)
 
 -- of the dump of a memory whose tables have no fault
-abbrev pub IsDecodeComplete : Answering → Type 0
-IsDecodeComplete Gives = (bytes : List ℕ) (memory : Memory) (call : Call Gives Decode) → IsDumpOf memory bytes
+abbrev pub IsListComplete : Answering → Type 0
+IsListComplete Gives = (bytes : List ℕ) (memory : Memory) (call : Call Gives Listing) → IsDumpOf memory bytes
     → ((why : ScanFault) → Refuses (seen memory) why → ⊥) → IsFed bytes call → IsDone call
 
 -- what such a memory shows is listed
-abbrev pub IsDecodeListed : Answering → Type 0
-IsDecodeListed Gives = (bytes : List ℕ) (inventory : Inventory) (call : Call Gives Decode) → DumpShows bytes inventory → IsFed bytes call
+abbrev pub IsShownListed : Answering → Type 0
+IsShownListed Gives = (bytes : List ℕ) (inventory : Inventory) (call : Call Gives Listing) → DumpShows bytes inventory → IsFed bytes call
     → IsListed inventory call
 
 -- a fault of the bytes is told, unless memory runs out
-abbrev pub IsDecodeExact : Answering → Type 0
-IsDecodeExact Gives = (bytes : List ℕ) (why : Fault) (call : Call Gives Decode) → why ≢ fault.OutOfMemory → CannotBeListed bytes why
+abbrev pub IsListExact : Answering → Type 0
+IsListExact Gives = (bytes : List ℕ) (why : Fault) (call : Call Gives Listing) → why ≢ fault.OutOfMemory → CannotBeListed bytes why
     → IsFed bytes call → IsRefused why call
 
--- What `boot` wrote of a description is listed as what the machine shows that is described: the description is all that the source of the boot
--- had, the text is what its out took, and it is all that the source of the other call had.
+-- of the dump of a memory that shows an inventory of which no item fails
+abbrev pub IsDecodeComplete : Answering → Type 0
+IsDecodeComplete Gives = (bytes : List ℕ) (inventory : Inventory) (call : Call Gives Decode) → DumpShows bytes inventory
+    → ((item : ℕ) → IsFirstFailing inventory item → ⊥) → IsFed bytes call → IsDone call
+
+-- the machine is told whose inventory such a memory shows
+abbrev pub IsShownTold : Answering → Type 0
+IsShownTold Gives = (bytes : List ℕ) (machine : Machine) (call : Call Gives Decode) → IsAccepted machine → HasFittingFields machine
+    → DumpShows bytes (inventory_of machine) → IsFed bytes call → IsTold machine call
+
+-- a fault of the bytes, or the first item that fails, is told, unless memory runs out
+abbrev pub IsDecodeExact : Answering → Type 0
+IsDecodeExact Gives = (bytes : List ℕ) (why : Fault) (call : Call Gives Decode) → why ≢ fault.OutOfMemory → CannotBeTold bytes why
+    → IsFed bytes call → IsRefused why call
+
+-- A call of `boot` that is done wrote this text of a description: the description is all that its source had, and the text is what its out took.
+pub record HasBooted {Gives : Answering} {setting : Setting} (description text : List ℕ) (boot : Call Gives (Boot setting)) : Type 0 where
+  pub done : boot.answer ≡ status.Ok
+  pub had : boot.source.left ≡ Some description
+  pub front : List ℕ
+  pub began : boot.out.taken ≡ Bytes front
+  pub took : boot.out_after.taken ≡ behind (Bytes front) text
+
+-- What `boot` wrote of a description is listed as what the machine shows that is described.
 abbrev pub IsBootListed : Answering → Answering → Type 0
-IsBootListed Gives Others = (setting : Setting) (description front text : List ℕ) (boot : Call Gives (Boot setting)) (list : Call Others Decode)
-    → boot.answer ≡ status.Ok → boot.source.left ≡ Some description → boot.out.taken ≡ Some front → boot.out_after.taken ≡ behind (Some front) text
-    → IsFed text list → (machine : Machine) × Reads description machine × IsListed (inventory_of machine) list
+IsBootListed Gives Others = (setting : Setting) (description text : List ℕ) (boot : Call Gives (Boot setting)) (list : Call Others Listing)
+    → HasBooted description text boot → IsFed text list → (machine : Machine) × Reads description machine × IsListed (inventory_of machine) list
+
+-- What `boot` wrote of a description is decoded: a description of the machine that is described.
+abbrev pub IsBootTold : Answering → Answering → Type 0
+IsBootTold Gives Others = (setting : Setting) (description text : List ℕ) (boot : Call Gives (Boot setting)) (decode : Call Others Decode)
+    → HasBooted description text boot → IsFed text decode → (machine : Machine) × Reads description machine × IsTold machine decode

@@ -1,11 +1,18 @@
--- What `decode --list` does.
-use Rattle.std.specs.Prelude.{◌≡◌, ℕ, List, Ok, Err}
+-- What `decode` does, with its option and without.
+use Rattle.std.specs.Prelude.{◌≡◌, ℕ, List, Some, Ok, Err}
 use Rattle.vt_bytes.specs.Memory.{Memory, seen}
+use Rattle.machine_desc.specs.declared.machine.Machine.{Machine}
+use Rattle.machine_desc.specs.Rules.{IsAccepted}
+use Rattle.machine_desc.specs.Fields.{HasFittingFields}
+use Rattle.toml.specs.Parse.{parse_document}
+use Rattle.desc_toml.specs.Printed.{document_of}
+use Rattle.desc_toml.specs.Reading.{Reads}
 use Rattle.table_model.specs.declared.inventory.Inventory.{Inventory}
-use Rattle.table_model.specs.Inventory.{Shows}
+use Rattle.table_model.specs.Inventory.{Shows, inventory_of}
 use Rattle.memory_dump.specs.Reading.{read_so}
 use Rattle.anchor_scan.specs.declared.fault.ScanFault.{ScanFault}
 use Rattle.anchor_scan.specs.Scan.{Refuses}
+use Rattle.table_describe.specs.Failing.{IsFirstFailing}
 use Rattle.scan_text.specs.List.{list_of}
 use Rattle.vmtables.specs.Calls.{Made, Seen}
 use Rattle.vmtables.specs.Dumped.{IsDumpOf}
@@ -35,7 +42,30 @@ CannotBeListed bytes _ = ⊥
 
 -- What `decode --list` makes of the bytes of its input: the list of the inventory that the memory shows of which they are the dump. The
 -- world, the allocator and the plan stay as they were.
-pub data DecodeMakes (bytes : List ℕ) (before after : Seen) : Made → Type 0 where
+pub data ListMakes (bytes : List ℕ) (before after : Seen) : Made → Type 0 where
   listed : (inventory : Inventory) → DumpShows bytes inventory → {text : List ℕ} → text ≡ list_of inventory → after ≡ before
-      → DecodeMakes bytes before after (Ok text)
-  not_listed : {why : Fault} → CannotBeListed bytes why → after ≡ before → DecodeMakes bytes before after (Err why)
+      → ListMakes bytes before after (Ok text)
+  not_listed : {why : Fault} → CannotBeListed bytes why → after ≡ before → ListMakes bytes before after (Err why)
+
+-- The text is a description of the machine: the text of its document, which is read as this machine.
+pub record IsDescriptionOf (machine : Machine) (text : List ℕ) : Type 0 where
+  pub document : parse_document text ≡ Some (document_of machine)
+  pub read : Reads text machine
+
+-- The bytes are the dump of a memory that shows an inventory which is no machine's, and this item of it is the first that fails.
+pub record DumpFails (bytes : List ℕ) (item : ℕ) : Type 0 where
+  pub inventory : Inventory
+  pub shows : DumpShows bytes inventory
+  pub fails : IsFirstFailing inventory item
+
+-- why no machine is told of the bytes: nothing is listed of them, or the inventory that is listed is no machine's
+abbrev pub CannotBeTold : List ℕ → Fault → Type 0
+CannotBeTold bytes (fault.NotProfile item) = DumpFails bytes item
+CannotBeTold bytes why = CannotBeListed bytes why
+
+-- What `decode` makes of the bytes of its input: a description of the accepted machine whose inventory the memory shows of which they are the
+-- dump. The world, the allocator and the plan stay as they were.
+pub data DecodeMakes (bytes : List ℕ) (before after : Seen) : Made → Type 0 where
+  told : (machine : Machine) → IsAccepted machine → HasFittingFields machine → DumpShows bytes (inventory_of machine) → {text : List ℕ} → IsDescriptionOf machine text
+      → after ≡ before → DecodeMakes bytes before after (Ok text)
+  not_told : {why : Fault} → CannotBeTold bytes why → after ≡ before → DecodeMakes bytes before after (Err why)

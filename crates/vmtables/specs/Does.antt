@@ -1,13 +1,16 @@
 -- What each command does.
-use Rattle.std.specs.Prelude.{◌≡◌, Option, Some, None, Err}
+use Rattle.std.specs.Prelude.{◌≡◌, ◌≢◌, Option, Some, None, Err}
 use Rattle.vt_words.specs.declared.command.Command.{Command}
-use Rattle.vt_words.specs.declared.command.Command.TheVariants.{Boot, Load, Build, Decode}
+use Rattle.vt_words.specs.declared.command.Command.TheVariants.{Boot, Load, Build, Decode, List, Gen}
 use Rattle.vmtables.specs.Boot.{BootMakes}
 use Rattle.vmtables.specs.Build.{BuildMakes}
-use Rattle.vmtables.specs.Calls.{Answering, Unread, Doing, ReadsAll}
-use Rattle.vmtables.specs.Decode.{DecodeMakes}
+use Rattle.vmtables.specs.Calls.{Answering, Unread, Doing, ReadsAll, ReadsNone}
+use Rattle.vmtables.specs.Decode.{DecodeMakes, ListMakes}
+use Rattle.vmtables.specs.Generate.{GenMakes}
 use Rattle.vmtables.specs.Load.{LoadMakes}
 use Rattle.vmtables.specs.declared.fault.Fault.TheVariants.{Usage}
+use Rattle.vmtables.specs.declared.status.Status.{Status}
+use Rattle.vmtables.specs.declared.status.Status.TheVariants as status
 
 -- Words that are no command: nothing is read, and the world, the allocator and the plan stay as they were.
 abbrev pub IsUsage : Doing
@@ -21,3 +24,17 @@ Does Gives (Some (Boot setting)) = ReadsAll (BootMakes Gives setting)
 Does Gives (Some (Load options)) = ReadsAll (LoadMakes Gives options.top_mib options.setting)
 Does Gives (Some Build) = ReadsAll BuildMakes
 Does Gives (Some Decode) = ReadsAll DecodeMakes
+Does Gives (Some List) = ReadsAll ListMakes
+Does Gives (Some (Gen processors)) = ReadsNone (GenMakes Gives processors)
+
+-- a status that refuses neither an image, nor a dump, nor tables
+pub record RefusesNothing (answer : Status) : Type 0 where
+  pub image : answer ≢ status.ImageRefused
+  pub dump : answer ≢ status.DumpRefused
+  pub tables : answer ≢ status.TablesRefused
+
+-- the commands that load an image which they build themselves refuse nothing of it
+abbrev pub NothingIsRefused : Option Command → Status → Type 0
+NothingIsRefused (Some (Boot setting)) answer = RefusesNothing answer
+NothingIsRefused (Some (Gen processors)) answer = RefusesNothing answer
+NothingIsRefused command answer = Unit {0}

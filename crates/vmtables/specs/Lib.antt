@@ -8,6 +8,7 @@ pub mod Load
 pub mod Build
 pub mod Boot
 pub mod Decode
+pub mod Generate
 pub mod Does
 pub mod Complete
 pub mod Shelf
@@ -17,6 +18,7 @@ pub use Rattle.vt_outside.specs.MemoryStream
 pub use Rattle.vt_bytes.specs.Numbers
 pub use Rattle.vt_bytes.specs.Memory
 pub use Rattle.desc_toml.specs.Reading
+pub use Rattle.desc_toml.specs.Printed
 pub use Rattle.machine_desc.specs.Rules
 pub use Rattle.table_model.specs.Inventory
 pub use Rattle.cfg_directory.specs.Items as DirectoryItems

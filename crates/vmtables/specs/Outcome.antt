@@ -34,6 +34,7 @@ status_of_fault (fault.Container refused) = status.ImageRefused
 status_of_fault (fault.Load why) = status_of_load why
 status_of_fault (fault.Dump refused line) = status.DumpRefused
 status_of_fault (fault.Tables refused) = status.TablesRefused
+status_of_fault (fault.NotProfile item) = status.TablesRefused
 status_of_fault fault.WriteFault = status.WriteFault
 status_of_fault fault.OutOfMemory = status.OutOfMemory
 status_of_fault fault.InputTooLong = status.InputTooLong
@@ -110,6 +111,10 @@ tables_line (scan.Acpi refused) = acpi_line refused
 tables_line (scan.Smbios refused) = smbios_line refused
 tables_line scan.OutOfMemory = codes "out of memory" ++ 10 ∷ []
 
+-- the line of a memory that no machine shows, with the first item that fails
+abbrev pub profile_line : ℕ → List ℕ
+profile_line item = codes "tables: not this profile, item " ++ decimal item ++ 10 ∷ []
+
 -- the line of a fault, which ends in a line feed
 abbrev pub line_of : Fault → List ℕ
 line_of fault.ReadFault = codes "read fault" ++ 10 ∷ []
@@ -119,6 +124,7 @@ line_of (fault.Container refused) = container_line refused
 line_of (fault.Load why) = load_line why
 line_of (fault.Dump refused line) = dump_line refused line
 line_of (fault.Tables refused) = tables_line refused
+line_of (fault.NotProfile item) = profile_line item
 line_of fault.WriteFault = codes "write fault" ++ 10 ∷ []
 line_of fault.OutOfMemory = codes "out of memory" ++ 10 ∷ []
 line_of fault.InputTooLong = codes "input too long" ++ 10 ∷ []

@@ -1,20 +1,16 @@
-ghost use Rattle.std.specs.Prelude.{◌≡◌, ◌≢◌, ℕ, List, Err, IfErr, OnOk};
-ghost use Rattle.machine_desc.specs.Rules.{IsAccepted};
-ghost use Rattle.desc_toml.specs.Reading.{Reads};
+ghost use Rattle.std.specs.Prelude.{◌≡◌, ◌≢◌, Err, IfErr, OnOk};
 ghost use Rattle.command_acts.specs.Allocators.{MayAnswer};
 ghost use Rattle.vmtables.specs.Boot.{IsBooted, BootMakes};
 ghost use Rattle.vmtables.specs.Calls.{ReadsAll, Ran, Streams, seen_by};
 ghost use Rattle.vmtables.specs.Outcome.{status_of};
 
-use crate::describing::{machine_image, machine_of};
+use crate::describing::machine_of;
 use crate::fault::Fault;
 use crate::input::read_to_end;
-use crate::loading::{MIB, load_items};
+use crate::machine_booting::boot_machine;
 use crate::writing::write_dump;
 use firmware_load::{Schedule, World};
-use machine_desc::Machine as Described;
 use std::alloc::Global;
-use vm_image::Image;
 use vt_outside::{Sink, Source};
 use vt_words::Setting;
 use zone_alloc::ZoneAlloc;
@@ -39,12 +35,12 @@ pub(crate) fn boot<S: Source, K: Sink, A: ZoneAlloc, C: Schedule>(
         (S.seen source.old) (S.seen source.new) (K.seen out.old) (K.seen out.new) }
 {
     let bytes = read_to_end(alloc, source)?;
-    load_machine(alloc, setting, bytes.as_slice(), place, plan, world)?;
+    boot_described(alloc, setting, bytes.as_slice(), place, plan, world)?;
     write_dump(world, out)
 }
 
-// Reads a machine's description, and loads its files into the world's memory.
-fn load_machine<A: ZoneAlloc, C: Schedule>(
+// Reads a machine's description, and boots the machine.
+fn boot_described<A: ZoneAlloc, C: Schedule>(
     alloc: Global,
     setting: &Setting,
     description: &[u8],
@@ -60,40 +56,7 @@ fn load_machine<A: ZoneAlloc, C: Schedule>(
         (seen_by A.state C.plan world.new place.new plan.new) (Err fault)) }
 {
     let machine = machine_of(alloc, description)?;
-    let loaded = load_image(alloc, setting, &machine, place, plan, world);
+    let booted = boot_machine(alloc, setting, &machine, place, plan, world);
     drop(machine);
-    loaded
-}
-
-// Loads the files of a machine into the world's memory.
-fn load_image<A: ZoneAlloc, C: Schedule>(
-    alloc: Global,
-    setting: &Setting,
-    machine: &Described,
-    place: &mut A,
-    plan: &mut C,
-    world: &mut World,
-) -> Result<(), Fault>
-    requires { IsAccepted machine.now }
-    ensures ok { OnOk result ((bytes : List ℕ) → Reads bytes machine.now → IsBooted (MayAnswer A.state A.gives) setting.now bytes
-        (seen_by A.state C.plan world.old place.old plan.old)
-        (seen_by A.state C.plan world.new place.new plan.new)) }
-    ensures err { IfErr result (λ fault. (bytes : List ℕ) → Reads bytes machine.now
-        → BootMakes (MayAnswer A.state A.gives) setting.now bytes
-        (seen_by A.state C.plan world.old place.old plan.old)
-        (seen_by A.state C.plan world.new place.new plan.new) (Err fault)) }
-{
-    let Image { items, .. } = machine_image(alloc, machine)?;
-    load_items(
-        alloc,
-        items,
-        machine.top_mib * MIB,
-        setting,
-        place,
-        plan,
-        world,
-    )?;
-    // That memory holds bytes is said by a call of its own.
-    world.memory().holds_bytes();
-    Ok(())
+    booted
 }

@@ -1,17 +1,15 @@
-ghost use Rattle.std.specs.Prelude.{◌≡◌, ◌≢◌, ◌↔◌, map, string_bytes, Err, None, Some};
-ghost use Rattle.vt_words.specs.declared.command.Command.TheVariants.{Boot};
-ghost use Rattle.vt_words.specs.declared.setting.Setting.{Setting};
+ghost use Rattle.std.specs.Prelude.{◌≡◌, ◌↔◌, map, string_bytes, Err, None};
 ghost use Rattle.vt_words.specs.Command.{command_of};
 ghost use Rattle.command_acts.specs.Allocators.{MayAnswer};
 ghost use Rattle.vmtables.specs.Calls.{Ran, Streams, seen_by};
-ghost use Rattle.vmtables.specs.Does.{Does};
+ghost use Rattle.vmtables.specs.Does.{Does, NothingIsRefused};
 ghost use Rattle.vmtables.specs.Outcome.{status_of};
-ghost use Rattle.vmtables.specs.declared.status.Status.TheVariants.{ImageRefused};
 
 use crate::boot_command::boot;
 use crate::build_command::build;
-use crate::decode_command::decode;
+use crate::decode_command::{decode, list};
 use crate::fault::Fault;
+use crate::generate_command::generate;
 use crate::load_command::load;
 use firmware_load::{Schedule, World};
 use std::alloc::Global;
@@ -24,18 +22,21 @@ use zone_alloc::ZoneAlloc;
 /// to `out` and flushes it. `load` does the same with the files of a container, which it reads from `source`, and a top of memory from
 /// the words. `place` gives the files their places, by the policy of the words. The load takes the events that `plan` has for the seed of
 /// the words, one after the other: steps of the firmware and of its device, and writes of other processors, which come between those.
-/// `build` writes the container of a machine's files, and `decode --list` the list of what the memory shows of which it reads the dump;
-/// both leave `world`, `place` and `plan` as they were. All memory comes from `alloc`, before the load, and before the list. Nothing is
-/// written to `out` before all but the writing is done.
+/// `build` writes the container of a machine's files, `decode` the description of the machine that the memory shows of which it reads the
+/// dump, and `decode --list` the list of what that memory shows; these leave `world`, `place` and `plan` as they were. `gen` reads nothing:
+/// it boots, as `boot` does by the lowest places and with no other events, the machine that is generated of a number of processors, and
+/// writes how many files, bytes, commands and rows of a dump it has. All memory comes from `alloc`, before the load, and before the list.
+/// Nothing is written to `out` before all but the writing is done.
 ///
 /// Returns the fault for which the command wasn't carried out whole. `Usage` means that `words` are no command; nothing is then read.
 /// `ReadFault` means that `source` failed, `InputTooLong` that it gave more than 67,108,864 bytes, `Description` that its bytes describe
 /// no accepted machine, `ImageTooLarge` that the machine's files have more than 409,600 bytes, `Container` that its bytes are no
 /// container, `Load` how a load ended before its script did, `Dump` that its bytes are no dump, `Tables` that the tables of the dump's
-/// memory have a fault, `OutOfMemory` that memory ran out, and `WriteFault` that `out` failed. With `Ok` `out` took the whole text, with
-/// `WriteFault` a part of it from its front, perhaps all, and with any other fault nothing.
+/// memory have a fault, `NotProfile` that what they tell is of no machine that a description can have, `OutOfMemory` that memory ran out, and
+/// `WriteFault` that `out` failed. With `Ok` `out` took the whole text, with `WriteFault` a part of it from its front, perhaps all, and with
+/// any other fault nothing.
 ///
-/// With `Ok` and `WriteFault` of `boot` and `load` the files are loaded in `world`. With `Load` it holds what the commands before left.
+/// With `Ok` and `WriteFault` of `boot`, `gen` and `load` the files are loaded in `world`. With `Load` it holds what the commands before left.
 /// After `OutOfMemory` it is as before, idle, or as it was begun. In any other case it is as before.
 pub fn carry_out<S: Source, K: Sink, A: ZoneAlloc, C: Schedule>(
     alloc: Global,
@@ -53,11 +54,11 @@ pub fn carry_out<S: Source, K: Sink, A: ZoneAlloc, C: Schedule>(
         (seen_by A.state C.plan world.new place.new plan.new)) result
         (S.seen source.old) (S.seen source.new) (K.seen out.old) (K.seen out.new) }
 
-    // When each fault comes that isn't the command's own, and what each says of the streams. No image of a machine is refused.
+    // When each fault comes that isn't the command's own, and what each says of the streams. Nothing is refused that the program builds itself.
     ensures usage { (result ≡ Err Fault.Usage) ↔ (command_of (map string_bytes words.now) ≡ None) }
     ensures unread { result ≡ Err Fault.Usage → S.seen source.new ≡ S.seen source.old }
     ensures streams { Streams (status_of result) (S.seen source.old) (S.seen source.new) (K.seen out.old) (K.seen out.new) }
-    ensures image_kept { (setting : Setting) → command_of (map string_bytes words.now) ≡ Some (Boot setting) → status_of result ≢ ImageRefused }
+    ensures kept { NothingIsRefused (command_of (map string_bytes words.now)) (status_of result) }
 {
     match read_words(words) {
         Some(Command::Boot(setting)) => boot(alloc, &setting, source, out, place, plan, world),
@@ -75,6 +76,8 @@ pub fn carry_out<S: Source, K: Sink, A: ZoneAlloc, C: Schedule>(
         }
         Some(Command::Build) => build(alloc, source, out),
         Some(Command::Decode) => decode(alloc, source, out),
+        Some(Command::List) => list(alloc, source, out),
+        Some(Command::Gen(processors)) => generate(alloc, processors, out, place, plan, world),
         None => Err(Fault::Usage),
     }
 }

@@ -1,22 +1,48 @@
 ghost use Rattle.std.specs.Prelude.{◌≡◌, ◌≢◌, ◌≤◌, ◌<◌, ◌^◌, length, Err, IfErr, IfOk};
+ghost use Rattle.machine_desc.specs.Fields.{HasFittingFields};
+ghost use Rattle.machine_desc.specs.Rules.{IsAccepted};
+ghost use Rattle.table_describe.specs.Failing.{IsFirstFailing};
+ghost use Rattle.table_model.specs.Inventory.{inventory_of};
 ghost use Rattle.vt_bytes.specs.Memory.{IsMemory};
 ghost use Rattle.guest_memory.specs.Bytes.{HoldsBytes};
 ghost use Rattle.memory_dump.specs.Dump.{dump};
 ghost use Rattle.vmtables.specs.Calls.{ReadsAll, Ran, Seen, Streams};
-ghost use Rattle.vmtables.specs.Decode.{DecodeMakes, DumpShows, CannotBeListed};
+ghost use Rattle.vmtables.specs.Decode.{DecodeMakes, ListMakes, DumpShows, IsDescriptionOf, CannotBeListed, CannotBeTold};
 ghost use Rattle.vmtables.specs.Outcome.{faulty_line, input_limit, status_of};
 
 use crate::fault::Fault;
 use crate::input::read_to_end;
-use crate::writing::write_list;
-use anchor_scan::scan;
+use crate::writing::{write_list, write_text};
+use anchor_scan::{describe, scan};
+use desc_toml::write_machine;
 use guest_memory::GuestMemory;
+use machine_desc::Machine;
+use machine_desc::laws::numbers_of_a_machine_fit;
 use memory_dump::{DumpFault, read_dump, whole_lines};
 use std::alloc::Global;
 use table_model::Inventory;
 use vt_outside::{Bytes, Sink, Source};
 
 /// Reads a dump, and writes the list of what its memory shows from its anchors.
+pub(crate) fn list<S: Source, K: Sink>(
+    alloc: Global,
+    source: &mut S,
+    out: &mut K,
+) -> Result<(), Fault>
+    ensures ran { (seen : Seen) → Ran (ReadsAll ListMakes seen seen) result
+        (S.seen source.old) (S.seen source.new) (K.seen out.old) (K.seen out.new) }
+    ensures known { result ≢ Err Fault.Usage }
+    ensures streams { Streams (status_of result)
+        (S.seen source.old) (S.seen source.new) (K.seen out.old) (K.seen out.new) }
+{
+    let bytes = read_to_end(alloc, source)?;
+    let inventory = inventory_in(alloc, bytes)?;
+    let written = write_list(&inventory, out);
+    drop(inventory);
+    written
+}
+
+/// Reads a dump, and writes the description of the machine that its memory shows from its anchors.
 pub(crate) fn decode<S: Source, K: Sink>(
     alloc: Global,
     source: &mut S,
@@ -29,10 +55,35 @@ pub(crate) fn decode<S: Source, K: Sink>(
         (S.seen source.old) (S.seen source.new) (K.seen out.old) (K.seen out.new) }
 {
     let bytes = read_to_end(alloc, source)?;
+    let text = description_in(alloc, bytes)?;
+    write_text(text.as_slice(), out)
+}
+
+// The description of the machine that the memory shows of which these bytes are the dump.
+fn description_in(alloc: Global, bytes: Bytes) -> Result<Bytes, Fault>
+    requires { length bytes ≤ input_limit }
+    ensures ok { IfOk result (λ text. (machine : _) × IsAccepted machine × HasFittingFields machine × DumpShows bytes (inventory_of machine)
+        × IsDescriptionOf machine text) }
+    ensures err { IfErr result (CannotBeTold bytes) }
+{
+    let machine = machine_in(alloc, bytes)?;
+    numbers_of_a_machine_fit(&machine);
+    let text = write_machine(alloc, &machine);
+    drop(machine);
+    Ok(text?)
+}
+
+// The machine that the memory shows of which these bytes are the dump.
+fn machine_in(alloc: Global, bytes: Bytes) -> Result<Machine, Fault>
+    requires { length bytes ≤ input_limit }
+    ensures accepted { IfOk result IsAccepted }
+    ensures shown { IfOk result (λ machine. DumpShows bytes (inventory_of machine)) }
+    ensures err { IfErr result (CannotBeTold bytes) }
+{
     let inventory = inventory_in(alloc, bytes)?;
-    let written = write_list(&inventory, out);
+    let machine = describe(alloc, &inventory);
     drop(inventory);
-    written
+    Ok(machine?)
 }
 
 // What the memory shows of which these bytes are the dump. They are given up as soon as the memory is read.

@@ -2,9 +2,9 @@ ghost use Rattle.std.specs.Prelude.{◌≡◌};
 ghost use Rattle.vmtables.specs.Outcome.{line_of, status_of_fault, status_of_load};
 
 use crate::input::InputFault;
-use crate::lines::{container_line, dump_line, load_line, tables_line};
+use crate::lines::{container_line, dump_line, load_line, profile_line, tables_line};
 use crate::status::Status;
-use anchor_scan::ScanFault;
+use anchor_scan::{DescribeFault, ScanFault};
 use cfg_directory::ImageFault;
 use command_acts::LoadFault;
 use desc_toml::DescFault;
@@ -34,6 +34,11 @@ pub enum Fault {
     },
     /// The tables of a dump's memory have this first fault.
     Tables(ScanFault),
+    /// What a dump's memory shows is no machine's.
+    NotProfile {
+        /// The first item in which it isn't, as `DescribeFault` numbers them.
+        item: u8,
+    },
     /// The sink failed.
     WriteFault,
     /// Memory ran out.
@@ -56,7 +61,7 @@ impl Fault {
             Fault::Container(_) => Status::ImageRefused,
             Fault::Load(fault) => status_of_load(*fault),
             Fault::Dump { .. } => Status::DumpRefused,
-            Fault::Tables(_) => Status::TablesRefused,
+            Fault::Tables(_) | Fault::NotProfile { .. } => Status::TablesRefused,
             Fault::WriteFault => Status::WriteFault,
             Fault::OutOfMemory => Status::OutOfMemory,
             Fault::InputTooLong => Status::InputTooLong,
@@ -76,6 +81,7 @@ impl Fault {
             Fault::Load(fault) => load_line(*fault),
             Fault::Dump { fault, line } => dump_line(*fault, *line),
             Fault::Tables(fault) => tables_line(*fault),
+            Fault::NotProfile { item } => profile_line(*item),
             Fault::WriteFault => words("write fault\n"),
             Fault::OutOfMemory => words("out of memory\n"),
             Fault::InputTooLong => words("input too long\n"),
@@ -180,6 +186,19 @@ impl From<ScanFault> for Fault {
         match fault {
             ScanFault::OutOfMemory => Fault::OutOfMemory,
             refused => Fault::Tables(refused),
+        }
+    }
+}
+
+impl From<DescribeFault> for Fault {
+    ghost use Rattle.vmtables.specs.Causes.{IsOfDescribing};
+
+    ghost from_gives = { IsOfDescribing };
+
+    fn from(fault: DescribeFault) -> Fault {
+        match fault {
+            DescribeFault::NotProfile { item } => Fault::NotProfile { item },
+            DescribeFault::OutOfMemory => Fault::OutOfMemory,
         }
     }
 }

@@ -1,10 +1,12 @@
-//! The top call of the program: words and a description, a container or a dump in, the dump of a guest's memory, a container or a list out.
+//! The top call of the program: words and a description, a container or a dump in, the dump of a guest's memory, a container, a list, a description
+//! or counts out.
 //!
 //! `boot` reads a machine's description (TOML), builds the files that a firmware loads (SMBIOS structures and
 //! their anchor, DSP0134; ACPI tables) and the script that places, patches and checksums them, runs that script on the memory
 //! of a guest, and writes the memory as text. `build` writes these files as one container. `load` reads a container, made here or
-//! elsewhere, and runs its script in the same way. `decode --list` reads the dump of a guest's memory, and lists what the guest finds
-//! there.
+//! elsewhere, and runs its script in the same way. `decode` reads the dump of a guest's memory, and writes the description of the machine
+//! that the guest finds there; with `--list` it lists what the guest finds. `gen` boots a machine that it generates of a number of
+//! processors, and counts what it has.
 #![tactic(auto)]
 
 mod boot_command;
@@ -13,11 +15,13 @@ mod carrying_out;
 mod decode_command;
 mod describing;
 mod fault;
+mod generate_command;
 mod input;
 pub mod laws;
 mod lines;
 mod load_command;
 mod loading;
+mod machine_booting;
 mod status;
 mod top_call;
 mod writing;

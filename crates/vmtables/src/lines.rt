@@ -1,7 +1,7 @@
 //! The lines that tell faults to a person, put together on the stack.
 
 ghost use Rattle.std.specs.Prelude.{◌≡◌, ◌≤◌, ◌++◌, ◌∷◌, [], codes, decimal, length};
-ghost use Rattle.vmtables.specs.Outcome.{cause_number, container_line, container_number, dump_line, dump_number, load_line, tables_line};
+ghost use Rattle.vmtables.specs.Outcome.{cause_number, container_line, container_number, dump_line, dump_number, load_line, profile_line, tables_line};
 
 use anchor_scan::ScanFault;
 use cfg_directory::ImageFault;
@@ -118,4 +118,11 @@ pub(crate) fn tables_line(fault: ScanFault) -> Line
         ScanFault::Smbios(fault) => smbios_line(fault),
         ScanFault::OutOfMemory => words("out of memory\n"),
     }
+}
+
+/// The line of a memory that no machine shows: the first item that fails.
+pub(crate) fn profile_line(item: u8) -> Line
+    ensures { result.bytes ≡ profile_line item }
+{
+    numbered_line("tables: not this profile, item ", u32::from(item))
 }

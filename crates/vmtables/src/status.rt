@@ -18,7 +18,7 @@ pub enum Status {
     ImageRefused = 5,
     /// The bytes are no dump.
     DumpRefused = 6,
-    /// The tables of the dump's memory have a fault.
+    /// The tables of the dump's memory have a fault, or are those of no machine that a description can have.
     TablesRefused = 7,
     /// The sink failed. It took a part of the output from its front.
     WriteFault = 8,

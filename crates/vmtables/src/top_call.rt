@@ -1,12 +1,10 @@
-ghost use Rattle.std.specs.Prelude.{◌≡◌, ◌≢◌, ◌<◌, ◌↔◌, map, string_bytes, None, Some};
+ghost use Rattle.std.specs.Prelude.{◌≡◌, ◌≢◌, ◌<◌, ◌↔◌, map, string_bytes, None};
 ghost use Rattle.std.specs.Prelude.{IfSome, IfErr, OnOk};
 ghost use Rattle.vt_outside.specs.Stream.{IsFlushed, Rose};
-ghost use Rattle.vt_words.specs.declared.command.Command.TheVariants.{Boot};
-ghost use Rattle.vt_words.specs.declared.setting.Setting.{Setting};
 ghost use Rattle.vt_words.specs.Command.{command_of};
 ghost use Rattle.command_acts.specs.Allocators.{MayAnswer};
 ghost use Rattle.vmtables.specs.Calls.{Said, Answered, seen_by};
-ghost use Rattle.vmtables.specs.Does.{Does};
+ghost use Rattle.vmtables.specs.Does.{Does, NothingIsRefused};
 ghost use Rattle.vmtables.specs.Outcome.{input_limit, given_count, status_of, line_of};
 
 use crate::carrying_out::carry_out;
@@ -20,8 +18,8 @@ use zone_alloc::ZoneAlloc;
 /// Carries out the command that `words`, those after the program's name, ask for, as [`carry_out`] does, and returns how it ended: with
 /// `Ok`, or with the status of the fault that `carry_out` answers. `ImageRefused` means that the bytes are no container, that its script is
 /// missing or has no script's length, or that a command is refused, `NoRoom` that `place` gave no place for a file, `DumpRefused` that the
-/// bytes are no dump, and `TablesRefused` that the tables of the dump's memory have a fault; each other status has the name of its fault,
-/// or of what `carry_out` says of it.
+/// bytes are no dump, and `TablesRefused` that the tables of the dump's memory have a fault or are no machine's; each other status has the
+/// name of its fault, or of what `carry_out` says of it.
 ///
 /// `say` takes the line of a status other than `Ok`. What becomes of that line changes nothing else.
 pub fn top<S: Source, K: Sink, E: Sink, A: ZoneAlloc, C: Schedule>(
@@ -41,9 +39,10 @@ pub fn top<S: Source, K: Sink, E: Sink, A: ZoneAlloc, C: Schedule>(
         (seen_by A.state C.plan world.new place.new plan.new)) result
         (S.seen source.old) (S.seen source.new) (K.seen out.old) (K.seen out.new) (E.seen say.old) (E.seen say.new) }
 
-    // When each status comes that isn't the command's own. Want of memory may come at any time. No image of a machine is refused.
+    // When each status comes that isn't the command's own. Want of memory may come at any time. Nothing is refused that the program builds
+    // itself.
     ensures usage { (result ≡ Status.Usage) ↔ (command_of (map string_bytes words.now) ≡ None) }
-    ensures image_kept { (setting : Setting) → command_of (map string_bytes words.now) ≡ Some (Boot setting) → result ≢ Status.ImageRefused }
+    ensures kept { NothingIsRefused (command_of (map string_bytes words.now)) result }
     ensures read_fault { result ≡ Status.ReadFault → Rose (S.seen source.old).faults (S.seen source.new).faults }
     ensures read_sound { result ≢ Status.ReadFault → (S.seen source.new).faults ≡ (S.seen source.old).faults }
     ensures too_long { IfSome (S.seen source.old).left (λ _.

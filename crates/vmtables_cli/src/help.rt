@@ -17,7 +17,8 @@ Status: 0 done, 1 read fault, 2 usage, 3 description refused, 4 no room, 5 image
 7 tables refused, 8 write fault, 9 out of memory, 10 input too long, 11 image too large. With a status other
 than 0 a line on standard error says which. That of 3 names the key that is wrong, or the rule that is broken;
 those of 4 and 5 name what is wrong with the container, its script or a command; that of 6 the line of the dump,
-and that of 7 the address of the table. docs/FORMATS.md has the keys, the rules and the lines.
+and that of 7 the address of the table, or the first item in which a memory is no machine's that this program
+describes. docs/FORMATS.md has the keys, the rules, the items and the lines.
 ";
 
 /// Prints the whole text.
@@ -55,9 +56,12 @@ impl fmt::Display for Usage<'_> {
         for option in command.options {
             write_usage(f, option)?;
         }
-        let input = command.input;
+        if !command.input.is_empty() {
+            let input = command.input;
+            write!(f, " < {input}")?;
+        }
         let output = command.output;
-        write!(f, " < {input} > {output}")
+        write!(f, " > {output}")
     }
 }
 

@@ -1,27 +1,42 @@
 -- What a sink took of a text, piece by piece.
-use Rattle.std.proofs.Common.{◌≡◌, ℕ, ◌-◌, List, [], ◌++◌, length, take, drop, Option, Some, None, refl, ap, sym, ◌∙◌, append_assoc}
+use Rattle.std.proofs.Common.{◌≡◌, ℕ, ◌+◌, ◌-◌, ◌^◌, min, max, List, [], ◌++◌, length, take, drop, refl, ap, sym, ◌∙◌, append_assoc, arith}
 use Rattle.std.proofs.lemmas.List.{take-append-drop, take_rest, append-nil}
-use Rattle.vt_outside.specs.Stream.{SinkSeen, behind, Took, TookFront}
+use Rattle.std.proofs.lemmas.List.Sums.{sum_by-append}
+use Rattle.vt_outside.specs.Stream.{SinkSeen, Told, Untold, Bytes, LineFeeds, line_feeds, behind, Took, TookFront}
+
+pub line_feeds-append : (a b : List ℕ) → line_feeds (a ++ b) ≡ line_feeds a + line_feeds b
+line_feeds-append a b = sum_by-append _ a b
+
+-- two numbers counted one after the other are their sum counted
+counted_both : (count a b both last : ℕ) → both ≡ a + b
+    → max (max count (min (count + a) last)) (min (max count (min (count + a) last) + b) last) ≡ max count (min (count + both) last)
+counted_both count a b both last all = omega arith
+
+counted_none : (count last : ℕ) → count ≡ max count (min (count + 0) last)
+counted_none count last = omega arith
 
 -- two pieces taken one after the other are one piece taken
-pub behind-append : (taken : Option (List ℕ)) (a b : List ℕ) → behind (behind taken a) b ≡ behind taken (a ++ b)
-behind-append None a b = refl
-behind-append (Some before) a b = ap (λ (bytes : List ℕ). Some bytes) (append_assoc before a b)
+pub behind-append : (taken : Told) (a b : List ℕ) → behind (behind taken a) b ≡ behind taken (a ++ b)
+behind-append Untold a b = refl
+behind-append (Bytes before) a b = ap (λ (bytes : List ℕ). Bytes bytes) (append_assoc before a b)
+behind-append (LineFeeds before) a b =
+    ap (λ (count : ℕ). LineFeeds count) (counted_both before (line_feeds a) (line_feeds b) (line_feeds (a ++ b)) (2 ^ 64 - 1) (line_feeds-append a b))
 
 -- nothing more is taken
-pub behind-nothing : (taken : Option (List ℕ)) → taken ≡ behind taken []
-behind-nothing None = refl
-behind-nothing (Some before) = ap (λ (bytes : List ℕ). Some bytes) (sym (append-nil before))
+pub behind-nothing : (taken : Told) → taken ≡ behind taken []
+behind-nothing Untold = refl
+behind-nothing (Bytes before) = ap (λ (bytes : List ℕ). Bytes bytes) (sym (append-nil before))
+behind-nothing (LineFeeds before) = ap (λ (count : ℕ). LineFeeds count) (counted_none before (2 ^ 64 - 1))
 
 -- a sink that took nothing is as it was
 pub took_nothing : (s : SinkSeen) → Took [] s s
-took_nothing s = ap (λ (taken : Option (List ℕ)). record s { taken = taken }) (behind-nothing s.taken)
+took_nothing s = ap (λ (taken : Told). record s { taken = taken }) (behind-nothing s.taken)
 
 -- a text, and then another
 pub took_then : (before now after : SinkSeen) (text more : List ℕ) → Took text before now → Took more now after → Took (text ++ more) before after
 took_then before now after text more first second =
     second ∙ ap (λ (s : SinkSeen). record s { taken = behind s.taken more }) first
-    ∙ ap (λ (taken : Option (List ℕ)). record before { taken = taken }) (behind-append before.taken text more)
+    ∙ ap (λ (taken : Told). record before { taken = taken }) (behind-append before.taken text more)
 
 -- The sink took what of the text stands before this rest.
 pub record TookUpTo (text rest : List ℕ) (before after : SinkSeen) : Type 0 where
@@ -54,7 +69,7 @@ front_then before now after text more first second =
       rest = second.rest;
       text_is = whole;
       took = second.took ∙ ap (λ (s : SinkSeen). record s { taken = behind s.taken second.front; faults = after.faults }) first
-          ∙ ap (λ (taken : Option (List ℕ)). record before { taken = taken; faults = after.faults }) (behind-append before.taken text second.front);
+          ∙ ap (λ (taken : Told). record before { taken = taken; faults = after.faults }) (behind-append before.taken text second.front);
       rose = rw (ap (λ (s : SinkSeen). s.faults) (sym first)) second.rose;
     }
 

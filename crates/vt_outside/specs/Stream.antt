@@ -1,5 +1,5 @@
 -- What is seen of a source and of a sink, and what one call leaves of it.
-use Rattle.std.specs.Prelude.{◌≡◌, ℕ, Bool, ◌+◌, ◌-◌, ◌^◌, ◌≤◌, min, List, ◌++◌, length, Option, Some, None, IfSome}
+use Rattle.std.specs.Prelude.{◌≡◌, ◌==◌, ℕ, Bool, ◌+◌, ◌-◌, ◌^◌, ◌≤◌, min, max, List, ◌++◌, length, count_by, Option, Some, None}
 
 -- the next value of a count that is kept in a u64
 abbrev pub next_count : ℕ → ℕ
@@ -15,11 +15,21 @@ abbrev pub in_front : List ℕ → Option (List ℕ) → Option (List ℕ)
 in_front given None = None
 in_front given (Some rest) = Some (given ++ rest)
 
--- What is taken after these bytes were taken: what was taken before, and then they.
--- Of a sink that tells nothing, nothing is said.
-abbrev pub behind : Option (List ℕ) → List ℕ → Option (List ℕ)
-behind None piece = None
-behind (Some before) piece = Some (before ++ piece)
+-- how many line feeds bytes have
+abbrev pub line_feeds : List ℕ → ℕ
+line_feeds bytes = count_by (λ byte. byte == 10) bytes
+
+-- What a sink tells of the bytes that it took: nothing, the bytes, or how many line feeds they have.
+pub data Told : Type 0 where
+  Untold : Told
+  Bytes : List ℕ → Told
+  LineFeeds : ℕ → Told
+
+-- What is told after these bytes were taken: of what was taken before, and then they. A count that is kept in a u64 stays at its last value.
+abbrev pub behind : Told → List ℕ → Told
+behind Untold piece = Untold
+behind (Bytes before) piece = Bytes (before ++ piece)
+behind (LineFeeds before) piece = LineFeeds (max before (min (before + line_feeds piece) (2 ^ 64 - 1)))
 
 -- What is seen of a source: the bytes that are left, where it tells them, whether a read has found that none is, and how many reads were
 -- answered with a fault.
@@ -28,10 +38,10 @@ pub record SourceSeen : Type 0 where
   pub ended : Bool
   pub faults : ℕ
 
--- What is seen of a sink: the bytes that were taken, where it tells them, how many of them are flushed, and how many writes and flushes were
+-- What is seen of a sink: what it tells of the bytes that were taken, how many of them are flushed, and how many writes and flushes were
 -- answered with a fault.
 pub record SinkSeen : Type 0 where
-  pub taken : Option (List ℕ)
+  pub taken : Told
   pub flushed : ℕ
   pub faults : ℕ
 
@@ -55,6 +65,11 @@ pub record TookFront (text : List ℕ) (before after : SinkSeen) : Type 0 where
   pub took : after ≡ record before { taken = behind before.taken front; faults = after.faults }
   pub rose : Rose before.faults after.faults
 
--- All that a sink took is flushed.
+-- so many bytes are all that are told
+abbrev pub AreAll : ℕ → Told → Type 0
+AreAll count (Bytes bytes) = count ≡ length bytes
+AreAll count other = Unit {0}
+
+-- All that a sink took is flushed, where it tells its bytes.
 abbrev pub IsFlushed : SinkSeen → Type 0
-IsFlushed s = IfSome s.taken (λ bytes. s.flushed ≡ length bytes)
+IsFlushed s = AreAll s.flushed s.taken

@@ -1,6 +1,6 @@
 ghost use Rattle.std.specs.Prelude.{◌≡◌, ◌≢◌, ◌<◌, ◌≤◌, ◌+◌, ◌-◌, ◌↔◌, ◌⊎◌, [], ◌++◌, length, take, min};
-ghost use Rattle.std.specs.Prelude.{Some, None, IsErr, IsOk, IfOk, IfSome, OnErr, OnOk, Contains};
-ghost use Rattle.vt_outside.specs.Stream.{next_count};
+ghost use Rattle.std.specs.Prelude.{IsErr, IsOk, IfOk, OnErr, OnOk, Contains};
+ghost use Rattle.vt_outside.specs.Stream.{next_count, Bytes, Untold, AreAll};
 
 use crate::fault::{Failed, OutOfMemory};
 use crate::list::List;
@@ -65,7 +65,7 @@ impl ListSink {
 }
 
 impl Sink for ListSink {
-    ghost seen = { λ s. record { taken = Some s.taken; flushed = s.flushed; faults = s.faults } };
+    ghost seen = { λ s. record { taken = Bytes s.taken; flushed = s.flushed; faults = s.faults } };
 
     fn write(&mut self, piece: &[u8]) -> Result<usize, Failed>
         requires { 0 < length piece.now }
@@ -112,7 +112,7 @@ impl SureSink {
 }
 
 impl Sink for SureSink {
-    ghost seen = { λ _. record { taken = None; flushed = 0; faults = 0 } };
+    ghost seen = { λ _. record { taken = Untold; flushed = 0; faults = 0 } };
 
     fn write(&mut self, piece: &[u8]) -> Result<usize, Failed>
         requires { 0 < length piece.now }

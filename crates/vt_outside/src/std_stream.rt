@@ -1,7 +1,7 @@
 ghost use Rattle.std.specs.Prelude.{◌≡◌, ◌≢◌, ◌==◌, ◌<◌, ◌≤◌, length, true, false, Ok, Some, None, IsErr, IsSomeAnd, IfOk, IfErr, OnErr, OnOk};
 ghost use Rattle.std.specs.Io.KnownBytes.{Keeps, ReadConsumes, WriteAppends};
 ghost use Rattle.std.specs.IoError.{error_kind};
-ghost use Rattle.vt_outside.specs.Stream.{next_count};
+ghost use Rattle.vt_outside.specs.Stream.{next_count, Untold};
 
 use crate::fault::Failed;
 use crate::stream::{Sink, Source};
@@ -96,7 +96,7 @@ impl<W: Write> WriteSink<W> {
 }
 
 impl<W: Write> Sink for WriteSink<W> {
-    ghost seen = { λ s. record { taken = None; flushed = 0; faults = s.faults } };
+    ghost seen = { λ s. record { taken = Untold; flushed = 0; faults = s.faults } };
 
     fn write(&mut self, piece: &[u8]) -> Result<usize, Failed>
         requires { 0 < length piece.now }

@@ -30,7 +30,7 @@ pub trait Source {
 
 /// Where bytes go to.
 pub trait Sink {
-    // The bytes that were taken, where the sink tells them; how many of them are flushed; and how many writes and flushes were answered with
+    // What the sink tells of the bytes that were taken; how many of them are flushed; and how many writes and flushes were answered with
     // Failed. A count that is kept in a u64 stays at its last value.
     ghost seen: { Self → SinkSeen };
 

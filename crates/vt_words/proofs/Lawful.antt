@@ -1,17 +1,21 @@
 -- The values of a command are in range.
-use Rattle.std.proofs.Common.{◌≡◌, ℕ, zero, suc, ◌^◌, ◌-◌, Bool, true, false, cond, List, [], ◌∷◌, Option, Some, None, IfSome, option_map, arith, refl}
+use Rattle.std.proofs.Common.{◌≡◌, ℕ, zero, suc, ◌^◌, ◌-◌, Bool, true, false, cond, List, [], ◌∷◌, Option, Some, None, IfSome, option_map, arith, refl, nat_le, ◌&&◌, if◌then◌else◌}
+use Rattle.std.proofs.lemmas.Bool.{and_parts}
 use Rattle.std.specs.List.{AllByRecursion, find}
 use Rattle.std.specs.Option.{option_and_then}
 use Rattle.std.specs.Str.{bytes_eq}
 use Rattle.word_schema.specs.declared.value.Value.{Value}
-use Rattle.word_schema.specs.Fits.{fits, fits_row, is_sound}
+use Rattle.word_schema.specs.declared.value.Value.TheVariants as values
+use Rattle.word_schema.specs.Forms as forms
+use Rattle.word_schema.specs.Fits.{fits, fits_form, fits_row, fit_behind, is_sound}
 use Rattle.word_schema.specs.Given.{values_of}
-use Rattle.word_schema.specs.Taken.{rest, value_at, number_to, place_in}
+use Rattle.word_schema.specs.Taken.{first, rest, value_at, flag_of, number_to, place_in}
 use Rattle.word_schema.proofs.Fitting.{values_fit}
 use Rattle.word_schema.proofs.Places.{row_fits, number_kept, byte_kept}
-use Rattle.vt_words.specs.Command.{CommandRow, IsLawful, boot_of, build_of, decode_of, load_of, command_named, command_of, commands}
+use Rattle.vt_words.specs.declared.command.Command.TheVariants.{Decode, List as Listing}
+use Rattle.vt_words.specs.Command.{CommandRow, IsLawful, boot_of, build_of, decode_of, gen_of, load_of, command_named, command_of, commands}
 use Rattle.vt_words.specs.Policies.{policy_at, HasSeed}
-use Rattle.vt_words.specs.Rows.{top_row, seed_row, boot, build, decode, load}
+use Rattle.vt_words.specs.Rows.{top_row, seed_row, boot, build, decode, generate, load}
 use Rattle.vt_words.specs.Settings.{IsSetting, setting_of}
 
 has_seed : (seed place : ℕ) → HasSeed seed (policy_at seed place)
@@ -34,7 +38,11 @@ lawful_build : (values : List Value) → fits build values ≡ true → IsLawful
 lawful_build values fit = tt
 
 lawful_decode : (values : List Value) → fits decode values ≡ true → IsLawful (decode_of values)
-lawful_decode values fit = tt
+lawful_decode values fit = elim (flag_of (first values)) as (λ listed. IsLawful (if listed then Listing else Decode)) [ true ↦ tt | false ↦ tt ]
+
+lawful_gen : (values : List Value) → fits generate values ≡ true → IsLawful (gen_of values)
+lawful_gen [] fit = absurd (cc)
+lawful_gen (value ∷ values) fit = number_kept 1 4096 value (and_parts (fits_form (forms.Number 1 4096) value) (fit_behind [] [] values) fit).0
 
 lawful_boot : (values : List Value) → fits boot values ≡ true → IsLawful (boot_of values)
 lawful_boot values fit = lawful_setting values (row_fits boot.options values 2 seed_row fit refl)
@@ -49,7 +57,7 @@ MakesLawful command = (is_sound command.schema ≡ true) × ((values : List Valu
 
 each_lawful : AllByRecursion MakesLawful commands
 unfolding MakesLawful
-each_lawful = ((refl, lawful_build), ((refl, lawful_boot), ((refl, lawful_load), ((refl, lawful_decode), tt))))
+each_lawful = ((refl, lawful_build), ((refl, lawful_boot), ((refl, lawful_load), ((refl, lawful_decode), ((refl, lawful_gen), tt)))))
 
 -- What holds of all is so of one that is found.
 pub of_found : {A : Type 0} (P : A → Type 0) (test : A → Bool) (xs : List A) → AllByRecursion P xs → IfSome (find test xs) P

@@ -1,15 +1,15 @@
 -- Which words are which command.
-use Rattle.std.specs.Prelude.{ℕ, ◌≤◌, ⊤, List, [], ◌∷◌, Option, None, option_map}
+use Rattle.std.specs.Prelude.{ℕ, ◌≤◌, ⊤, List, [], ◌∷◌, Option, None, option_map, if◌then◌else◌}
 use Rattle.std.specs.List.{find}
 use Rattle.std.specs.Option.{option_and_then}
 use Rattle.std.specs.Str.{bytes_eq}
 use Rattle.word_schema.specs.declared.value.Value.{Value}
 use Rattle.word_schema.specs.Forms.{Schema}
 use Rattle.word_schema.specs.Given.{values_of}
-use Rattle.word_schema.specs.Taken.{first, rest, number_to}
+use Rattle.word_schema.specs.Taken.{first, rest, flag_of, number_to}
 use Rattle.vt_words.specs.declared.command.Command.{Command}
-use Rattle.vt_words.specs.declared.command.Command.TheVariants.{Boot, Load, Build, Decode}
-use Rattle.vt_words.specs.Rows.{boot, build, decode, load}
+use Rattle.vt_words.specs.declared.command.Command.TheVariants.{Boot, Load, Build, Decode, List as Listing, Gen}
+use Rattle.vt_words.specs.Rows.{boot, build, decode, generate, load}
 use Rattle.vt_words.specs.Settings.{IsSetting, setting_of}
 
 -- What each command is with the values of its words, which stand in the order of its options.
@@ -23,7 +23,10 @@ abbrev pub load_of : List Value → Command
 load_of values = Load (record { top_mib = number_to 3072 (first values); setting = setting_of (rest values) })
 
 abbrev pub decode_of : List Value → Command
-decode_of values = Decode
+decode_of values = if flag_of (first values) then Listing else Decode
+
+abbrev pub gen_of : List Value → Command
+gen_of values = Gen (number_to 4096 (first values))
 
 -- a command's words, and what it is with their values
 pub record CommandRow : Type 0 where
@@ -35,7 +38,8 @@ row schema make = record { schema = schema; make = make }
 
 -- the commands
 abbrev pub commands : List CommandRow
-commands = row build build_of ∷ row boot boot_of ∷ row load load_of ∷ row decode decode_of ∷ []
+commands = row build build_of ∷ row boot boot_of ∷ row load load_of ∷ row decode decode_of
+    ∷ row generate gen_of ∷ []
 
 -- the command of a name
 abbrev pub command_named : List ℕ → Option CommandRow
@@ -52,3 +56,5 @@ IsLawful (Boot setting) = IsSetting setting
 IsLawful (Load options) = (64 ≤ options.top_mib) × (options.top_mib ≤ 3072) × IsSetting options.setting
 IsLawful Build = ⊤
 IsLawful Decode = ⊤
+IsLawful Listing = ⊤
+IsLawful (Gen processors) = (1 ≤ processors) × (processors ≤ 4096)

@@ -1,5 +1,5 @@
 -- The commands and their options, without the texts of their help.
-use Rattle.std.specs.Prelude.{ℕ, ◌-◌, ◌^◌, List, [], ◌∷◌, Option, Some, None, codes}
+use Rattle.std.specs.Prelude.{ℕ, ◌-◌, ◌^◌, false, List, [], ◌∷◌, Option, Some, codes}
 use Rattle.word_schema.specs.declared.value.Value.{Value}
 use Rattle.word_schema.specs.declared.value.Value.TheVariants as values
 use Rattle.word_schema.specs.Forms.{Form, Byte, Number, Word, Row, Schema, Flag, Valued}
@@ -41,7 +41,7 @@ setting_rows = fill_row ∷ policy_row ∷ seed_row ∷ []
 
 -- that a list is wanted
 abbrev pub list_row : Row
-list_row = flag (codes "--list") None
+list_row = flag (codes "--list") (Some (values.Flag false))
 
 abbrev pub build : Schema
 build = command (codes "build") []
@@ -54,3 +54,7 @@ load = command (codes "load") (top_row ∷ setting_rows)
 
 abbrev pub decode : Schema
 decode = command (codes "decode") (list_row ∷ [])
+
+-- how many processors a machine is generated of
+abbrev pub generate : Schema
+generate = record { name = codes "gen"; operands = Number 1 4096 ∷ []; options = []; exclusive = [] }

@@ -1,9 +1,9 @@
 ghost use Rattle.std.specs.Prelude.{◌≡◌, ◌∷◌, map, string_bytes, option_map, IfSome};
 ghost use Rattle.word_schema.specs.Given.{values_of};
-ghost use Rattle.vt_words.specs.Command.{IsLawful, boot_of, build_of, command_of, decode_of, load_of};
-ghost use Rattle.vt_words.specs.Rows.{boot, build, decode, load};
+ghost use Rattle.vt_words.specs.Command.{IsLawful, boot_of, build_of, command_of, decode_of, gen_of, load_of};
+ghost use Rattle.vt_words.specs.Rows.{boot, build, decode, generate, load};
 
-use crate::rows::{BOOT, BUILD, DECODE, LOAD};
+use crate::rows::{BOOT, BUILD, DECODE, GEN, LOAD};
 use crate::setting::Setting;
 use word_schema::read_values;
 
@@ -16,8 +16,12 @@ pub enum Command {
     Load(LoadOptions),
     /// Builds a machine's files, and gives their container.
     Build,
-    /// Reads a dump, and lists what its memory shows.
+    /// Reads a dump, and describes the machine that its memory shows.
     Decode,
+    /// Reads a dump, and lists what its memory shows.
+    List,
+    /// Loads the files of a machine that is generated of so many processors, and counts what it has.
+    Gen(u32),
 }
 
 /// What the options of `load` say.
@@ -52,6 +56,8 @@ fn command_with(name: &str, words: &[String]) -> Option<Command>
         load_of(words)
     } else if *name == *DECODE.name {
         decode_of(words)
+    } else if *name == *GEN.name {
+        gen_of(words)
     } else {
         None
     }
@@ -84,6 +90,17 @@ fn load_of(words: &[String]) -> Option<Command>
 fn decode_of(words: &[String]) -> Option<Command>
     ensures { result ≡ option_map decode_of (values_of decode (map string_bytes words.now)) }
 {
-    let _values = read_values(&DECODE, words)?;
-    Some(Command::Decode)
+    let mut values = read_values(&DECODE, words)?;
+    if values.take_flag() {
+        Some(Command::List)
+    } else {
+        Some(Command::Decode)
+    }
+}
+
+fn gen_of(words: &[String]) -> Option<Command>
+    ensures { result ≡ option_map gen_of (values_of generate (map string_bytes words.now)) }
+{
+    let mut values = read_values(&GEN, words)?;
+    Some(Command::Gen(values.take_number(4096) as u32))
 }

@@ -4,7 +4,7 @@ ghost use Rattle.std.specs.Prelude.{◌≡◌, map};
 ghost use Rattle.word_schema.specs.Forms.{schema_of};
 ghost use Rattle.vt_words.specs.Command.{commands};
 
-use word_schema::{CommandSchema, Form, Kind, OptionSchema, Value};
+use word_schema::{CommandSchema, Form, Kind, OperandSchema, OptionSchema, Value};
 
 // An option with a value: its name, what stands for the value in the help, what the value is to be, and what it is where it's left out.
 macro_rules! valued {
@@ -66,9 +66,15 @@ macro_rules! flag {
 
 const LIST: OptionSchema = flag!(
     "--list",
-    None,
-    "lists the SMBIOS structures and the ACPI tables that a guest finds in this memory"
+    Some(Value::Flag(false)),
+    "lists the SMBIOS structures and the ACPI tables that a guest finds in this memory, whatever machine has them"
 );
+
+const PROCESSORS: OperandSchema = OperandSchema {
+    form: Form::Number(1, 4096),
+    placeholder: "N",
+    about: "how many processors the machine has",
+};
 
 pub(crate) const BUILD: CommandSchema = CommandSchema {
     name: "build",
@@ -106,11 +112,21 @@ pub(crate) const DECODE: CommandSchema = CommandSchema {
     options: &[LIST],
     exclusive: &[],
     input: "DUMP",
-    output: "LIST",
-    about: "reads a dump of a guest's memory, and tells what the memory shows from its RSDP and its SMBIOS anchor, or the first fault",
+    output: "DESCRIPTION",
+    about: "reads a dump of a guest's memory, and describes the machine that it shows from its RSDP and its SMBIOS anchor, or tells the first fault",
 };
 
-const COMMANDS: &[CommandSchema] = &[BUILD, BOOT, LOAD, DECODE];
+pub(crate) const GEN: CommandSchema = CommandSchema {
+    name: "gen",
+    operands: &[PROCESSORS],
+    options: &[],
+    exclusive: &[],
+    input: "",
+    output: "COUNTS",
+    about: "loads the files of a large machine into a guest's memory, as boot does, and writes how many of what it has",
+};
+
+const COMMANDS: &[CommandSchema] = &[BUILD, BOOT, LOAD, DECODE, GEN];
 
 /// Returns the rows of the commands, in the order in which the help lists them: those by which `read_words` reads.
 pub fn commands() -> &'static [CommandSchema]

@@ -11,7 +11,7 @@ pub struct CommandSchema {
     pub options: &'static [OptionSchema],
     /// Lists the pairs of options of which at most one may be given.
     pub exclusive: &'static [Exclusive],
-    /// Names what the command reads, in capitals.
+    /// Names what the command reads, in capitals; nothing where it reads nothing.
     pub input: &'static str,
     /// Names what the command writes, in capitals.
     pub output: &'static str,

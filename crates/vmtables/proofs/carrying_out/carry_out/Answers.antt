@@ -1,5 +1,6 @@
 use Rattle.std.proofs.Common.{Some, ap, sym, ◌∙◌}
-use Rattle.vt_words.specs.declared.command.Command.TheVariants.{Build, Decode}
+use Rattle.vt_words.specs.declared.command.Command.TheVariants.{Boot, Build, Decode, Gen, List}
+use Rattle.vmtables.proofs.BootEnds.{words_refuse_nothing}
 use Rattle.vmtables.proofs.Endings.{usage_ran, commanded}
 use Rattle.vmtables.proofs.carrying_out.carry_out.Goals as goal
 
@@ -15,3 +16,26 @@ pub returns-in-Some-Decode-clause-ran : goal.returns-in-Some-Decode-clause-ran
 returns-in-Some-Decode-clause-ran g c =
     commanded _ (Some Decode) _ c.decode.result _ _ _ _ _ _ (ap Some (sym c.in-Some-Decode.field-0-is) ∙ c.in-Some-Decode.ensures.command)
     (c.decode.ensures.ran _)
+
+pub returns-in-Some-List-clause-ran : goal.returns-in-Some-List-clause-ran
+returns-in-Some-List-clause-ran g c =
+    commanded _ (Some List) _ c.list.result _ _ _ _ _ _ (ap Some (sym c.in-Some-List.field-0-is) ∙ c.in-Some-List.ensures.command)
+    (c.list.ensures.ran _)
+
+pub returns-in-Some-Gen-clause-ran : goal.returns-in-Some-Gen-clause-ran
+returns-in-Some-Gen-clause-ran g c =
+    commanded _ (Some (Gen c.in-Some-Gen.processors)) _ c.generate.result _ _ _ _ _ _
+    (ap Some (sym c.in-Some-Gen.field-0-is) ∙ c.in-Some-Gen.ensures.command) (c.generate.ensures.ran _)
+
+pub returns-in-Some-Boot-clause-kept : goal.returns-in-Some-Boot-clause-kept
+returns-in-Some-Boot-clause-kept g c =
+    words_refuse_nothing _ (Some (Boot c.in-Some-Boot.setting)) _ c.boot.result _ _ _ _ _ _
+    (ap Some (sym c.in-Some-Boot.field-0-is) ∙ c.in-Some-Boot.ensures.command) c.boot.ensures.ran
+
+pub returns-in-Some-Gen-clause-kept : goal.returns-in-Some-Gen-clause-kept
+returns-in-Some-Gen-clause-kept g c =
+    words_refuse_nothing _ (Some (Gen c.in-Some-Gen.processors)) _ c.generate.result _ _ _ _ _ _
+    (ap Some (sym c.in-Some-Gen.field-0-is) ∙ c.in-Some-Gen.ensures.command) (c.generate.ensures.ran (g.S.Source.seen c.args.source.now))
+
+pub returns-in-Some-Gen-clause-streams : goal.returns-in-Some-Gen-clause-streams
+returns-in-Some-Gen-clause-streams g c = c.generate.ensures.streams _

@@ -1,5 +1,5 @@
 use Rattle.command_acts.specs.Allocators.{MayAnswer}
-use Rattle.vmtables.proofs.Listed.{decode_told}
+use Rattle.vmtables.proofs.Told.{decode_told}
 use Rattle.vmtables.proofs.laws.decode_tells_each_fault.Goals as goal
 
 pub returns : goal.returns

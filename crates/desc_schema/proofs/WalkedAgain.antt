@@ -1,15 +1,12 @@
 -- The walk of the document that is written of values gives them again, part by part.
-use Rattle.std.proofs.Common.{◌≡◌, ℕ, zero, suc, pos, ◌+◌, ◌<◌, true, false, Bool, not, List, [], ◌∷◌, ◌++◌, length, replicate, Option, Some, None}
-use Rattle.std.proofs.Common.{Ok, ◌⊎◌, refl, sym, ap, ◌∙◌, ⊎_elim, append_assoc, arith, Ordering, Less, Equal, Greater, nat_cmp}
-use Rattle.std.proofs.lemmas.Bool.{false≢true, cases_Bool, and_parts, or_parts, or_left, or_right, le-leb}
+use Rattle.std.proofs.Common.{◌≡◌, ℕ, zero, suc, pos, ◌+◌, ◌<◌, ◌==◌, ◌&&◌, true, false, Bool, not, List, [], ◌∷◌, ◌++◌, length, replicate, Option, Some}
+use Rattle.std.proofs.Common.{None, Ok, ◌⊎◌, refl, sym, ap, ◌∙◌, ⊎_elim, append_assoc, arith}
+use Rattle.std.proofs.lemmas.Bool.{false≢true, cases_Bool, and_parts, or_parts, or_left, or_right, le-leb, eqb-true}
 use Rattle.std.proofs.lemmas.List.{append-nil}
-use Rattle.std.proofs.lemmas.Map.Text.{is_eq-slice_cmp}
 use Rattle.std.proofs.lemmas.Slice.Eq.{bytes_eq-Decides}
-use Rattle.std.specs.Prelude.{nat_le}
+use Rattle.std.specs.Prelude.{nat_le, is_some, if◌then◌else◌}
 use Rattle.std.specs.Int.{w128, from_be_bytes}
-use Rattle.std.specs.Cmp.Lexicographic.{slice_cmp}
 use Rattle.std.specs.List.{list_any}
-use Rattle.std.specs.Ordering.{is_eq, match_ordering}
 use Rattle.std.specs.Str.{bytes_eq}
 use Rattle.toml.specs.Data.{Data, string, integer, boolean, array, table, Items, no_items, item, Members, no_members, get_member}
 use Rattle.desc_schema.specs.declared.value.Value.{Value}
@@ -22,25 +19,15 @@ use Rattle.desc_schema.specs.Single.{value_of, uuid_from, word_from}
 use Rattle.desc_schema.specs.Taken.{first, rest}
 use Rattle.desc_schema.specs.Walk.{Inner, one, elements, singles, shaped, found_or, at_fields, least_unknown, is_known}
 use Rattle.desc_schema.specs.Walk.{table_walked, walked, position, advanced, count_of}
-use Rattle.desc_schema.specs.Fits.{FitsForm, IsOne, AreParts, FitsShape, FitsField, FitsFields, FitsTable, Fits}
-use Rattle.desc_schema.specs.Written.{Spelling, IsReadBack, word_node, node_of, Write, tables_written, singles_written, shape_written}
-use Rattle.desc_schema.specs.Written.{with_member, fields_written, written_to, written, words_differ, names_differ, IsSoundForm, IsSoundDefault}
-use Rattle.desc_schema.specs.Written.{IsSoundShape, AreSoundFields, IsSound}
+use Rattle.desc_schema.specs.Fits.{FitsForm, IsOne, AreParts, IsCounted, FitsShape, FitsField, FitsFields, FitsTable, Fits}
+use Rattle.desc_schema.specs.Written.{Spelling, IsReadBack, greatest_integer, word_node, node_of, Write, tables_written, singles_written, array_written}
+use Rattle.desc_schema.specs.Written.{field_written, with_member, fields_written, written_to, written, words_differ, names_differ, IsSoundForm}
+use Rattle.desc_schema.specs.Written.{IsSoundDefault, IsSoundShape, AreSoundFields, IsSound}
+use Rattle.desc_schema.proofs.Putting.{same_bytes, get_here, get_other, none_unknown-with}
 
 not_true : (b : Bool) → not b ≡ true → b ≡ false
 not_true false is = refl
 not_true true is = absurd (false≢true is)
-
-same_bytes : (k : List ℕ) → bytes_eq k k ≡ true
-same_bytes k = (bytes_eq-Decides k k).1 refl
-
--- names that differ, in the other order
-other_way : (k l : List ℕ) → bytes_eq k l ≡ false → bytes_eq l k ≡ false
-other_way k l differ =
-    ⊎_elim
-    (λ same. absurd (false≢true (sym differ ∙ (bytes_eq-Decides k l).1 (sym ((bytes_eq-Decides l k).0 same)))))
-    (λ other. other)
-    (cases_Bool (bytes_eq l k))
 
 -- single values
 
@@ -76,7 +63,8 @@ form_back spell reads forms.Text found (text, is) sound = (string text, rw is re
 form_back spell reads (forms.Number least most) found (n, is, low, high) sound =
     let lows : nat_le least n ≡ true = le-leb least n low in
     let highs : nat_le n most ≡ true = le-leb n most high in
-    (integer (pos n), rw (is, lows, highs) refl, λ at. rw (is, lows, highs) refl)
+    let within : nat_le n greatest_integer ≡ true = le-leb n greatest_integer (omega arith) in
+    (integer (pos n), rw (is, lows, highs, within) refl, λ at. rw (is, lows, highs) refl)
 form_back spell reads forms.Flag found (flag, is) sound = (boolean flag, rw is refl, λ at. rw is refl)
 form_back spell reads forms.Uuid found (text, bytes, from, is) sound =
     let (again, reads_so, same) = reads text bytes from in
@@ -140,60 +128,104 @@ singles_back spell reads form sound (suc n) values (part, others, is, fits, fit)
 -- the node at a key, or none
 abbrev FieldBack : Spelling → Inner → Write → Field → List Value → Type 0
 FieldBack spell inner write field values = (more : List Value)
-    → (node : Option Data) × (shape_written spell write field.shape (values ++ more) ≡ (node, more))
+    → (node : Option Data) × (field_written spell write field (values ++ more) ≡ (node, more))
     × ((at : KeyPlace) (positions : List ℕ) → (next : List ℕ) × (found_or inner at field node positions ≡ Ok (values, next)))
-
-abbrev ShapeBack : Spelling → Inner → Write → Shape → List Value → Type 0
-ShapeBack spell inner write shape values = (more : List Value)
-    → (node : Data) × (shape_written spell write shape (values ++ more) ≡ (Some node, more))
-    × ((at : KeyPlace) (positions : List ℕ) → (next : List ℕ) × (shaped inner at shape node positions ≡ Ok (values, next)))
-
-shape_back : (spell : Spelling) (reads : IsReadBack spell) (inner : Inner) (write : Write) (Inside : ℕ → List Value → Type 0)
-    (all : AllWalkBack inner write Inside)
-    (shape : Shape) (values : List Value) → FitsShape Inside shape values → IsSoundShape shape → ShapeBack spell inner write shape values
-shape_back spell reads inner write Inside all (forms.One form) values fits sound more =
-    let (node, written, left, back) = one_back spell reads form values fits sound more in
-    (node, rw (written, left) refl, λ at positions. (positions, back at positions))
-shape_back spell reads inner write Inside all (forms.Table number) values (inside, is, fits) sound more =
-    let (entries, written, back) = all number inside fits more in (
-      table entries,
-      rw (is, written) refl,
-      λ at positions.
-          let (next, walks) = back 0 positions in
-          (next, rw (walks, is) refl),
-    )
-shape_back spell reads inner write Inside all (forms.Tables number) values (n, inside, is, fits) sound more =
-    let (made, written, count, back) = elements_back inner write Inside all number n inside fits more in (
-      array made,
-      rw (is, written) refl,
-      λ at positions.
-          let (next, walks) = back at positions in
-          (next, rw (walks, is, count) refl),
-    )
-shape_back spell reads inner write Inside all (forms.Values form) values (n, inside, is, fits) sound more =
-    let (made, written, count, back) = singles_back spell reads form sound n inside fits more in
-    (array made, rw (is, written) refl, λ at positions. (positions, rw (back at positions, is, count) refl))
-
-found_back : (spell : Spelling) (inner : Inner) (write : Write) (field : Field) (values : List Value) → ShapeBack spell inner write field.shape values
-    → FieldBack spell inner write field values
-found_back spell inner write field values back more = let (node, written, walks) = back more in (Some node, written, walks)
 
 -- a key that is left out
 default_back : (inner : Inner) (field : Field) (default : Value) (values : List Value) → field.default ≡ Some default → values ≡ default ∷ []
     → (at : KeyPlace) (positions : List ℕ) → (next : List ℕ) × (found_or inner at field None positions ≡ Ok (values, next))
 default_back inner field default values stands is at positions = (positions, rw (stands, is) refl)
 
+-- a single value that is written
+one_written : (spell : Spelling) (reads : IsReadBack spell) (inner : Inner) (write : Write) (field : Field) (form : Form) (values : List Value)
+    → field.shape ≡ forms.One form → IsOne form values → IsSoundForm form → FieldBack spell inner write field values
+one_written spell reads inner write field form values shape fits sound more =
+    let (node, written, left, back) = one_back spell reads form values fits sound more in
+    (Some node, rw (shape, written, left) refl, λ at positions. (positions, rw shape (back at positions)))
+
 -- a default of a single value: one that is written, or one that isn't
 one_left_out : (spell : Spelling) (reads : IsReadBack spell) (inner : Inner) (write : Write) (field : Field) (form : Form) (default : Value)
     (values : List Value) → field.shape ≡ forms.One form → field.default ≡ Some default → values ≡ default ∷ [] → IsSoundForm form
     → FitsForm form default ⊎ (node_of spell form default ≡ None) → FieldBack spell inner write field values
-one_left_out spell reads inner write field form default values shape stands is sound either more =
+one_left_out spell reads inner write field form default values shape stands is sound either =
     ⊎_elim
-    (λ fits.
-    let (node, written, left, back) = one_back spell reads form values (default, is, fits) sound more in
-    (Some node, rw (shape, written, left) refl, λ at positions. (positions, rw shape (back at positions))))
-    (λ none. (None, rw (shape, is) (ap (λ (o : Option Data). (o, more)) none), default_back inner field default values stands is))
+    (λ fits. one_written spell reads inner write field form values shape (default, is, fits) sound)
+    (λ none more. (None, rw (shape, is) (ap (λ (o : Option Data). (o, more)) none), default_back inner field default values stands is))
     either
+
+table_back : (spell : Spelling) (inner : Inner) (write : Write) (Inside : ℕ → List Value → Type 0) (all : AllWalkBack inner write Inside) (field : Field)
+    (number : ℕ) (values : List Value) → field.shape ≡ forms.Table number → FitsShape Inside (forms.Table number) values
+    → FieldBack spell inner write field values
+table_back spell inner write Inside all field number values shape (inside, is, fits) more =
+    let (entries, written, back) = all number inside fits more in (
+      Some (table entries),
+      rw (shape, is, written) refl,
+      λ at positions.
+          let (next, walks) = back 0 positions in
+          (next, rw (shape, walks, is) refl),
+    )
+
+-- a default of a count is an empty array
+counted_or : (Part : List Value → Type 0) (field : Field) (values : List Value) → ((default : Value) → field.default ≡ Some default → default ≡ Value.Count 0)
+    → ((default : Value) × (field.default ≡ Some default) × (values ≡ default ∷ [])) ⊎ IsCounted Part values → IsCounted Part values
+counted_or Part field values defaults either =
+    ⊎_elim (λ out. (0, [], rw (out.2, defaults out.0 out.1) refl, refl)) (λ counted. counted) either
+
+stands : (default : Option Value) → is_some default ≡ true → (found : Value) × (default ≡ Some found)
+stands None is = absurd (false≢true is)
+stands (Some found) is = (found, refl)
+
+-- none is left of no parts
+no_parts : (Part : List Value → Type 0) (n : ℕ) (inside : List Value) → AreParts Part n inside → n ≡ 0 → inside ≡ []
+no_parts Part zero inside are none = are
+no_parts Part (suc n) inside are none = absurd (omega arith)
+
+is_kept : (node : Data) (out : Bool) → out ≡ false → (if out then None else Some node) ≡ Some node
+is_kept node out kept = rw kept refl
+
+empty_values : (n : ℕ) (default : Value) (inside values : List Value) → values ≡ Value.Count n ∷ inside → n ≡ 0 → inside ≡ [] → default ≡ Value.Count 0
+    → values ≡ default ∷ []
+empty_values n default inside values is none empty stands = rw (is, none, empty, stands) refl
+
+-- an array is written, or it is empty and its key may be left out
+array_back : (spell : Spelling) (inner : Inner) (write : Write) (field : Field) (parts : ℕ → List Value → Items × List Value) (Part : List Value → Type 0) (n : ℕ)
+    (inside values more : List Value) (made : Items) → values ≡ Value.Count n ∷ inside → AreParts Part n inside → parts n (inside ++ more) ≡ (made, more)
+    → ((default : Value) → field.default ≡ Some default → default ≡ Value.Count 0)
+    → ((at : KeyPlace) (positions : List ℕ) → (next : List ℕ) × (shaped inner at field.shape (array made) positions ≡ Ok (values, next)))
+    → field_written spell write field (values ++ more) ≡ array_written (is_some field.default) parts (Value.Count n) (inside ++ more)
+    → (node : Option Data) × (field_written spell write field (values ++ more) ≡ (node, more))
+    × ((at : KeyPlace) (positions : List ℕ) → (next : List ℕ) × (found_or inner at field node positions ≡ Ok (values, next)))
+array_back spell inner write field parts Part n inside values more made is are writes defaults walks same =
+    ⊎_elim
+    (λ out.
+    let (may, none) = and_parts (is_some field.default) (n == 0) out in
+    let (default, here) = stands field.default may in
+    let zero_of : n ≡ 0 = eqb-true n 0 none in
+    let empty = empty_values n default inside values is zero_of (no_parts Part n inside are zero_of) (defaults default here) in
+    (None, same ∙ rw (writes, out) refl, default_back inner field default values here empty))
+    (λ kept. (Some (array made), same ∙ rw writes (ap (λ (o : Option Data). (o, more)) (is_kept (array made) _ kept)), walks))
+    (cases_Bool (is_some field.default && (n == 0)))
+
+tables_at_key : (spell : Spelling) (inner : Inner) (write : Write) (Inside : ℕ → List Value → Type 0) (all : AllWalkBack inner write Inside)
+    (field : Field) (number : ℕ) (values : List Value) → field.shape ≡ forms.Tables number
+    → ((default : Value) → field.default ≡ Some default → default ≡ Value.Count 0) → IsCounted (Inside number) values
+    → FieldBack spell inner write field values
+tables_at_key spell inner write Inside all field number values shape defaults (n, inside, is, are) more =
+    let (made, writes, count, back) = elements_back inner write Inside all number n inside are more in
+    array_back spell inner write field (tables_written write number) (Inside number) n inside values more made is are writes defaults
+    (λ at positions.
+    let (next, walk) = back at positions in
+    (next, rw (shape, walk, is, count) refl))
+    (rw (shape, is) refl)
+
+values_at_key : (spell : Spelling) (reads : IsReadBack spell) (inner : Inner) (write : Write) (field : Field) (form : Form) (values : List Value)
+    → field.shape ≡ forms.Values form → IsSoundForm form → ((default : Value) → field.default ≡ Some default → default ≡ Value.Count 0)
+    → IsCounted (IsOne form) values → FieldBack spell inner write field values
+values_at_key spell reads inner write field form values shape sound defaults (n, inside, is, are) more =
+    let (made, writes, count, back) = singles_back spell reads form sound n inside are more in
+    array_back spell inner write field (singles_written spell form) (IsOne form) n inside values more made is are writes defaults
+    (λ at positions. (positions, rw (shape, back at positions, is, count) refl))
+    (rw (shape, is) refl)
 
 field_back : (spell : Spelling) (reads : IsReadBack spell) (inner : Inner) (write : Write) (Inside : ℕ → List Value → Type 0)
     (all : AllWalkBack inner write Inside)
@@ -202,52 +234,17 @@ field_back : (spell : Spelling) (reads : IsReadBack spell) (inner : Inner) (writ
 field_back spell reads inner write Inside all field (forms.One form) values shape fits sound defaults =
     ⊎_elim
     (λ out. one_left_out spell reads inner write field form out.0 values shape out.1 out.2 sound (defaults out.0 out.1))
-    (λ fit. found_back spell inner write field values
-    (rw shape (shape_back spell reads inner write Inside all (forms.One form) values (rw shape at fit) sound)))
+    (λ fit. one_written spell reads inner write field form values shape (rw shape at fit) sound)
     fits
 field_back spell reads inner write Inside all field (forms.Table number) values shape fits sound defaults =
     ⊎_elim
     (λ out more. (None, rw (shape, out.2, defaults out.0 out.1) refl, default_back inner field out.0 values out.1 out.2))
-    (λ fit. found_back spell inner write field values
-    (rw shape (shape_back spell reads inner write Inside all (forms.Table number) values (rw shape at fit) sound)))
+    (λ fit. table_back spell inner write Inside all field number values shape (rw shape at fit))
     fits
 field_back spell reads inner write Inside all field (forms.Tables number) values shape fits sound defaults =
-    ⊎_elim
-    (λ out. found_back spell inner write field values
-    (rw shape (shape_back spell reads inner write Inside all (forms.Tables number) values (0, [], rw (out.2, defaults out.0 out.1) refl, refl) sound)))
-    (λ fit. found_back spell inner write field values
-    (rw shape (shape_back spell reads inner write Inside all (forms.Tables number) values (rw shape at fit) sound)))
-    fits
+    tables_at_key spell inner write Inside all field number values shape defaults (counted_or (Inside number) field values defaults (rw shape at fits))
 field_back spell reads inner write Inside all field (forms.Values form) values shape fits sound defaults =
-    ⊎_elim
-    (λ out. found_back spell inner write field values
-    (rw shape (shape_back spell reads inner write Inside all (forms.Values form) values (0, [], rw (out.2, defaults out.0 out.1) refl, refl) sound)))
-    (λ fit. found_back spell inner write field values
-    (rw shape (shape_back spell reads inner write Inside all (forms.Values form) values (rw shape at fit) sound)))
-    fits
-
--- look-ups in the entries that are written
-
-get_by : (o : Ordering) (before here : Option Data) → is_eq o ≡ false → match_ordering o before here before ≡ before
-get_by Less before here differ = refl
-get_by Equal before here differ = absurd (false≢true (sym differ))
-get_by Greater before here differ = refl
-
-get_at : (o : Ordering) (before here : Option Data) → is_eq o ≡ true → match_ordering o before here before ≡ here
-get_at Less before here same = absurd (false≢true same)
-get_at Equal before here same = refl
-get_at Greater before here same = absurd (false≢true same)
-
-get_other : (name other : List ℕ) (node : Option Data) (entries : Members) → bytes_eq other name ≡ false
-    → get_member name (with_member other node entries) ≡ get_member name entries
-get_other name other None entries differ = refl
-get_other name other (Some node) entries differ =
-    get_by (slice_cmp nat_cmp name other) (get_member name entries) (Some node) (is_eq-slice_cmp name other ∙ other_way other name differ)
-
-get_here : (name : List ℕ) (node : Option Data) (entries : Members) → get_member name entries ≡ None → get_member name (with_member name node entries) ≡ node
-get_here name None entries none = none
-get_here name (Some node) entries none =
-    get_at (slice_cmp nat_cmp name name) (get_member name entries) (Some node) (is_eq-slice_cmp name name ∙ same_bytes name)
+    values_at_key spell reads inner write field form values shape sound defaults (counted_or (IsOne form) field values defaults (rw shape at fits))
 
 -- a known name isn't an unknown one
 differs_from : (fields : List Field) (name known : List ℕ) → is_known fields name ≡ false → is_known fields known ≡ true → bytes_eq name known ≡ false
@@ -259,48 +256,45 @@ differs_from fields name known unknown is =
     (λ other. other)
     (cases_Bool (bytes_eq name known))
 
--- what is kept of the entries that are written for keys
-abbrev MembersOf : Spelling → Inner → Write → List Field → List Value → List Value → Type 0
-MembersOf spell inner write fields values more = (entries : Members) × (fields_written spell write fields (values ++ more) ≡ (entries, more))
-    × ((name : List ℕ) → is_known fields name ≡ false → get_member name entries ≡ None)
-    × ((every : List Field) → ((name : List ℕ) → is_known fields name ≡ true → is_known every name ≡ true) → least_unknown every entries ≡ None)
-    × ((place : Place) (whole : Members) (positions : List ℕ)
-    → ((name : List ℕ) → is_known fields name ≡ true → get_member name whole ≡ get_member name entries)
-    → (next : List ℕ) × (at_fields inner place fields whole positions ≡ Ok (values, next)))
-
-none_unknown-with : (every : List Field) (name : List ℕ) (node : Option Data) (entries : Members) → is_known every name ≡ true
-    → least_unknown every entries ≡ None → least_unknown every (with_member name node entries) ≡ None
-none_unknown-with every name None entries known others = others
-none_unknown-with every name (Some node) entries known others = rw (known, others) refl
+-- what is kept of the members that are written for keys, among those that were made before
+abbrev MembersOf : Spelling → Inner → Write → List Field → List Value → List Value → Members → Type 0
+MembersOf spell inner write fields values more made =
+    (entries : Members) × (fields_written spell write fields (values ++ more) made ≡ (entries, more))
+    × ((name : List ℕ) → is_known fields name ≡ false → get_member name entries ≡ get_member name made)
+    × ((every : List Field) → ((name : List ℕ) → is_known fields name ≡ true → is_known every name ≡ true) → least_unknown every made ≡ None
+    → least_unknown every entries ≡ None)
+    × ((place : Place) (positions : List ℕ) → ((name : List ℕ) → is_known fields name ≡ true → get_member name made ≡ None)
+    → (next : List ℕ) × (at_fields inner place fields entries positions ≡ Ok (values, next)))
 
 fields_back : (spell : Spelling) (reads : IsReadBack spell) (inner : Inner) (write : Write) (Inside : ℕ → List Value → Type 0)
     (all : AllWalkBack inner write Inside)
     (fields : List Field) (values : List Value) → FitsFields Inside fields values → AreSoundFields spell fields → names_differ fields ≡ true
-    → (more : List Value) → MembersOf spell inner write fields values more
+    → (more : List Value) (made : Members) → MembersOf spell inner write fields values more made
 unfolding at_fields
-fields_back spell reads inner write Inside all [] values is sound differ more =
-    (no_members, rw is refl, λ name unknown. refl, λ every known. refl, λ place whole positions agree. (positions, rw is refl))
-fields_back spell reads inner write Inside all (field ∷ fields) values (part, others, is, fits, fit) (shape, defaults, sound) differ more =
+fields_back spell reads inner write Inside all [] values is sound differ more made =
+    (made, rw is refl, λ name unknown. refl, λ every is_in none. none, λ place positions new. (positions, rw is refl))
+fields_back spell reads inner write Inside all (field ∷ fields) values (part, others, is, fits, fit) (shape, defaults, sound) differ more made =
     let (alone, differs) = and_parts (not (is_known fields field.name)) (names_differ fields) differ in
     let away : is_known fields field.name ≡ false = not_true _ alone in
+    let own : is_known (field ∷ fields) field.name ≡ true = or_left _ _ (same_bytes field.name) in
     let (node, written, walks) = field_back spell reads inner write Inside all field field.shape part refl fits shape defaults (others ++ more) in
-    let (entries, writes, only, known, walk) = fields_back spell reads inner write Inside all fields others fit sound differs more in
+    let (entries, writes, only, known, walk) =
+    fields_back spell reads inner write Inside all fields others fit sound differs more (with_member field.name node made) in
     let all_of : values ++ more ≡ part ++ (others ++ more) = behind values part others more is in (
-      with_member field.name node entries,
+      entries,
       rw (all_of, written, writes) refl,
       λ name unknown.
           let (here, there) = or_parts (bytes_eq field.name name) (is_known fields name) unknown in
-          get_other name field.name node entries here ∙ only name there,
-      λ every is_in.
-          none_unknown-with every field.name node entries (is_in field.name (or_left _ _ (same_bytes field.name)))
-          (known every (λ name there. is_in name (or_right (bytes_eq field.name name) (is_known fields name) there))),
-      λ place whole positions agree.
-          let found : get_member field.name whole ≡ node =
-          agree field.name (or_left _ _ (same_bytes field.name)) ∙ get_here field.name node entries (only field.name away) in
+          only name there ∙ get_other name field.name node made here,
+      λ every is_in none.
+          known every (λ name there. is_in name (or_right (bytes_eq field.name name) (is_known fields name) there))
+          (none_unknown-with every field.name node made (is_in field.name own) none),
+      λ place positions new.
+          let found : get_member field.name entries ≡ node = only field.name away ∙ get_here field.name node made (new field.name own) in
           let (next, here) = walks (key_at place field.number) positions in
-          let (last, there) = walk place whole next (λ name there.
-          agree name (or_right (bytes_eq field.name name) (is_known fields name) there) ∙ get_other name field.name node entries
-          (differs_from fields field.name name away there)) in
+          let (last, there) = walk place next (λ name inside.
+          get_other name field.name node made (differs_from fields field.name name away inside)
+          ∙ new name (or_right (bytes_eq field.name name) (is_known fields name) inside)) in
           (last, rw (found, here, there, is) refl),
     )
 
@@ -318,13 +312,13 @@ tables_back spell reads schema sound zero number values is more = (no_members, r
 tables_back spell reads schema sound (suc depth) number values fits more =
     let (differ, fields) = sound_at spell schema number sound in
     let (entries, written, _, known, walk) = fields_back spell reads (table_walked schema depth) (written_to spell schema depth) (FitsTable schema depth)
-    (tables_back spell reads schema sound depth) (fields_at schema number) values fits fields differ more in (
+    (tables_back spell reads schema sound depth) (fields_at schema number) values fits fields differ more no_members in (
       entries,
       written,
       λ index positions.
           let place : Place = record { table = number; index = index } in
-          let (next, walks) = walk place entries positions (λ name is. refl) in
-          (next, rw (known (fields_at schema number) (λ name is. is)) walks),
+          let (next, walks) = walk place positions (λ name is. refl) in
+          (next, rw (known (fields_at schema number) (λ name is. is) refl) walks),
     )
 
 pub written_walked : (spell : Spelling) (schema : List (List Field)) (values : List Value) → IsReadBack spell → IsSound spell schema → Fits schema values

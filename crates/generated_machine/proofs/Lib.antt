@@ -1,0 +1,4 @@
+pub mod Accepted
+pub mod Lists
+pub mod Pushed
+pub mod Taken
