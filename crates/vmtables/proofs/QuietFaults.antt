@@ -11,8 +11,6 @@ use Rattle.vmtables.specs.Boot as boot_made
 use Rattle.vmtables.specs.Build.{CannotBeBuilt}
 use Rattle.vmtables.specs.Calls.{Answering, Seen}
 use Rattle.vmtables.specs.Decode.{CannotBeListed, CannotBeTold}
-use Rattle.generated_machine.specs.Generated.{generated}
-use Rattle.vmtables.specs.Generate.{GenMakes, not_counted, plain}
 use Rattle.vmtables.specs.Load.{LoadMakes, not_read, not_loaded}
 use Rattle.vmtables.specs.Loading.{FailsToLoad, ended_early, not_begun}
 use Rattle.vmtables.specs.Outcome.{status_of_fault, status_of_load}
@@ -82,7 +80,7 @@ undescribed_quiet : (bytes : List ℕ) (f : Fault) → IsUndescribed bytes f →
 undescribed_quiet bytes f (none_read read) = quiet_description
 undescribed_quiet bytes f unread = quiet_memory
 
-pub machine_quiet : (Gives : Answering) (setting : Setting) (m : Machine) (before after : Seen) (f : Fault)
+machine_quiet : (Gives : Answering) (setting : Setting) (m : Machine) (before after : Seen) (f : Fault)
     → FailsToBoot Gives setting m before after f → IsQuiet (status_of_fault f)
 machine_quiet Gives setting m before after f (too_large large same) = quiet_large
 machine_quiet Gives setting m before after f (not_built same) = quiet_memory
@@ -103,10 +101,6 @@ pub container_quiet : (Gives : Answering) (top_mib : ℕ) (setting : Setting) (b
     → LoadMakes Gives top_mib setting bytes before after (Err f) → IsQuiet (status_of_fault f)
 container_quiet Gives top_mib setting bytes before after f (not_read cannot same) = unread_quiet bytes f (why_unread bytes f cannot)
 container_quiet Gives top_mib setting bytes before after f (not_loaded items contained failed) = failed_quiet Gives items _ setting before after f failed
-
-pub gen_quiet : (Gives : Answering) (processors : ℕ) (before after : Seen) (f : Fault) → GenMakes Gives processors before after (Err f)
-    → IsQuiet (status_of_fault f)
-gen_quiet Gives processors before after f (not_counted fails) = machine_quiet Gives plain (generated processors) before after f fails
 
 -- Nor is one of a boot that of words which are no command.
 
