@@ -12,8 +12,8 @@ use std::alloc::Global;
 
 /// Reads the ACPI tables of `memory` from its RSDP. Returns `Ok(None)` when no valid one stands there. The errors are those of [`walk`].
 pub(crate) fn scan_acpi(alloc: Global, memory: &GuestMemory) -> Result<Option<Walked>, AcpiFault>
-    ensures shown { IfOk result (IsShown (seen memory.now)) }
-    ensures refused { IfErr result (λ fault. (fault ≡ NoMemory) ⊎ RefusesAcpi (seen memory.now) fault) }
+    ensures shown { IfOk result (IsShown (seen memory.now.memory)) }
+    ensures refused { IfErr result (λ fault. (fault ≡ NoMemory) ⊎ RefusesAcpi (seen memory.now.memory) fault) }
 {
     let Some(rsdp) = find_rsdp(memory) else {
         return Ok(None);

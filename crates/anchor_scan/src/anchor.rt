@@ -33,8 +33,8 @@ const STRUCTURES_ROW: usize = 9;
 /// begins with `_SM3_`, has by its length at least 0x18 bytes, the last of them below 0x100000, and these bytes sum to zero. Returns
 /// `None` when there is none. It takes no memory.
 pub fn find_smbios(memory: &GuestMemory) -> Option<u64>
-    ensures some { IfSome result (IsFirstAnchor (seen memory.now)) }
-    ensures none { result ≡ None ↔ HasNoAnchor (seen memory.now) }
+    ensures some { IfSome result (IsFirstAnchor (seen memory.now.memory)) }
+    ensures none { result ≡ None ↔ HasNoAnchor (seen memory.now.memory) }
 {
     least_anchor::<SmbiosAnchor>(memory)
 }
@@ -75,7 +75,7 @@ fn has_mark(memory: &GuestMemory, address: u64) -> bool
     requires from { 0xF0000 ≤ address }
     requires aligned { address % 16 ≡ 0 }
     requires below { address < 0x100000 }
-    ensures { IsTrue result ↔ HasMark (seen memory.now) address }
+    ensures { IsTrue result ↔ HasMark (seen memory.now.memory) address }
 {
     memory.window(address, 5) == MARK
 }
@@ -89,8 +89,8 @@ pub(crate) struct Found {
 
 /// Reads the numbers of an anchor at `address`, where 24 bytes must be RAM. Its mark and its sum aren't looked at.
 pub(crate) fn read_anchor(memory: &GuestMemory, address: u64) -> Found
-    requires { IsRamRange memory.now.top address 24 }
-    ensures { HasNumbers (seen memory.now) address result.anchor result.structures }
+    requires { IsRamRange memory.now.memory.top address 24 }
+    ensures { HasNumbers (seen memory.now.memory) address result.anchor result.structures }
 {
     let mut bytes = [0; ANCHOR_SIZE as usize];
     memory.copy_out(address, &mut bytes);

@@ -23,19 +23,19 @@ use table_model::Inventory;
 /// memory runs out.
 pub fn scan(alloc: Global, memory: &GuestMemory) -> Result<Inventory, ScanFault>
     // What is read is shown, and what is shown is read.
-    ensures shown { IfOk result (Shows memory.now.top (seen memory.now)) }
-    ensures shows { (inventory : Inventory) → Shows memory.now.top (seen memory.now) inventory → OrOutOfMemory result (Ok inventory) }
+    ensures shown { IfOk result (Shows memory.now.memory.top (seen memory.now.memory)) }
+    ensures shows { (inventory : Inventory) → Shows memory.now.memory.top (seen memory.now.memory) inventory → OrOutOfMemory result (Ok inventory) }
     // A fault is the first, and where there is one it is told.
-    ensures refused { IfErr result (λ fault. (fault ≡ NoMemory) ⊎ Refuses (seen memory.now) fault) }
-    ensures refuses { (fault : ScanFault) → Refuses (seen memory.now) fault → OrOutOfMemory result (Err fault) }
+    ensures refused { IfErr result (λ fault. (fault ≡ NoMemory) ⊎ Refuses (seen memory.now.memory) fault) }
+    ensures refuses { (fault : ScanFault) → Refuses (seen memory.now.memory) fault → OrOutOfMemory result (Err fault) }
 {
     scan_both(alloc, memory)
 }
 
 // The same, without that there is one reading.
 fn scan_both(alloc: Global, memory: &GuestMemory) -> Result<Inventory, ScanFault>
-    ensures shown { IfOk result (Shows memory.now.top (seen memory.now)) }
-    ensures refused { IfErr result (λ fault. (fault ≡ NoMemory) ⊎ Refuses (seen memory.now) fault) }
+    ensures shown { IfOk result (Shows memory.now.memory.top (seen memory.now.memory)) }
+    ensures refused { IfErr result (λ fault. (fault ≡ NoMemory) ⊎ Refuses (seen memory.now.memory) fault) }
 {
     let acpi = scan_acpi(alloc, memory)?;
     let smbios = scan_smbios(alloc, memory)?;

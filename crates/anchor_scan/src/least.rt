@@ -26,7 +26,7 @@ pub(crate) trait AnchorKind {
         requires from { START ≤ address }
         requires aligned { address % 16 ≡ 0 }
         requires below { address < 0x100000 }
-        ensures { IsTrue result ↔ Stands (seen memory.now) address };
+        ensures { IsTrue result ↔ Stands (seen memory.now.memory) address };
 
     ghost starts: { START % 16 ≡ 0 };
 
@@ -36,8 +36,8 @@ pub(crate) trait AnchorKind {
 
 /// Finds the least address where a valid anchor of a kind stands in `memory`, or `None` where there is none.
 pub(crate) fn least_anchor<A: AnchorKind>(memory: &GuestMemory) -> Option<u64>
-    ensures some { IfSome result (IsLeast (A.Stands (seen memory.now))) }
-    ensures none { result ≡ None ↔ ((address : ℕ) → A.Stands (seen memory.now) address → ⊥) }
+    ensures some { IfSome result (IsLeast (A.Stands (seen memory.now.memory))) }
+    ensures none { result ≡ None ↔ ((address : ℕ) → A.Stands (seen memory.now.memory) address → ⊥) }
 {
     let mut address = A::START;
     while address < ANCHORS_END {

@@ -15,7 +15,7 @@ pub(crate) fn range_from(
     address: u64,
     maximum: u32,
 ) -> Result<Vec<u8>, OutOfMemory>
-    ensures { IfOk result (λ bytes. IsRange (seen memory.now) address maximum bytes.items) }
+    ensures { IfOk result (λ bytes. IsRange (seen memory.now.memory) address maximum bytes.items) }
 {
     let size = ram_from(memory, address).min(u64::from(maximum));
     let mut bytes = vec![in alloc; 0; size as usize]?;
@@ -25,8 +25,8 @@ pub(crate) fn range_from(
 
 // How many bytes from an address on are RAM without a gap.
 fn ram_from(memory: &GuestMemory, address: u64) -> u64
-    ensures ram { IsRamRange memory.now.top address result }
-    ensures gap { IsRam memory.now.top (address + result) → ⊥ }
+    ensures ram { IsRamRange memory.now.memory.top address result }
+    ensures gap { IsRam memory.now.memory.top (address + result) → ⊥ }
 {
     match range_of(memory.top(), address) {
         Some(range) => range.end - address,

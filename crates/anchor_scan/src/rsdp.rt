@@ -24,8 +24,8 @@ const REVISION: usize = 15;
 /// begins with `RSD PTR `, its 36 bytes end at or below 0x100000, its revision is at least 2, and its first 20 bytes and all 36 sum to
 /// zero, whatever length it tells. Returns `None` when there is none. It takes no memory.
 pub fn find_rsdp(memory: &GuestMemory) -> Option<u64>
-    ensures some { IfSome result (IsLeast (HasRsdp (seen memory.now))) }
-    ensures none { result ≡ None ↔ HasNoRsdp (seen memory.now) }
+    ensures some { IfSome result (IsLeast (HasRsdp (seen memory.now.memory))) }
+    ensures none { result ≡ None ↔ HasNoRsdp (seen memory.now.memory) }
 {
     least_anchor::<RsdpAnchor>(memory)
 }
@@ -59,7 +59,7 @@ fn has_signature(memory: &GuestMemory, address: u64) -> bool
     requires from { 0xE0000 ≤ address }
     requires aligned { address % 16 ≡ 0 }
     requires below { address < 0x100000 }
-    ensures { IsTrue result ↔ HasRsdpSignature (seen memory.now) address }
+    ensures { IsTrue result ↔ HasRsdpSignature (seen memory.now.memory) address }
 {
     memory.window(address, 8) == SIGNATURE
 }

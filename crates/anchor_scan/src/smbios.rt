@@ -20,13 +20,13 @@ use std::alloc::Global;
 /// Returns `Ok(None)` when no valid anchor stands in `memory`, and then takes no memory. The errors are those of
 /// [`decode_table`]; a place counts from the first of the bytes.
 pub fn scan_smbios(alloc: Global, memory: &GuestMemory) -> Result<Option<SmbiosTable>, SmbiosFault>
-    ensures none { result ≡ Ok None ↔ HasNoAnchor (seen memory.now) }
+    ensures none { result ≡ Ok None ↔ HasNoAnchor (seen memory.now.memory) }
     // What is read is shown, and what is shown is read.
-    ensures shown { IfOk result (λ found. IfSome found (λ table. ShowsSmbios (seen memory.now) table)) }
-    ensures shows { (table : SmbiosTable) → ShowsSmbios (seen memory.now) table → OrNoMemory result (Ok (Some table)) }
+    ensures shown { IfOk result (λ found. IfSome found (λ table. ShowsSmbios (seen memory.now.memory) table)) }
+    ensures shows { (table : SmbiosTable) → ShowsSmbios (seen memory.now.memory) table → OrNoMemory result (Ok (Some table)) }
     // A fault is the first, and where there is one it is told.
-    ensures refused { IfErr result (λ fault. (fault ≡ NoMemory) ⊎ RefusesSmbios (seen memory.now) fault) }
-    ensures refuses { (fault : SmbiosFault) → RefusesSmbios (seen memory.now) fault → OrNoMemory result (Err fault) }
+    ensures refused { IfErr result (λ fault. (fault ≡ NoMemory) ⊎ RefusesSmbios (seen memory.now.memory) fault) }
+    ensures refuses { (fault : SmbiosFault) → RefusesSmbios (seen memory.now.memory) fault → OrNoMemory result (Err fault) }
 {
     let Some(address) = find_smbios(memory) else {
         return Ok(None);

@@ -10,7 +10,7 @@ use guest_memory::GuestMemory;
 pub struct Seen<'a>(pub &'a GuestMemory);
 
 impl<'a> MemView for Seen<'a> {
-    ghost seen = { λ s. seen_within s.0.now };
+    ghost seen = { λ s. seen_within s.0.now.memory };
 
     fn byte(&self, address: u64) -> Option<u8> {
         if self.0.is_ram(address) {
@@ -38,5 +38,5 @@ impl<'a> MemView for Seen<'a> {
         self.0.copy_out(address, bytes);
     }
 
-    ghost bounded = { λ s. none_past s.0.now };
+    ghost bounded = { λ s. none_past s.0.now.memory };
 }

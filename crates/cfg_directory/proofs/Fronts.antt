@@ -28,16 +28,16 @@ begins first others front rest is within =
 
 -- ---- each part may be cut short
 
-short_count : (bytes : List ℕ) → length bytes < 4 → read_so bytes ≡ Err Truncated
+pub short_count : (bytes : List ℕ) → length bytes < 4 → read_so bytes ≡ Err Truncated
 unfolding read_so
 short_count bytes short = cond-true (ltb (length bytes) 4) _ _ (lt-ltb (length bytes) 4 short)
 
-short_entries : (n : ℕ) (bytes : List ℕ) → n ≤ file_limit → length bytes < 64 * n → counted_so n bytes ≡ Err Truncated
+pub short_entries : (n : ℕ) (bytes : List ℕ) → n ≤ file_limit → length bytes < 64 * n → counted_so n bytes ≡ Err Truncated
 unfolding counted_so
 short_entries n bytes few short =
     cond-false (ltb file_limit n) _ _ (le-ltb file_limit n few) ∙ cond-true (ltb (length bytes) (64 * n)) _ _ (lt-ltb (length bytes) (64 * n) short)
 
-short_flags : (n : ℕ) (listed : List Listed) (bytes : List ℕ) → length bytes < n → flagged_so n listed bytes ≡ Err Truncated
+pub short_flags : (n : ℕ) (listed : List Listed) (bytes : List ℕ) → length bytes < n → flagged_so n listed bytes ≡ Err Truncated
 unfolding flagged_so
 short_flags n listed bytes short = cond-true (ltb (length bytes) n) _ _ (lt-ltb (length bytes) n short)
 

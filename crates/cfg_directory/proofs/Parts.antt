@@ -1,10 +1,9 @@
 -- The parts of a container, read one by one.
 use Rattle.std.proofs.Common.{◌≡◌, ℕ, zero, suc, ◌+◌, ◌-◌, ◌*◌, ◌<◌, ◌≤◌, Bool, true, false, cond, not, nat_lt, ltb, List, [], ◌∷◌, ◌++◌, length, map, take}
-use Rattle.std.proofs.Common.{drop, get_or, sum_by, Some, None, Result, Ok, Err, arith, refl, sym, ap, ap₂, ◌∙◌, append_assoc, inl, inr}
+use Rattle.std.proofs.Common.{drop, get_or, Some, None, Result, Ok, Err, arith, refl, sym, ap, ap₂, ◌∙◌, append_assoc, inl, inr}
 use Rattle.std.specs.List.{position, position_or_len}
 use Rattle.std.proofs.lemmas.Bool.{lt-ltb, le-ltb, ltb-true, ltb-false, cond-true, cond-false, cases_Bool}
-use Rattle.std.proofs.lemmas.List.{append-nil, drop_more, length-drop, drop_all, get_or-map, length-map}
-use Rattle.std.proofs.lemmas.List.Sums.{sum_by-drop_more}
+use Rattle.std.proofs.lemmas.List.{append-nil, drop_more, drop_all, get_or-map, length-map}
 use Rattle.std.proofs.lemmas.Option.{none-some, cond_some}
 use Rattle.cfg_directory.specs.declared.item.Item.{Item}
 use Rattle.cfg_directory.specs.declared.listed.Listed.{Listed}
@@ -16,7 +15,7 @@ use Rattle.cfg_directory.specs.Parts.{is_set, directory_at, flags_at}
 -- ---- the directory
 
 -- where the entries are there, they are read
-directory_at-long : (count : ℕ) (bytes : List ℕ) → 64 * count ≤ length bytes
+pub directory_at-long : (count : ℕ) (bytes : List ℕ) → 64 * count ≤ length bytes
     → directory_at count bytes ≡ (directory_so count 0 [] bytes >>= (λ listed. Ok (listed, drop (64 * count) bytes)))
 unfolding directory_at
 directory_at-long count bytes long = cond-false (ltb (length bytes) (64 * count)) _ _ (le-ltb _ _ long)
@@ -100,7 +99,7 @@ none_bad (suc (suc flag) ∷ flags) index none =
     absurd (omega arith)
 
 -- where the flags are there, they are read
-flags_at-long : (count : ℕ) (bytes : List ℕ) → count ≤ length bytes
+pub flags_at-long : (count : ℕ) (bytes : List ℕ) → count ≤ length bytes
     → flags_at count bytes ≡ (flags_so 0 (take count bytes) >>= (λ flags. Ok (flags, drop count bytes)))
 unfolding flags_at
 flags_at-long count bytes long = cond-false (ltb (length bytes) count) _ _ (le-ltb _ _ long)
@@ -154,14 +153,6 @@ item_taken listed flags rest items new total index entry within as_many entry_is
     let one : items_so (drop index listed) (drop index (map is_set flags)) rest ≡ item ∷ others =
     ap₂ (λ (ls : List Listed) (bs : List Bool). items_so ls bs rest) entries set in
     ap (λ (is : List Item). is ++ others) new_is ∙ append_assoc items (item ∷ []) others ∙ ap (λ (is : List Item). items ++ is) (sym one) ∙ so_far
-
--- and as many bytes are left as the other entries say
-pub sizes_left : (listed : List Listed) (rest : List ℕ) (index : ℕ) (entry : Listed) → index < length listed → entry ≡ get_or listed index entry
-    → sum_by (λ (l : Listed). l.size) (drop index listed) ≡ length rest
-    → sum_by (λ (l : Listed). l.size) (drop (index + 1) listed) ≡ length (drop entry.size rest)
-sizes_left listed rest index entry within entry_is so_far =
-    let size : entry.size ≡ (get_or listed index entry).size = ap (λ (l : Listed). l.size) entry_is in
-    omega (arith, sum_by-drop_more (λ (l : Listed). l.size) listed index entry within, length-drop entry.size rest)
 
 -- behind the last entry all items are taken
 pub items_done : (listed : List Listed) (bools : List Bool) (rest : List ℕ) (items total : List Item) (index : ℕ) → length listed ≤ index

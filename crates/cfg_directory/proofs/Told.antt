@@ -1,41 +1,96 @@
--- What a call that reads in parts tells: the items that are contained, or the fault of reading.
-use Rattle.std.proofs.Common.{◌≡◌, ℕ, List, Ok, Err, sym, ap, ◌∙◌}
+-- What is told of bytes that were fed at once: the items that are contained, or the fault of reading.
+use Rattle.std.proofs.Common.{◌≡◌, ℕ, List, [], Result, Ok, Err, sym, ap, subst, ◌∙◌, inl, inr}
+use Rattle.std.specs.Prelude.{IfOk, ◌⊎◌}
 use Rattle.cfg_directory.specs.declared.item.Item.{Item}
 use Rattle.cfg_directory.specs.declared.container.ImageFault.{ImageFault}
-use Rattle.cfg_directory.specs.Items.{IsItems}
-use Rattle.cfg_directory.specs.Container.{IsContainer, Gives, read_so}
-use Rattle.cfg_directory.specs.Parts.{parts_of}
-use Rattle.cfg_directory.proofs.Steps.{fails_as}
-use Rattle.cfg_directory.proofs.ReadParts.{parts_are}
+use Rattle.cfg_directory.specs.declared.container.ImageFault.TheVariants.{Truncated, OutOfMemory}
+use Rattle.cfg_directory.specs.Container.{IsContainer, Gives, HasEntries, read_so}
+use Rattle.cfg_directory.specs.Fed.{Fed, Takes, IsFed, judged_by, answer_of, finished}
+use Rattle.cfg_directory.proofs.Refusals.{reading_there}
 use Rattle.cfg_directory.proofs.Containers.{contained_is_read, read_is_contained}
 
--- a fault is that of reading
-pub fault_exact : (bytes : List ℕ) (fault : ImageFault) → Gives (λ (items : List Item). items) (Err fault) (parts_of bytes)
-    → Gives (λ (items : List Item). items) (Err fault) (read_so bytes)
-fault_exact bytes fault =
-    fails_as fault (parts_of bytes) (read_so bytes) (λ other fails. sym (parts_are bytes) ∙ fails)
+-- bytes that were taken
+by_taken : (bytes : List ℕ) (read : Result (List Item) ImageFault) (after : Fed) → after ≡ judged_by bytes read → Ok tt ≡ answer_of after
+    → after ≡ Takes bytes
+by_taken bytes (Ok items) after is told = is
+by_taken bytes (Err Truncated) after is told = is
+by_taken bytes (Err fault) after is told =
+    let said = told ∙ ap answer_of is in
+    absurd cc
 
--- and none is told where the bytes are a container
-pub fault_only : (bytes : List ℕ) (fault : ImageFault) → Gives (λ (items : List Item). items) (Err fault) (parts_of bytes)
-    → (items : List Item) → IsContainer bytes items → Gives (λ (read : List Item). read) (Err fault) (Ok items)
-fault_only bytes fault gives items is =
-    fails_as fault (parts_of bytes) (Ok items) (λ other fails. sym (contained_is_read bytes items is) ∙ sym (parts_are bytes) ∙ fails) gives
+were_taken : (bytes : List ℕ) (after : Fed) → IsFed (Takes []) bytes after → Ok tt ≡ answer_of after → after ≡ Takes bytes
+were_taken bytes after (inl is) told = by_taken bytes (read_so bytes) after is told
+were_taken bytes after (inr (lack, entries)) told =
+    let said = told ∙ ap answer_of lack in
+    absurd cc
 
--- items that the parts give are read
-pub record AreRead (bytes : List ℕ) (items : List Item) : Type 0 where
-  pub found : IsContainer bytes items
-  pub only : (others : List Item) → IsContainer bytes others → Gives (λ (read : List Item). read) (Ok items) (Ok others)
-  pub exact : read_so bytes ≡ Ok items
+-- bytes that were refused
+abbrev IsTold : List ℕ → ImageFault → Type 0
+IsTold bytes fault = (read_so bytes ≡ Err fault) ⊎ ((fault ≡ OutOfMemory) × HasEntries bytes)
 
-pub AreRead-from : (bytes : List ℕ) (parts items : List Item) → items ≡ parts → parts_of bytes ≡ Ok parts → AreRead bytes items
-AreRead-from bytes parts items same are =
-    let read : read_so bytes ≡ Ok items = sym (parts_are bytes) ∙ are ∙ ap (λ (is : List Item). Ok is) (sym same) in
-    record {
-      found = read_is_contained bytes items read;
-      only = λ others is. sym (contained_is_read bytes others is) ∙ read;
-      exact = read;
-    }
+by_refused : (bytes : List ℕ) (read : Result (List Item) ImageFault) (after : Fed) (fault : ImageFault) → after ≡ judged_by bytes read
+    → Err fault ≡ answer_of after → read ≡ Err fault
+by_refused bytes (Ok items) after fault is told =
+    let said = told ∙ ap answer_of is in
+    absurd cc
+by_refused bytes (Err Truncated) after fault is told =
+    let said = told ∙ ap answer_of is in
+    absurd cc
+by_refused bytes (Err other) after fault is told =
+    let said = told ∙ ap answer_of is in
+    let same : other ≡ fault = cc in
+    ap (λ f. Err f) same
 
--- and so they are a device's
-pub are_lawful : (bytes : List ℕ) (parts : List Item) → parts_of bytes ≡ Ok parts → IsItems parts
-are_lawful bytes parts are = (read_is_contained bytes parts (sym (parts_are bytes) ∙ are)).lawful
+were_refused : (bytes : List ℕ) (after : Fed) (fault : ImageFault) → IsFed (Takes []) bytes after → Err fault ≡ answer_of after → IsTold bytes fault
+were_refused bytes after fault (inl is) told = inl (by_refused bytes (read_so bytes) after fault is told)
+were_refused bytes after fault (inr (lack, entries)) told =
+    let said = told ∙ ap answer_of lack in
+    let same : fault ≡ OutOfMemory = cc in
+    inr (same, entries)
+
+-- ---- what is answered
+
+-- that is what reading gives
+pub record IsRead (bytes : List ℕ) (result : Result (List Item) ImageFault) : Type 0 where
+  pub found : IfOk result (λ items. IsContainer bytes items)
+  pub only : (items : List Item) → IsContainer bytes items → Gives (λ (read : List Item). read) result (Ok items)
+  pub exact : Gives (λ (read : List Item). read) result (read_so bytes)
+  pub no_memory : result ≡ Err OutOfMemory → HasEntries bytes
+
+gives_itself : (result read : Result (List Item) ImageFault) → read ≡ result → Gives (λ (items : List Item). items) result read
+gives_itself (Ok items) read is = is
+gives_itself (Err OutOfMemory) read is = tt
+gives_itself (Err fault) read is = is
+
+found_in : (bytes : List ℕ) (result : Result (List Item) ImageFault) → read_so bytes ≡ result → IfOk result (λ items. IsContainer bytes items)
+found_in bytes (Ok items) is = read_is_contained bytes items is
+found_in bytes (Err fault) is = tt
+
+IsRead-from : (bytes : List ℕ) (result : Result (List Item) ImageFault) → read_so bytes ≡ result → IsRead bytes result
+IsRead-from bytes result is = record {
+  found = found_in bytes result is;
+  only = λ items contains. gives_itself result (Ok items) (sym (contained_is_read bytes items contains) ∙ is);
+  exact = gives_itself result (read_so bytes) is;
+  no_memory = λ lacks. absurd (reading_there bytes (is ∙ lacks));
+}
+
+IsRead-told : (bytes : List ℕ) (fault : ImageFault) → IsTold bytes fault → IsRead bytes (Err fault)
+IsRead-told bytes fault (inl is) = IsRead-from bytes (Err fault) is
+IsRead-told bytes fault (inr (lack, entries)) = subst (λ f. IsRead bytes (Err f)) (sym lack) (record {
+  found = tt;
+  only = λ items contains. tt;
+  exact = tt;
+  no_memory = λ lacks. entries;
+})
+
+-- the same of a reader that was fed nothing before
+pub read_whole : (before : Fed) (bytes : List ℕ) (after : Fed) (result : Result (List Item) ImageFault) → before ≡ Takes [] → IsFed before bytes after
+    → Ok tt ≡ answer_of after → result ≡ finished after → IsRead bytes result
+read_whole before bytes after result new fed told is =
+    let taken = were_taken bytes after (subst (λ (b : Fed). IsFed b bytes after) new fed) told in
+    IsRead-from bytes result (sym (is ∙ ap finished taken))
+
+pub read_refused : (before : Fed) (bytes : List ℕ) (after : Fed) (fault : ImageFault) → before ≡ Takes [] → IsFed before bytes after
+    → Err fault ≡ answer_of after → IsRead bytes (Err fault)
+read_refused before bytes after fault new fed told =
+    IsRead-told bytes fault (were_refused bytes after fault (subst (λ (b : Fed). IsFed b bytes after) new fed) told)

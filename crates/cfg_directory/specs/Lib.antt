@@ -2,7 +2,8 @@ pub mod Items
 pub mod Files
 pub mod Container
 pub mod Parts
-pub mod Spared
+pub mod Fed
+pub mod Held
 pub mod Listing
 pub mod Shapes
 pub use Rattle.vt_outside.specs.Name

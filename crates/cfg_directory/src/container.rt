@@ -7,7 +7,7 @@ ghost use Rattle.cfg_directory.specs.Container.{IsContainer, Gives, HasEntries, 
 use crate::directory::put_directory;
 use crate::item::Item;
 use crate::items::Items;
-use crate::taking::{read_parts, take_parts};
+use crate::reader::ImageReader;
 use std::alloc::Global;
 use vt_outside::{Bytes, OutOfMemory};
 
@@ -58,23 +58,9 @@ pub fn read_image(alloc: Global, bytes: &[u8]) -> Result<Items, ImageFault>
     // Memory is needed only once the entries are there.
     ensures no_memory { result ≡ Err NoMemory → HasEntries bytes.now }
 {
-    Ok(Items::of(read_parts(alloc, bytes)?))
-}
-
-/// Reads the items that `container` is a container of, as `read_image` does, into its own memory and more from `alloc`. A file that
-/// has at least half of the bytes of all files, the first such one, isn't copied: it keeps the container's memory. The memory is
-/// given back where there is no such file, and after a fault.
-pub fn take_image(alloc: Global, container: Bytes) -> Result<Items, ImageFault>
-    // What is read is spelled so.
-    ensures found { IfOk result (λ items. IsContainer container items) }
-    // What is spelled so is read, unless memory runs out.
-    ensures only { (items : ListOf Item) → IsContainer container items → Gives (λ read. read) result (Ok items) }
-    // Which refusal it is.
-    ensures exact { Gives (λ read. read) result (read_so container) }
-    // Memory is needed only once the entries are there.
-    ensures no_memory { result ≡ Err NoMemory → HasEntries container }
-{
-    Ok(Items::of(take_parts(alloc, container)?))
+    let mut reader = ImageReader::new(alloc);
+    reader.feed(bytes)?;
+    reader.finish()
 }
 
 /// Writes the container of `items`, in memory from `alloc`, with zeros in reserved fields and behind names. `read_image` reads

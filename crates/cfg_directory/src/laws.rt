@@ -1,9 +1,10 @@
 //! Laws over the definitions, each the contract of a function that does nothing.
 
-ghost use Rattle.std.specs.Prelude.{◌≡◌, ℕ, ◌+◌, ◌*◌, ◌<◌, ◌≤◌, ◌++◌, List, length, Err, IsSomeAnd};
+ghost use Rattle.std.specs.Prelude.{◌≡◌, ◌≢◌, ℕ, ◌+◌, ◌*◌, ◌<◌, ◌≤◌, ◌++◌, List, length, Err, IsSomeAnd};
 ghost use Rattle.std.specs.List.{AllByRecursion};
 ghost use Rattle.vt_outside.specs.Name.{IsName};
 ghost use Rattle.cfg_directory.specs.declared.item.Item.{Item};
+ghost use Rattle.cfg_directory.specs.declared.container.ImageFault.{ImageFault};
 ghost use Rattle.cfg_directory.specs.declared.container.ImageFault.TheVariants.{Truncated};
 ghost use Rattle.vt_bytes.specs.Numbers.{be, be_bytes};
 ghost use Rattle.cfg_directory.specs.Items.{IsItems, AreDistinct, directory_of, selected, with_bytes_at};
@@ -26,6 +27,12 @@ pub fn written_items_are_contained()
 pub fn every_front_is_truncated()
     ensures { (items : List Item) (bytes front rest : List ℕ) → IsContainer bytes items → bytes ≡ front ++ rest → 0 < length rest
         → read_so front ≡ Err Truncated }
+{}
+
+/// States that reading bytes that begin with a fault other than `Truncated` gives this fault, whatever follows.
+pub fn a_fault_stays()
+    ensures { (bytes rest : List ℕ) (fault : ImageFault) → fault ≢ Truncated → read_so bytes ≡ Err fault
+        → read_so (bytes ++ rest) ≡ Err fault }
 {}
 
 /// States that the directory of items, where each name is a file name, is their number and then an entry of 64 bytes for each, and

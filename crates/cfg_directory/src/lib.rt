@@ -3,23 +3,28 @@
 //!
 //! The directory is the one of QEMU's fw_cfg (docs/specs/fw_cfg); the container is this project's own. Contracts
 //! see the list of the items, whose names and selectors differ. What is read is spelled so, what is spelled so is
-//! read, and each refusal is the first one, part by part from the front.
+//! read, and each refusal is the first one, part by part from the front. A container may be read in pieces, as they come.
 #![tactic(auto)]
 
 mod container;
 mod directory;
+mod filling;
+mod gathering;
+mod head;
+mod held;
 mod item;
 mod items;
-mod keeping;
 pub mod laws;
 mod listed;
 mod listing;
+mod opening;
+mod reader;
 mod reading;
-mod taking;
 
-pub use container::{ImageFault, read_image, take_image, write_image};
+pub use container::{ImageFault, read_image, write_image};
 pub use directory::directory_bytes;
 pub use item::Item;
 pub use items::Items;
 pub use listed::Listed;
 pub use listing::{ENTRY_SIZE, list_entries};
+pub use reader::ImageReader;

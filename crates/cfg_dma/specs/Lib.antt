@@ -4,7 +4,9 @@ pub mod Transfers
 pub mod Events
 pub mod Reads
 pub mod Writes
+pub mod Touching
 pub use Rattle.vt_bytes.specs.Numbers
 pub use Rattle.vt_bytes.specs.Memory
 pub use Rattle.cfg_directory.specs.Items
 pub use Rattle.guest_memory.specs.RamRange
+pub use Rattle.guest_memory.specs.Touched

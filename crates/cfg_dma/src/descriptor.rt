@@ -34,8 +34,8 @@ pub(crate) struct Descriptor {
 impl Descriptor {
     /// Reads the descriptor at an address, whose bytes must be RAM.
     pub(crate) fn read(memory: &GuestMemory, address: u64) -> Descriptor
-        requires { IsRamRange memory.now.top address 16 }
-        ensures { result ≡ descriptor_in (bytes_at memory.now address 16) }
+        requires { IsRamRange memory.now.memory.top address 16 }
+        ensures { result ≡ descriptor_in (bytes_at memory.now.memory address 16) }
     {
         let mut bytes = [0; 16];
         memory.copy_out(address, &mut bytes);

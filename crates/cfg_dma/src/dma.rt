@@ -1,9 +1,11 @@
 ghost use Rattle.std.specs.Prelude.{◌≡◌, ◌<◌, None, true};
 ghost use Rattle.vt_bytes.specs.Memory.{IsRamRange};
+ghost use Rattle.guest_memory.specs.Touched.{TouchesOnly};
 ghost use Rattle.cfg_dma.specs.declared.transfer.Kind.TheVariants.{Write};
 ghost use Rattle.cfg_dma.specs.Device.{LieInFile, Moves};
 ghost use Rattle.cfg_dma.specs.Transfers.{attached, CanMove, room_of, finish, begin_moving, begin_as, transfer_of, carry_out, start, may_write};
-ghost use Rattle.cfg_dma.specs.Events.{LowWritten, happens};
+ghost use Rattle.cfg_dma.specs.Events.{LowWritten, happens, with_low};
+ghost use Rattle.cfg_dma.specs.Touching.{IsInDescriptor};
 
 use crate::descriptor::{DESCRIPTOR_BYTES, Descriptor};
 use crate::device::Device;
@@ -17,15 +19,16 @@ impl Device {
     ///
     /// Nothing is started where the 16 bytes of the descriptor aren't all RAM. A transfer that moves no bytes is over at once. So is,
     /// with an error, one whose range of memory isn't all RAM, or that writes where the selected item doesn't let it. Any other is
-    /// then in flight, and `piece` moves it.
+    /// then in flight, and `piece` moves it. No other frames are touched than those of the descriptor.
     pub fn write_address_low(&mut self, memory: &mut GuestMemory, word: u32)
         requires idle { self.old.flight ≡ None }
         requires room { 0 < self.old.spare }
-        ensures after { attached self.new memory.new ≡ happens (LowWritten word) (attached self.old memory.old) }
-        ensures can_move { CanMove (attached self.new memory.new) }
+        ensures after { attached self.new memory.new.memory ≡ happens (LowWritten word) (attached self.old memory.old.memory) }
+        ensures can_move { CanMove (attached self.new memory.new.memory) }
         ensures room { room_of self.new ≡ room_of self.old }
-        ensures top { memory.new.top ≡ memory.old.top }
-        ensures fill { memory.new.fill ≡ memory.old.fill }
+        ensures top { memory.new.memory.top ≡ memory.old.memory.top }
+        ensures fill { memory.new.memory.fill ≡ memory.old.memory.fill }
+        ensures touches { TouchesOnly (IsInDescriptor (with_low self.old.address word)) memory.old.memory.top memory.old.touched memory.new.touched }
     {
         let address = self.with_low(word);
         self.start(memory, address);
@@ -35,7 +38,8 @@ impl Device {
     fn start(&mut self, memory: &mut GuestMemory, address: u64)
         requires idle { self.old.flight ≡ None }
         requires room { 0 < self.old.spare }
-        ensures { attached self.new memory.new ≡ start address (attached self.old memory.old) }
+        ensures after { attached self.new memory.new.memory ≡ start address (attached self.old memory.old.memory) }
+        ensures touches { TouchesOnly (IsInDescriptor address) memory.old.memory.top memory.old.touched memory.new.touched }
     {
         self.address = 0;
         if memory.is_ram_range(address, DESCRIPTOR_BYTES) {
@@ -46,10 +50,11 @@ impl Device {
 
     // Begins what a descriptor asks for, once the item is selected that it may name.
     fn carry_out(&mut self, memory: &mut GuestMemory, descriptor: u64, asked: Descriptor)
-        requires ram { IsRamRange memory.old.top descriptor 16 }
+        requires ram { IsRamRange memory.old.memory.top descriptor 16 }
         requires idle { self.old.flight ≡ None }
         requires room { 0 < self.old.spare }
-        ensures { attached self.new memory.new ≡ carry_out descriptor asked (attached self.old memory.old) }
+        ensures after { attached self.new memory.new.memory ≡ carry_out descriptor asked (attached self.old memory.old.memory) }
+        ensures touches { TouchesOnly (IsInDescriptor descriptor) memory.old.memory.top memory.old.touched memory.new.touched }
     {
         if let Some(select) = asked.selected() {
             self.write_selector(select);
@@ -74,10 +79,11 @@ impl Device {
 
     // Begins a transfer.
     fn begin_as(&mut self, memory: &mut GuestMemory, descriptor: u64, transfer: Finished)
-        requires ram { IsRamRange memory.old.top descriptor 16 }
+        requires ram { IsRamRange memory.old.memory.top descriptor 16 }
         requires idle { self.old.flight ≡ None }
         requires room { 0 < self.old.spare }
-        ensures { attached self.new memory.new ≡ begin_as transfer.kind descriptor transfer (attached self.old memory.old) }
+        ensures after { attached self.new memory.new.memory ≡ begin_as transfer.kind descriptor transfer (attached self.old memory.old.memory) }
+        ensures touches { TouchesOnly (IsInDescriptor descriptor) memory.old.memory.top memory.old.touched memory.new.touched }
     {
         match transfer.kind {
             Kind::Read => {
@@ -105,12 +111,13 @@ impl Device {
         transfer: Finished,
         allowed: bool,
     )
-        requires ram { IsRamRange memory.old.top descriptor 16 }
+        requires ram { IsRamRange memory.old.memory.top descriptor 16 }
         requires idle { self.old.flight ≡ None }
         requires room { 0 < self.old.spare }
         requires moves { Moves transfer.kind }
         requires fits { allowed ≡ true → transfer.kind ≡ Write → LieInFile self.old transfer.length }
-        ensures { attached self.new memory.new ≡ begin_moving allowed descriptor transfer (attached self.old memory.old) }
+        ensures after { attached self.new memory.new.memory ≡ begin_moving allowed descriptor transfer (attached self.old memory.old.memory) }
+        ensures touches { TouchesOnly (IsInDescriptor descriptor) memory.old.memory.top memory.old.touched memory.new.touched }
     {
         if transfer.length == 0 {
             self.finish(memory, descriptor, transfer);
@@ -145,10 +152,11 @@ impl Device {
 
     // Ends a transfer: its control word becomes 0, or 1 where it failed, and it is the last that is over.
     pub(crate) fn finish(&mut self, memory: &mut GuestMemory, descriptor: u64, transfer: Finished)
-        requires ram { IsRamRange memory.old.top descriptor 16 }
+        requires ram { IsRamRange memory.old.memory.top descriptor 16 }
         requires idle { self.old.flight ≡ None }
         requires room { 0 < self.old.spare }
-        ensures { attached self.new memory.new ≡ finish descriptor transfer (attached self.old memory.old) }
+        ensures after { attached self.new memory.new.memory ≡ finish descriptor transfer (attached self.old memory.old.memory) }
+        ensures touches { TouchesOnly (IsInDescriptor descriptor) memory.old.memory.top memory.old.touched memory.new.touched }
     {
         let control = u32::from(transfer.error);
         memory.copy_in(descriptor, &control.to_be_bytes());

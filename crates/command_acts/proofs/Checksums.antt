@@ -53,7 +53,7 @@ sum_ram m placed name offset start count from p from_is sum =
     (range_within m placed name offset start count p sum))
 
 -- the byte is in its file
-byte_within : (m : Memory) (placed : List PlacedFile) (name : List ℕ) (offset start count : ℕ) (p : PlacedFile)
+pub byte_within : (m : Memory) (placed : List PlacedFile) (name : List ℕ) (offset start count : ℕ) (p : PlacedFile)
     → IsSum m placed name offset start count p → offset < p.size
 byte_within m placed name offset start count p sum =
     omega (

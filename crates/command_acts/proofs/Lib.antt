@@ -2,6 +2,7 @@ pub mod Writes
 pub mod NamedInMemory
 pub mod PlacedFiles
 pub mod OneMoreFile
+pub mod Touching
 pub mod Patches
 pub mod Pointers
 pub mod Checksums

@@ -39,7 +39,7 @@ pub record IsPointer (m : Memory) (placed : List PlacedFile) (dest src : List �
   pub can : CanPoint (files_in m placed) dest src offset size
 
 -- the number is in its file
-number_within : (m : Memory) (placed : List PlacedFile) (dest src : List ℕ) (offset size : ℕ) (p s : PlacedFile)
+pub number_within : (m : Memory) (placed : List PlacedFile) (dest src : List ℕ) (offset size : ℕ) (p s : PlacedFile)
     → IsPointer m placed dest src offset size p s → offset + size ≤ p.size
 number_within m placed dest src offset size p s pointer =
     let is : pointer.can.d ≡ placed_in m p =

@@ -1,3 +1,4 @@
+pub mod Touching
 pub mod FilesInMemory
 pub mod Placing
 pub mod Runs

@@ -120,8 +120,8 @@ allocating guest listed name align zone file ready early found =
     let size : file.size ≡ length (bytes_of (files_of items) name) =
     sym (ap (λ (l : Listed). l.size) is.2) ∙ sym (ap length (bytes_of_named items name is.0 is.1)) in
     let bytes : bytes_of (files_of items) name ≡ can.file.bytes = ap (λ o. option_map_or (λ (f : File). f.bytes) o []) can.there in
-    let fresh : placed_named placed name ≡ None = not_placed guest.memory (files_of items) placed name align zone none in
-    let there : IsSome (info_of (infos_of (files_of items)) name) = is_a_file guest.memory (files_of items) placed name align zone none in
+    let fresh : placed_named placed name ≡ None = not_placed guest.memory.memory (files_of items) placed name align zone none in
+    let there : IsSome (info_of (infos_of (files_of items)) name) = is_a_file guest.memory.memory (files_of items) placed name align zone none in
     record {
       none = none;
       known_zone = can.known_zone;
@@ -225,7 +225,7 @@ same_index index at is = cc
 pub goes_placed : (May : Answers) (guest new : Guest) (listed : List Listed) (script : List Entry) (name : List ℕ) (align zone index place : ℕ)
     (file : Listed) → IsAllocating guest name align zone file → listed_named listed name ≡ Some file
     → May (placed_ranges guest.placements.placed.items) (request_of (files_of guest.device.items) name align zone) (Some place)
-    → attached new.device new.memory ≡ started descriptor_at (selected_read file.select) file.size place (attached guest.device guest.memory)
+    → attached new.device new.memory.memory ≡ started descriptor_at (selected_read file.select) file.size place (attached guest.device guest.memory.memory)
     → new.placements.placed.items ≡ guest.placements.placed.items ++ record { name = file.name; place = place; size = file.size } ∷ []
     → GoesByCommand May index (Allocate name align zone) (load_at guest (AtCommand index) listed script)
     (load_at new (awaits_file index) listed script)

@@ -60,12 +60,12 @@ command_steps May l new its_stage listed index entry is found same goes =
 
 -- A guest whose work range is cleared is the closing step.
 pub closing_steps : (May : Answers) (l : Loading) (new : Guest) (index : ℕ) → l.stage ≡ AtCommand index → slice_get l.script.items index ≡ None
-    → new.memory ≡ cleared l.guest.memory → new.device ≡ l.guest.device → new.placements ≡ l.guest.placements
+    → new.memory.memory ≡ cleared l.guest.memory.memory → new.device ≡ l.guest.device → new.placements ≡ l.guest.placements
     → StepsTo May Firmware (load_of l) (load_at new Done l.listed.items l.script.items)
 unfolding GoesOn
 closing_steps May l new index is found memory device placements =
     steps_at May l.guest l.stage l.listed.items l.script.items index None (load_at new Done l.listed.items l.script.items) is found
-    (load_moved l.guest new (attached l.guest.device (cleared l.guest.memory)) Done l.listed.items l.script.items (ap₂ attached device memory)
+    (load_moved l.guest new (attached l.guest.device (cleared l.guest.memory.memory)) Done l.listed.items l.script.items (ap₂ attached device memory)
     placements)
 
 -- what the step asks is what the command asks

@@ -240,7 +240,7 @@ pub can_write_number : (l : Loading) (index : ℕ) (dest src : List ℕ) (dst_of
     → slice_get l.script.items index ≡ Some (WritePointer dest src dst_offset src_offset size) → CanWriteNumber l src src_offset size
 can_write_number l index dest src dst_offset src_offset size inside is found =
     let items : List Item = inside.0 in
-    let May = AnyLawful l.guest.memory.top in
+    let May = AnyLawful l.guest.memory.memory.top in
     let w = load_of l in
     let placed = l.guest.placements.placed.items in
     let keeps = at_stage inside.1.kept is in
@@ -248,9 +248,9 @@ can_write_number l index dest src dst_offset src_offset size inside is found =
     let skipped = keeps.1 in
     let can = can_point May items (items_now w) index w known in
     let same = same_pointer dest known.dest src known.src dst_offset known.dst_offset src_offset known.src_offset size known.size (sym known.command ∙ found) in
-    let stands : IsSome (placed_named placed known.src) = some_named l.guest.memory placed known.src (subst IsSome (sym can.source_placed) refl) in
+    let stands : IsSome (placed_named placed known.src) = some_named l.guest.memory.memory placed known.src (subst IsSome (sym can.source_placed) refl) in
     let place : place_of placed known.src ≡ can.s.place =
-    sym (place_as_run l.guest.memory placed known.src)
+    sym (place_as_run l.guest.memory.memory placed known.src)
     ∙ ap (λ (o : Option Placed). option_map_or (λ (p : Placed). p.place) o 0) can.source_placed in
     let fits : place_of placed known.src + known.src_offset < 256 ^ known.size =
     subst (λ (n : ℕ). n + known.src_offset < 256 ^ known.size) (sym place) can.fits in

@@ -7,6 +7,7 @@ pub mod CommandsDone
 pub mod Allocating
 pub mod AtStages
 pub mod LoadStates
+pub mod Touching
 pub mod Opening
 pub mod AtCommands
 pub mod CanMove

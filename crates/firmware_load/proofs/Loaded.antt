@@ -1,10 +1,9 @@
 -- A whole load: it follows its plan, and is closed.
-use Rattle.std.proofs.Common.{◌≡◌, ℕ, ◌≤◌, ◌⊎◌, inl, inr, Bool, true, false, List, [], ◌++◌, Option, Some, IfSome, Result, Ok, Err, arith, refl, sym, ap, subst, ◌∙◌}
+use Rattle.std.proofs.Common.{◌≡◌, ℕ, ◌≤◌, ◌⊎◌, inl, inr, Bool, true, false, List, [], ◌++◌, Result, Ok, Err, arith, refl, sym, ap, subst, ◌∙◌}
 use Rattle.std.proofs.lemmas.Bool.{cases_Bool, true≢false}
 use Rattle.std.proofs.lemmas.List.{append-nil}
 use Rattle.vt_outside.specs.Placement.{Range}
 use Rattle.vt_outside.specs.Stream.{next_count}
-use Rattle.zone_alloc.specs.declared.alloc.Request.{Request}
 use Rattle.zone_alloc.specs.Allocators.{AllocState}
 use Rattle.cfg_directory.specs.declared.item.Item.{Item}
 use Rattle.command_acts.specs.declared.fault.LoadFault.{LoadFault}
@@ -21,7 +20,7 @@ use Rattle.load_states.specs.Runs.{EndsAfter, closing_events, has_ended}
 use Rattle.load_states.proofs.WholeRuns.{loaded_over}
 use Rattle.firmware_load.specs.World.{IsLoadOver}
 use Rattle.firmware_load.specs.declared.loading.Loading.{Loading}
-use Rattle.firmware_load.specs.Inside.{load_in, IsOnRun, AsksOnTheWay}
+use Rattle.firmware_load.specs.Inside.{IsOnRun, AsksOnTheWay}
 use Rattle.firmware_load.proofs.OnRun.{Follows, asks_through, asks_no_more}
 
 -- What closing a load leads to, from wherever it is on its run.
@@ -103,10 +102,3 @@ without_room items first last alloc_first alloc_last answer asks begun stage = (
       ],
   λ never. asks.sound (λ index is. absurd (never index (answers_no_room answer index last.stage stage is))),
 )
-
--- what was asked, said of a world that holds the load
-pub asked_of_world : (seen : Option LoadState) (loading : Option Loading) (l : Loading) (index : ℕ) (asked : Option Request)
-    → load_in loading ≡ seen → loading ≡ Some l → IsAsked l.guest.device.items index asked
-    → IfSome seen (λ w. IsAsked w.attached.device.items index asked)
-asked_of_world seen loading l index asked is there asks =
-    subst (λ (o : Option LoadState). IfSome o (λ w. IsAsked w.attached.device.items index asked)) (ap load_in (sym there) ∙ is) asks

@@ -87,13 +87,13 @@ asks_nothing items l alloc = record { no_room = λ index is. inl is; sound = λ 
 
 -- What a step of a load asks that hasn't ended, as its code says it.
 pub step_asks : (May : Answers) (items : List Item) (event : Event) (before after : Loading) (alloc_before alloc_after : AllocState)
-    → AreLawful May before.guest.memory.top → IsInside items before → has_ended before.stage ≡ false
+    → AreLawful May before.guest.memory.memory.top → IsInside items before → has_ended before.stage ≡ false
     → StepsTo May event (load_of before) (load_of after)
     → IsWithoutRoom event (load_of before) (load_of after) alloc_before alloc_after
     → IsSound (load_of before) (load_of after) alloc_before alloc_after → AsksOnTheWay items before after alloc_before alloc_after
 step_asks May items event before after alloc_before alloc_after lawful inside running steps without sound =
-    let top = before.guest.memory.top in
-    let fill = before.guest.memory.fill in
+    let top = before.guest.memory.memory.top in
+    let fill = before.guest.memory.memory.fill in
     let kept = step_keeps (AnyLawful top) items top fill inside.events event (load_of before) (load_of after) (λ handed request place free. free)
     inside.kept (lawful_steps May top event (load_of before) (load_of after) lawful steps) in
     record {

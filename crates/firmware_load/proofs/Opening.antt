@@ -24,9 +24,9 @@ use Rattle.firmware_load.specs.Inside.{load_of, IsInside, KeepsInside, IsOnRun}
 -- a load keeps what is told of its own top and its own fill byte
 pub kept_own : (l : Loading) (items : List Item) (top fill : ℕ) (events : List Event)
     → IsKept (AnyLawful top) items top fill events (load_of l)
-    → IsKept (AnyLawful l.guest.memory.top) items l.guest.memory.top l.guest.memory.fill events (load_of l)
+    → IsKept (AnyLawful l.guest.memory.memory.top) items l.guest.memory.memory.top l.guest.memory.memory.fill events (load_of l)
 kept_own l items top fill events kept =
-    let m = l.guest.memory in
+    let m = l.guest.memory.memory in
     let w = load_of l in
     subst (λ byte. IsKept (AnyLawful m.top) items m.top byte events w) (sym kept.fill)
     (subst (λ end. IsKept (AnyLawful end) items end fill events w) (sym kept.top) kept)
@@ -42,10 +42,10 @@ pub record IsOpening (items : List Item) (top fill : ℕ) (l : Loading) : Type 0
   pub lawful : IsItems items
   pub names : AllByRecursion (λ (item : Item). IsName item.name) items
   pub device_is : l.guest.device ≡ begun_device items
-  pub memory : IsMemory l.guest.memory
-  pub top_is : l.guest.memory.top ≡ top
-  pub fill_is : l.guest.memory.fill ≡ fill
-  pub filled : (address : ℕ) → IsRam top address → at l.guest.memory address ≡ fill
+  pub memory : IsMemory l.guest.memory.memory
+  pub top_is : l.guest.memory.memory.top ≡ top
+  pub fill_is : l.guest.memory.memory.fill ≡ fill
+  pub filled : (address : ℕ) → IsRam top address → at l.guest.memory.memory address ≡ fill
   pub is_top : IsTop top
   pub stage : l.stage ≡ opening_stage
   pub listed : l.listed.items ≡ []
@@ -86,13 +86,13 @@ opening_inside items top fill l opening = record {
 -- a load that was just begun was begun with its items
 pub opening_inside_own : (l : Loading) → KeepsInside l → l.stage ≡ opening_stage → IsInside l.guest.device.items l
 opening_inside_own l inside is =
-    let keeps = subst (StageKeeps (AnyLawful l.guest.memory.top) inside.0 (load_of l)) is inside.1.kept.stage in
+    let keeps = subst (StageKeeps (AnyLawful l.guest.memory.memory.top) inside.0 (load_of l)) is inside.1.kept.stage in
     subst (λ (items : List Item). IsInside items l) (sym keeps.1.0.begun) inside.1
 
 -- A load that was just begun is at the start of its run, however places will be answered.
 pub opening_on_run : (May : Answers) (l : Loading)
-    → IsBegun l.guest.device.items l.guest.memory.top l.guest.memory.fill (load_of l) → IsOnRun May (load_of l) [] (load_of l)
+    → IsBegun l.guest.device.items l.guest.memory.memory.top l.guest.memory.memory.fill (load_of l) → IsOnRun May (load_of l) [] (load_of l)
 opening_on_run May l begun = record {
   goes_on = λ rest last ends. ends;
-  kept = begun_keeps May l.guest.device.items l.guest.memory.top l.guest.memory.fill (load_of l) begun;
+  kept = begun_keeps May l.guest.device.items l.guest.memory.memory.top l.guest.memory.memory.fill (load_of l) begun;
 }

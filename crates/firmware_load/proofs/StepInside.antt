@@ -1,5 +1,5 @@
 -- What a load keeps inside over a step.
-use Rattle.std.proofs.Common.{◌≡◌, ℕ, ◌≤◌, List, [], ◌∷◌, ◌++◌, length, Option, Some, None, MatchOption, IfSome, IfOk, Vec, Global, sym, ap, subst, ◌∙◌}
+use Rattle.std.proofs.Common.{◌≡◌, ℕ, ◌≤◌, Bool, List, [], ◌∷◌, ◌++◌, length, Option, Some, None, MatchOption, IfSome, IfOk, Vec, Global, sym, ap, subst, ◌∙◌}
 use Rattle.vt_outside.specs.Placement.{Range, IsFree}
 use Rattle.cfg_directory.specs.declared.item.Item.{Item}
 use Rattle.cfg_directory.specs.Files.{files_of}
@@ -18,7 +18,9 @@ use Rattle.load_states.specs.Kept.{IsKept}
 use Rattle.load_states.specs.Runs.{AnyLawful, StepsTo, request_of}
 use Rattle.load_states.specs.Steps.{step}
 use Rattle.firmware_load.specs.declared.loading.Loading.{Loading}
-use Rattle.firmware_load.specs.Inside.{load_of, load_in, IsInside, StaysBegun, HasRooms, SameRooms}
+use Rattle.firmware_load.specs.Inside.{load_of, world_in, IsInside, StaysBegun, HasRooms, SameRooms}
+use Rattle.firmware_load.specs.World.{WorldState}
+use Rattle.firmware_load.proofs.LoadStates.{of_world}
 use Rattle.firmware_load.proofs.Opening.{kept_own}
 use Rattle.load_states.proofs.StepKeeps.{step_keeps}
 
@@ -42,11 +44,11 @@ any_lawful state_of gives begun top are handed request answer may =
 
 -- a load with its top and its fill byte still, and with the rooms that it had
 kept_there : (items : List Item) (l next : Loading) (events : List Event)
-    → IsKept (AnyLawful l.guest.memory.top) items l.guest.memory.top l.guest.memory.fill events (load_of next)
+    → IsKept (AnyLawful l.guest.memory.memory.top) items l.guest.memory.memory.top l.guest.memory.memory.fill events (load_of next)
     → HasRooms items l → SameRooms l next → IsInside items next
 kept_there items l next events kept rooms same = record {
   events = events;
-  kept = kept_own next items l.guest.memory.top l.guest.memory.fill events kept;
+  kept = kept_own next items l.guest.memory.memory.top l.guest.memory.memory.fill events kept;
   rooms = record {
     listed = subst (λ room. length items ≤ room) (sym same.listed) rooms.listed;
     script = subst (λ room. IfOk (script_in items) (λ script. length script ≤ room)) (sym same.script) rooms.script;
@@ -57,11 +59,11 @@ kept_there items l next events kept rooms same = record {
 
 -- A step of a load whose places are given by an allocator of its memory keeps what is kept inside.
 pub inside_after : {A : Type 0} (state_of : A → AllocState) (gives : A → Request → Option ℕ → Type 0) (begun : Begun)
-    (l next : Loading) (event : Event) → AreZonesOf l.guest.memory.top begun.zones
+    (l next : Loading) (event : Event) → AreZonesOf l.guest.memory.memory.top begun.zones
     → StepsTo (MayAnswer state_of gives begun) event (load_of l) (load_of next) → SameRooms l next → StaysBegun l next
 inside_after state_of gives begun l next event are steps same items inside =
-    let top = l.guest.memory.top in
-    let fill = l.guest.memory.fill in
+    let top = l.guest.memory.memory.top in
+    let fill = l.guest.memory.memory.fill in
     let events = inside.events ++ event ∷ [] in
     let May : Answers = MayAnswer state_of gives begun in
     let w = load_of l in
@@ -73,18 +75,19 @@ inside_after state_of gives begun l next event are steps same items inside =
 
 -- So does a step of a world keep what is kept over the answers that its allocator may give.
 pub kept_after : {A : Type 0} (state_of : A → AllocState) (gives : A → Request → Option ℕ → Type 0) (begun : Begun)
-    (seen : Option LoadState) (loading : Option Loading)
-    (l next : Loading) (event : Event) → loading ≡ Some l → load_in loading ≡ seen → IfSome seen (λ w. AreZonesOf (memory_of w).top begun.zones)
+    (seen : WorldState) (loading : Option Loading)
+    (l next : Loading) (event : Event) → loading ≡ Some l → world_in loading ≡ seen
+    → IfSome seen.load (λ w. AreZonesOf (memory_of w).top begun.zones)
     → StepsTo (MayAnswer state_of gives begun) event (load_of l) (load_of next)
-    → IfSome seen (λ old. (items : List Item) (top fill : ℕ) (events : List Event)
+    → IfSome seen.load (λ old. (items : List Item) (top fill : ℕ) (events : List Event)
     → IsKept (MayAnswer state_of gives begun) items top fill events old
     → IsKept (MayAnswer state_of gives begun) items top fill (events ++ event ∷ []) (load_of next))
 kept_after state_of gives begun seen loading l next event is seen_is zones_are steps =
     let May : Answers = MayAnswer state_of gives begun in
-    let same : load_in (Some l) ≡ seen = ap load_in (sym is) ∙ seen_is in
-    let are : AreZonesOf l.guest.memory.top begun.zones =
-    subst (λ (o : Option LoadState). IfSome o (λ w. AreZonesOf (memory_of w).top begun.zones)) (sym same) zones_are in
-    subst (λ (o : Option LoadState). IfSome o (λ old. (items : List Item) (top fill : ℕ) (events : List Event)
-    → IsKept May items top fill events old → IsKept May items top fill (events ++ event ∷ []) (load_of next))) same
+    let same : world_in (Some l) ≡ seen = ap world_in (sym is) ∙ seen_is in
+    let are : AreZonesOf l.guest.memory.memory.top begun.zones =
+    subst (λ (w : WorldState). IfSome w.load (λ w. AreZonesOf (memory_of w).top begun.zones)) (sym same) zones_are in
+    of_world (λ (w : LoadState) (touched : List Bool). (items : List Item) (top fill : ℕ) (events : List Event)
+    → IsKept May items top fill events w → IsKept May items top fill (events ++ event ∷ []) (load_of next)) seen loading l seen_is is
     (λ items top fill events kept. step_keeps May items top fill events event (load_of l) (load_of next)
     (answers_are_lawful state_of gives begun top (subst (λ t. AreZonesOf t begun.zones) kept.top are)) kept steps)

@@ -143,11 +143,11 @@ turn_less May items top fill events w next lawful kept running turn =
     ]
 
 -- and each turn of a load that keeps what it keeps inside
-pub turn_less_inside : (May : Answers) (l next : Loading) → AreLawful May l.guest.memory.top → KeepsInside l → has_ended l.stage ≡ false
+pub turn_less_inside : (May : Answers) (l next : Loading) → AreLawful May l.guest.memory.memory.top → KeepsInside l → has_ended l.stage ≡ false
     → IsTurn May (load_of l) (load_of next) → turns_left (load_of next) < turns_left (load_of l)
 turn_less_inside May l next lawful inside running turn =
-    let top = l.guest.memory.top in
-    turn_less (AnyLawful top) inside.0 top l.guest.memory.fill inside.1.events (load_of l) (load_of next) (λ handed request place free. free)
+    let top = l.guest.memory.memory.top in
+    turn_less (AnyLawful top) inside.0 top l.guest.memory.memory.fill inside.1.events (load_of l) (load_of next) (λ handed request place free. free)
     inside.1.kept running (record {
       middle = turn.middle;
       first = lawful_steps May top Firmware (load_of l) turn.middle lawful turn.first;

@@ -1,6 +1,6 @@
 -- What a world keeps inside.
 use Rattle.std.specs.Prelude.{◌≡◌, ℕ, ◌≤◌, ◌<◌, ◌⊎◌, true, false, List, [], ◌++◌, length, Option, Some, None, MatchOption, IfOk, vec_capacity}
-use Rattle.std.specs.Option.{option_map}
+use Rattle.std.specs.Option.{option_map, option_map_or}
 use Rattle.vt_bytes.specs.Memory.{IsTop}
 use Rattle.cfg_directory.specs.declared.item.Item.{Item}
 use Rattle.cfg_directory.specs.declared.listed.Listed.{Listed}
@@ -10,6 +10,8 @@ use Rattle.loader_script.specs.declared.entry.Entry.{Entry}
 use Rattle.loader_script.specs.Run.{Progress, infos_of}
 use Rattle.cfg_directory.specs.Files.{files_of}
 use Rattle.cfg_dma.specs.Transfers.{attached}
+use Rattle.guest_memory.specs.Touched.{TouchesOnly}
+use Rattle.command_acts.specs.Touching.{IsInOne}
 use Rattle.command_acts.specs.FilesInMemory.{IsLoading, files_in, placed_ranges}
 use Rattle.command_acts.specs.Placing.{ArePlacements}
 use Rattle.command_acts.specs.Runs.{Answers, at_files}
@@ -25,13 +27,15 @@ use Rattle.load_states.specs.LoadState.{LoadState, memory_of}
 use Rattle.load_states.specs.Steps.{at_command}
 use Rattle.load_states.specs.Runs.{AnyLawful, EndsAfter, StepsTo, request_for, has_ended, whole_piece}
 use Rattle.load_states.specs.Kept.{IsKept}
+use Rattle.load_states.specs.Touching.{MayTouchOver}
 use Rattle.firmware_load.specs.declared.guest.Guest.{Guest}
 use Rattle.firmware_load.specs.declared.loading.Loading.{Loading}
+use Rattle.firmware_load.specs.World.{WorldState}
 
 -- the load of a guest whose firmware is so far, and has taken these files and commands
 abbrev pub load_at : Guest → Stage → List Listed → List Entry → LoadState
 load_at guest its_stage its_listed its_script = record {
-  attached = attached guest.device guest.memory;
+  attached = attached guest.device guest.memory.memory;
   stage = its_stage;
   listed = its_listed;
   script = its_script;
@@ -44,9 +48,13 @@ load_of l = load_at l.guest l.stage l.listed.items l.script.items
 abbrev pub load_in : Option Loading → Option LoadState
 load_in loading = option_map load_of loading
 
+-- what is seen of a world in which this was begun
+abbrev pub world_in : Option Loading → WorldState
+world_in loading = record { load = load_in loading; touched = option_map_or (λ (l : Loading). l.guest.memory.touched) loading [] }
+
 -- how far the run of the script on plain lists is, where the placed files stand as they do now
 abbrev pub progress_now : Guest → Progress
-progress_now guest = at_files (files_of guest.device.items) (files_in guest.memory guest.placements.placed.items) []
+progress_now guest = at_files (files_of guest.device.items) (files_in guest.memory.memory guest.placements.placed.items) []
 
 -- There is room for all files of the directory and for all commands of the script, and the placements are those of the items.
 pub record HasRooms (items : List Item) (l : Loading) : Type 0 where
@@ -58,7 +66,7 @@ pub record HasRooms (items : List Item) (l : Loading) : Type 0 where
 -- A load that was begun with these items keeps, over some events, what a load keeps.
 pub record IsInside (its_items : List Item) (l : Loading) : Type 0 where
   pub events : List Event
-  pub kept : IsKept (AnyLawful l.guest.memory.top) its_items l.guest.memory.top l.guest.memory.fill events (load_of l)
+  pub kept : IsKept (AnyLawful l.guest.memory.memory.top) its_items l.guest.memory.memory.top l.guest.memory.memory.fill events (load_of l)
   pub rooms : HasRooms its_items l
 
 -- It was begun with some items.
@@ -76,15 +84,30 @@ pub record SameRooms (before after : Loading) : Type 0 where
   pub infos : after.guest.placements.infos ≡ before.guest.placements.infos
   pub placements : ArePlacements after.guest.placements
 
+-- What a guest leaves of its frames over these events: memory has its top still, files that were placed are placed, and no other frames were
+-- touched than those that may be.
+pub record TouchesOver (events : List Event) (before after : Guest) : Type 0 where
+  pub top : after.memory.memory.top ≡ before.memory.memory.top
+  pub placed : (address : ℕ) → IsInOne (placed_ranges before.placements.placed.items) address
+      → IsInOne (placed_ranges after.placements.placed.items) address
+  pub touches : TouchesOnly (MayTouchOver before.memory.memory.top events (placed_ranges after.placements.placed.items)) before.memory.memory.top
+      before.memory.touched after.memory.touched
+
+-- the events are those that were taken of a plan
+pub record TouchesTaken (left_before left : List Event) (before after : Guest) : Type 0 where
+  pub taken : List Event
+  pub plan : left_before ≡ taken ++ left
+  pub touches : TouchesOver taken before after
+
 -- What a guest needs for a command of its script: the firmware knows its files, the placed ones stand in memory and apart, no transfer is in
 -- flight, and there is room for one.
 pub record IsReady (guest : Guest) (listed : List Listed) : Type 0 where
-  pub top : IsTop guest.memory.top
+  pub top : IsTop guest.memory.memory.top
   pub items : IsItems guest.device.items
   pub listed_are : listed ≡ listed_of guest.device.items
   pub infos : guest.placements.infos.items ≡ infos_of (files_of guest.device.items)
   pub placements : ArePlacements guest.placements
-  pub loading : IsLoading guest.memory.top (files_of guest.device.items) guest.placements.placed.items
+  pub loading : IsLoading guest.memory.memory.top (files_of guest.device.items) guest.placements.placed.items
   pub idle : guest.device.flight ≡ None
   pub room : 0 < guest.device.spare
 
@@ -116,4 +139,4 @@ pub record AsksOnTheWay (items : List Item) (before after : Loading) (alloc_befo
   pub sound : ((index : ℕ) → after.stage ≡ Refused (NoRoom index) → before.stage ≡ Refused (NoRoom index))
       → alloc_after.refusals ≡ alloc_before.refusals
   pub ended : has_ended before.stage ≡ true → (after.stage ≡ before.stage) × (alloc_after ≡ alloc_before)
-  pub top : after.guest.memory.top ≡ before.guest.memory.top
+  pub top : after.guest.memory.memory.top ≡ before.guest.memory.memory.top

@@ -1,5 +1,5 @@
 -- The world of a load over events: the load that was begun, if one was, and how far it is.
-use Rattle.std.specs.Prelude.{◌≡◌, ℕ, ◌⊎◌, ◌<◌, ◌≤◌, List, [], ◌++◌, Option, Some, None, Result}
+use Rattle.std.specs.Prelude.{◌≡◌, ℕ, ◌⊎◌, ◌<◌, ◌≤◌, Bool, List, [], ◌++◌, Option, Some, None, Result}
 use Rattle.vt_outside.specs.Placement.{Range}
 use Rattle.vt_outside.specs.Stream.{next_count}
 use Rattle.zone_alloc.specs.Allocators.{AllocState}
@@ -14,6 +14,18 @@ use Rattle.command_acts.specs.Runs.{Answers}
 use Rattle.load_states.specs.Loads.{IsLoadedOver, most_closing}
 use Rattle.load_states.specs.LoadState.{LoadState, memory_of}
 use Rattle.load_states.specs.Runs.{EndsAfter, closing_events, request_of}
+use Rattle.load_states.specs.Touching.{MayTouchOver}
+use Rattle.guest_memory.specs.Touched.{TouchesOnly}
+
+-- What is seen of a world: the load that was begun, if one was, and of each frame of its memory, in order, whether it is touched. Where none was
+-- begun there are no frames.
+pub record WorldState : Type 0 where
+  pub load : Option LoadState
+  pub touched : List Bool
+
+-- a world in which nothing was begun
+abbrev pub idle_world : WorldState
+idle_world = record { load = None; touched = [] }
 
 -- the state of a world whose firmware is so far
 abbrev pub state_at : Stage → State
@@ -53,3 +65,10 @@ pub record IsLoadOver (May : Answers) (begun : LoadState) (left_before left : Li
   pub after_plan : 0 < closing → left ≡ []
   pub ran : EndsAfter May (taken ++ closing_events closing) begun w
   pub leaves : IsLoadedOver May begun.attached.device.items (memory_of begun).top (memory_of begun).fill taken handed answer w
+
+-- Of the frames of a memory below a top those alone were touched that the events which were taken of a plan let a load touch, where these
+-- ranges were handed out for its files.
+pub record TouchesByPlan (top : ℕ) (left_before left : List Event) (handed : List Range) (before now : List Bool) : Type 0 where
+  pub taken : List Event
+  pub plan : left_before ≡ taken ++ left
+  pub touches : TouchesOnly (MayTouchOver top taken handed) top before now

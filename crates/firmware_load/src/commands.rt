@@ -21,7 +21,7 @@ ghost use Rattle.load_states.specs.Steps.{at_command, skips};
 ghost use Rattle.load_states.specs.declared.stage.Stage.TheVariants.{AtCommand, Refused};
 ghost use Rattle.load_states.specs.Runs.{request_for};
 ghost use Rattle.command_acts.specs.Runs.{early_cause};
-ghost use Rattle.firmware_load.specs.Inside.{load_at, progress_now, IsReady, GoesByCommand};
+ghost use Rattle.firmware_load.specs.Inside.{load_at, progress_now, IsReady, GoesByCommand, TouchesOver};
 
 use crate::firmware::find_listed;
 use crate::guest::{BUFFER, Guest, NEXT_WRITE, selected_read, selected_skip};
@@ -46,7 +46,7 @@ impl Guest {
         requires ready { IsReady self.old listed.now }
         requires index { index + 1 < 2 ^ 32 }
         requires begun { (A.state place.old).begun.ready ≡ true }
-        requires zones { AreZonesOf self.old.memory.top (A.state place.old).begun.zones }
+        requires zones { AreZonesOf self.old.memory.memory.top (A.state place.old).begun.zones }
         requires handed { (A.state place.old).handed ≡ placed_ranges self.old.placements.placed.items }
         ensures goes { (script : List Entry) → GoesByCommand
             (MayAnswer A.state A.gives (A.state place.old).begun) index entry.now
@@ -60,6 +60,7 @@ impl Guest {
             × ((A.state place.new).refused ≡ request_for entry.now (load_at self.old (AtCommand index) listed.now [])) }
         ensures sound { ((at : ℕ) → result ≢ Refused (NoRoom at)) → (A.state place.new).refusals ≡ (A.state place.old).refusals }
         ensures begun { (A.state place.new).begun ≡ (A.state place.old).begun }
+        ensures touches { TouchesOver [] self.old self.new }
     {
         if let Some(cause) = self.placements.refusal(entry) {
             return Stage::Refused(LoadFault::Command { index, cause });
@@ -104,7 +105,7 @@ impl Guest {
         requires ready { IsReady self.old listed.now }
         requires early { early_cause (Allocate name.now align zone) (progress_now self.old) ≡ None }
         requires begun { (A.state place.old).begun.ready ≡ true }
-        requires zones { AreZonesOf self.old.memory.top (A.state place.old).begun.zones }
+        requires zones { AreZonesOf self.old.memory.memory.top (A.state place.old).begun.zones }
         requires handed { (A.state place.old).handed ≡ placed_ranges self.old.placements.placed.items }
         ensures goes { (script : List Entry) → GoesByCommand
             (MayAnswer A.state A.gives (A.state place.old).begun) index (Allocate name.now align zone)
@@ -118,6 +119,7 @@ impl Guest {
             × ((A.state place.new).refused ≡ request_for (Allocate name.now align zone) (load_at self.old (AtCommand index) listed.now [])) }
         ensures sound { ((at : ℕ) → result ≢ Refused (NoRoom at)) → (A.state place.new).refusals ≡ (A.state place.old).refusals }
         ensures begun { (A.state place.new).begun ≡ (A.state place.old).begun }
+        ensures touches { TouchesOver [] self.old self.new }
     {
         let file = listed_of(listed, name);
         match place.place(Zone::numbered(zone), file.size, align) {
@@ -137,12 +139,13 @@ impl Guest {
         requires distinct { AreDistinct self.old.placements.infos.items }
         requires there { IsSome (info_of self.old.placements.infos.items file.now.name) }
         requires fresh { placed_named self.old.placements.placed.items file.now.name ≡ None }
-        ensures after { attached self.new.device self.new.memory
-            ≡ started descriptor_at (selected_read file.now.select) file.now.size at (attached self.old.device self.old.memory) }
+        ensures after { attached self.new.device self.new.memory.memory
+            ≡ started descriptor_at (selected_read file.now.select) file.now.size at (attached self.old.device self.old.memory.memory) }
         ensures placed { self.new.placements.placed.items
             ≡ self.old.placements.placed.items ++ record { name = file.now.name; place = at; size = file.now.size } ∷ [] }
         ensures are { ArePlacements self.new.placements }
         ensures infos { self.new.placements.infos ≡ self.old.placements.infos }
+        ensures touches { TouchesOver [] self.old self.new }
     {
         self.start(selected_read(file.select), file.size, at);
         self.placements.put(PlacedFile {
@@ -154,7 +157,7 @@ impl Guest {
 
     // Adds the place of `src` to a number in `dest`, or refuses to where the sum doesn't fit.
     fn add_pointer(&mut self, dest: &Name, src: &Name, offset: u32, size: u8, index: u32) -> Stage
-        requires loading { IsLoading self.old.memory.top (files_of self.old.device.items) self.old.placements.placed.items }
+        requires loading { IsLoading self.old.memory.memory.top (files_of self.old.device.items) self.old.placements.placed.items }
         requires early { early_cause (AddPointer dest.now src.now offset size) (progress_now self.old) ≡ None }
         requires index { index + 1 < 2 ^ 32 }
         ensures goes { (listed : List ListedFile) (script : List Entry) →
@@ -162,6 +165,7 @@ impl Guest {
             ≡ at_command index (Some (AddPointer dest.now src.now offset size)) None (load_at self.old (AtCommand index) listed script) }
         ensures placements { self.new.placements ≡ self.old.placements }
         ensures roomy { (at : ℕ) → result ≢ Refused (NoRoom at) }
+        ensures touches { TouchesOver [] self.old self.new }
     {
         match add_pointer(
             &mut self.memory,
@@ -188,6 +192,7 @@ impl Guest {
             load_at self.new result listed.now script ≡ skips index offset (listed_named listed.now dest.now) (load_at self.old (AtCommand index) listed.now script) }
         ensures placements { self.new.placements ≡ self.old.placements }
         ensures roomy { (at : ℕ) → result ≢ Refused (NoRoom at) }
+        ensures touches { TouchesOver [] self.old self.new }
     {
         let file = listed_of(listed, dest);
         self.start(selected_skip(file.select), offset, 0);
@@ -202,10 +207,11 @@ impl Guest {
         requires placed { IsSome (placed_named self.old.placements.placed.items src.now) }
         requires size { IsPointerSize size }
         requires fits { place_of self.old.placements.placed.items src.now + src_offset < 256 ^ size }
-        ensures after { attached self.new.device self.new.memory
+        ensures after { attached self.new.device self.new.memory.memory
             ≡ started descriptor_at next_write size buffer_at (attached self.old.device
-            (with_bytes self.old.memory buffer_at (le_bytes size (place_of self.old.placements.placed.items src.now + src_offset)))) }
+            (with_bytes self.old.memory.memory buffer_at (le_bytes size (place_of self.old.placements.placed.items src.now + src_offset)))) }
         ensures placements { self.new.placements ≡ self.old.placements }
+        ensures touches { TouchesOver [] self.old self.new }
     {
         let number = self.placements.place_of(src) + u64::from(src_offset);
         self.put_number(size, number);
@@ -221,7 +227,7 @@ impl Guest {
         length: u32,
         index: u32,
     ) -> Stage
-        requires loading { IsLoading self.old.memory.top (files_of self.old.device.items) self.old.placements.placed.items }
+        requires loading { IsLoading self.old.memory.memory.top (files_of self.old.device.items) self.old.placements.placed.items }
         requires early { early_cause (AddChecksum name.now offset start length) (progress_now self.old) ≡ None }
         requires index { index + 1 < 2 ^ 32 }
         ensures goes { (listed : List ListedFile) (script : List Entry) →
@@ -229,6 +235,7 @@ impl Guest {
             ≡ at_command index (Some (AddChecksum name.now offset start length)) None (load_at self.old (AtCommand index) listed script) }
         ensures placements { self.new.placements ≡ self.old.placements }
         ensures roomy { (at : ℕ) → result ≢ Refused (NoRoom at) }
+        ensures touches { TouchesOver [] self.old self.new }
     {
         add_checksum(
             &mut self.memory,

@@ -1,4 +1,4 @@
-ghost use Rattle.std.specs.Prelude.{◌≡◌, ◌≢◌, ℕ, ◌+◌, ◌++◌, ◌-◌, ◌*◌, ◌/◌, ◌%◌, ◌<◌, ◌≤◌, ◌^◌, ◌==◌, true, false, length};
+ghost use Rattle.std.specs.Prelude.{◌≡◌, ◌≢◌, ℕ, ◌+◌, ◌++◌, ◌-◌, ◌*◌, ◌/◌, ◌%◌, ◌<◌, ◌≤◌, ◌^◌, ◌==◌, [], true, false, length};
 ghost use Rattle.std.specs.Prelude.{None, Some, List, vec_len, vec_capacity, if◌then◌else◌};
 ghost use Rattle.std.specs.Option.{option_copied};
 ghost use Rattle.vt_bytes.specs.Numbers.{be};
@@ -17,7 +17,7 @@ ghost use Rattle.load_states.specs.LoadState.{LoadState, listed_named};
 ghost use Rattle.load_states.specs.Runs.{StepsTo, request_of};
 ghost use Rattle.load_states.specs.Steps.{asked, asking_for, is_over, script_control, stage_for, taken_of, firmware_step};
 ghost use Rattle.firmware_load.specs.World.{IsWithoutRoom, IsSound};
-ghost use Rattle.firmware_load.specs.Inside.{load_of, KeepsInside, SameRooms};
+ghost use Rattle.firmware_load.specs.Inside.{load_of, KeepsInside, SameRooms, TouchesOver};
 
 use crate::guest::{BUFFER, BUFFER_BYTES, Guest, NEXT_READ, selected_read};
 use crate::loading::Loading;
@@ -37,7 +37,7 @@ impl Loading {
     pub(crate) fn firmware_step<A: ZoneAlloc>(&mut self, place: &mut A)
         requires inside { KeepsInside self.old }
         requires begun { (A.state place.old).begun.ready ≡ true }
-        requires zones { AreZonesOf self.old.guest.memory.top (A.state place.old).begun.zones }
+        requires zones { AreZonesOf self.old.guest.memory.memory.top (A.state place.old).begun.zones }
         requires handed { (A.state place.old).handed ≡ placed_ranges self.old.guest.placements.placed.items }
         ensures steps { StepsTo (MayAnswer A.state A.gives (A.state place.old).begun) Firmware
             (load_of self.old) (load_of self.new) }
@@ -48,6 +48,7 @@ impl Loading {
             (A.state place.old) (A.state place.new) }
         ensures sound { IsSound (load_of self.old) (load_of self.new) (A.state place.old) (A.state place.new) }
         ensures begun { (A.state place.new).begun ≡ (A.state place.old).begun }
+        ensures touches { TouchesOver [] self.old.guest self.new.guest }
     {
         match self.stage {
             Stage::Asks(reading) => self.ask(reading),
@@ -66,6 +67,7 @@ impl Loading {
         requires stage { self.old.stage ≡ Asks reading }
         ensures after { load_of self.new ≡ firmware_step (Asks reading) None (load_of self.old) }
         ensures rooms { SameRooms self.old self.new }
+        ensures touches { TouchesOver [] self.old.guest self.new.guest }
     {
         let (control, size) = asking_for(reading);
         self.guest.start(control, size, BUFFER);
@@ -78,6 +80,7 @@ impl Loading {
         requires stage { self.old.stage ≡ Awaits reading }
         ensures after { load_of self.new ≡ firmware_step (Awaits reading) None (load_of self.old) }
         ensures rooms { SameRooms self.old self.new }
+        ensures guest { self.new.guest ≡ self.old.guest }
     {
         if self.guest.is_over() {
             match reading {
@@ -99,6 +102,7 @@ impl Loading {
         ensures after { load_of self.new
             ≡ (if is_over (load_of self.old) then record (load_of self.old) { stage = next } else load_of self.old) }
         ensures rooms { SameRooms self.old self.new }
+        ensures guest { self.new.guest ≡ self.old.guest }
     {
         if !self.guest.is_over() {
             return;
@@ -112,6 +116,7 @@ impl Loading {
         requires stage { self.old.stage ≡ AsksWrite index }
         ensures after { load_of self.new ≡ firmware_step (AsksWrite index) None (load_of self.old) }
         ensures rooms { SameRooms self.old self.new }
+        ensures touches { TouchesOver [] self.old.guest self.new.guest }
     {
         match self.script.get(index as usize) {
             Some(entry) => match entry {
@@ -142,6 +147,7 @@ impl Loading {
         requires over { is_over (load_of self.old) ≡ true }
         ensures after { load_of self.new ≡ taken_of Count (load_of self.old) }
         ensures rooms { SameRooms self.old self.new }
+        ensures guest { self.new.guest ≡ self.old.guest }
     {
         let count = get_be(self.guest.buffered(4), 0, 4) as u32;
         self.stage = if count == 0 {
@@ -160,6 +166,7 @@ impl Loading {
         requires stage { self.old.stage ≡ Awaits (Entries size taken) }
         ensures after { load_of self.new ≡ taken_of (Entries size taken) (load_of self.old) }
         ensures rooms { SameRooms self.old self.new }
+        ensures guest { self.new.guest ≡ self.old.guest }
     {
         let count = asked(size - taken);
         let entries = self.guest.buffered(count);
@@ -180,6 +187,7 @@ impl Loading {
         requires stage { self.old.stage ≡ Awaits (Commands select size taken) }
         ensures after { load_of self.new ≡ taken_of (Commands select size taken) (load_of self.old) }
         ensures rooms { SameRooms self.old self.new }
+        ensures guest { self.new.guest ≡ self.old.guest }
     {
         let bytes = asked(size - taken);
         take_commands(self.guest.buffered(bytes), &mut self.script);
@@ -199,7 +207,7 @@ impl Loading {
         requires inside { KeepsInside self.old }
         requires stage { self.old.stage ≡ AtCommand index }
         requires begun { (A.state place.old).begun.ready ≡ true }
-        requires zones { AreZonesOf self.old.guest.memory.top (A.state place.old).begun.zones }
+        requires zones { AreZonesOf self.old.guest.memory.memory.top (A.state place.old).begun.zones }
         requires handed { (A.state place.old).handed ≡ placed_ranges self.old.guest.placements.placed.items }
         ensures steps { StepsTo (MayAnswer A.state A.gives (A.state place.old).begun) Firmware
             (load_of self.old) (load_of self.new) }
@@ -210,6 +218,7 @@ impl Loading {
             (A.state place.old) (A.state place.new) }
         ensures sound { IsSound (load_of self.old) (load_of self.new) (A.state place.old) (A.state place.new) }
         ensures begun { (A.state place.new).begun ≡ (A.state place.old).begun }
+        ensures touches { TouchesOver [] self.old.guest self.new.guest }
     {
         match self.script.get(index as usize) {
             Some(entry) => {

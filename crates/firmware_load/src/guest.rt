@@ -8,7 +8,9 @@ ghost use Rattle.cfg_dma.specs.Reads.{started, descriptor_bytes, selected_read};
 ghost use Rattle.cfg_dma.specs.Writes.{selected_skip};
 ghost use Rattle.cfg_dma.specs.Transfers.{attached};
 ghost use Rattle.load_states.specs.Guarded.{descriptor_at, buffer_at, is_guarded, written_by_other};
+ghost use Rattle.load_states.specs.declared.event.Event.TheVariants.{Other};
 ghost use Rattle.load_states.specs.Steps.{cleared};
+ghost use Rattle.firmware_load.specs.Inside.{TouchesOver};
 
 use cfg_dma::Device;
 use command_acts::Placements;
@@ -66,9 +68,10 @@ impl Guest {
     pub(crate) fn start(&mut self, control: u32, size: u32, address: u64)
         requires idle { self.old.device.flight ≡ None }
         requires room { 0 < self.old.device.spare }
-        ensures after { attached self.new.device self.new.memory
-            ≡ started descriptor_at control size address (attached self.old.device self.old.memory) }
+        ensures after { attached self.new.device self.new.memory.memory
+            ≡ started descriptor_at control size address (attached self.old.device self.old.memory.memory) }
         ensures placements { self.new.placements ≡ self.old.placements }
+        ensures touches { TouchesOver [] self.old self.new }
     {
         let descriptor = descriptor(control, size, address);
         self.memory.copy_in(DESCRIPTOR, &descriptor);
@@ -79,7 +82,7 @@ impl Guest {
 
     /// Looks at the control word: tells whether the transfer is over.
     pub(crate) fn is_over(&self) -> bool
-        ensures { result ≡ (be (bytes_at self.now.memory descriptor_at 4) == 0) }
+        ensures { result ≡ (be (bytes_at self.now.memory.memory descriptor_at 4) == 0) }
     {
         get_be(self.memory.window(DESCRIPTOR, 4), 0, 4) == 0
     }
@@ -87,7 +90,7 @@ impl Guest {
     /// Lends the first bytes of the buffer, at most 4,096.
     pub(crate) fn buffered(&self, count: u32) -> &[u8]
         requires { count ≤ 4096 }
-        ensures bytes { result.now ≡ bytes_at self.now.memory buffer_at count }
+        ensures bytes { result.now ≡ bytes_at self.now.memory.memory buffer_at count }
         ensures len { length result.now ≡ count }
     {
         self.memory.window(BUFFER, count)
@@ -97,9 +100,10 @@ impl Guest {
     pub(crate) fn put_number(&mut self, size: u8, number: u64)
         requires size { IsPointerSize size }
         requires fits { number < 256 ^ size }
-        ensures memory { self.new.memory ≡ with_bytes self.old.memory buffer_at (le_bytes size number) }
+        ensures memory { self.new.memory.memory ≡ with_bytes self.old.memory.memory buffer_at (le_bytes size number) }
         ensures device { self.new.device ≡ self.old.device }
         ensures placements { self.new.placements ≡ self.old.placements }
+        ensures touches { TouchesOver [] self.old self.new }
     {
         let mut bytes = [0; 8];
         put_le(&mut bytes, 0, size as usize, number);
@@ -108,9 +112,10 @@ impl Guest {
 
     /// Another processor writes a byte. Nothing happens where the address is no RAM, or is guarded.
     pub(crate) fn write_by_other(&mut self, addr: u64, byte: u8)
-        ensures memory { self.new.memory ≡ written_by_other addr byte self.old.memory }
+        ensures memory { self.new.memory.memory ≡ written_by_other addr byte self.old.memory.memory }
         ensures device { self.new.device ≡ self.old.device }
         ensures placements { self.new.placements ≡ self.old.placements }
+        ensures touches { TouchesOver (Other addr byte ∷ []) self.old self.new }
     {
         if self.memory.is_ram(addr) && !is_guarded(self.memory.top(), addr) {
             self.memory.write(addr, byte);
@@ -119,9 +124,10 @@ impl Guest {
 
     /// Puts the fill byte into the work range.
     pub(crate) fn clear(&mut self)
-        ensures memory { self.new.memory ≡ cleared self.old.memory }
+        ensures memory { self.new.memory.memory ≡ cleared self.old.memory.memory }
         ensures device { self.new.device ≡ self.old.device }
         ensures placements { self.new.placements ≡ self.old.placements }
+        ensures touches { TouchesOver [] self.old self.new }
     {
         let fill = self.memory.fill();
         self.memory.copy_in(DESCRIPTOR, &[fill; 16]);

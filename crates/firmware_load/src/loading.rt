@@ -1,4 +1,4 @@
-ghost use Rattle.std.specs.Prelude.{◌≡◌, ◌≢◌, ℕ, [], true, None, IfOk};
+ghost use Rattle.std.specs.Prelude.{◌≡◌, ◌≢◌, ℕ, [], ◌∷◌, true, false, None, IfOk};
 ghost use Rattle.vt_bytes.specs.Memory.{IsTop};
 ghost use Rattle.command_acts.specs.Allocators.{AreZonesOf, MayAnswer};
 ghost use Rattle.command_acts.specs.FilesInMemory.{placed_ranges};
@@ -9,7 +9,8 @@ ghost use Rattle.load_states.specs.Loads.{IsBegun};
 ghost use Rattle.load_states.specs.Runs.{NoAnswer, StepsTo, request_of};
 ghost use Rattle.load_states.specs.Steps.{step};
 ghost use Rattle.firmware_load.specs.World.{IsWithoutRoom, IsSound};
-ghost use Rattle.firmware_load.specs.Inside.{load_of, KeepsInside, StaysBegun, SameRooms};
+ghost use Rattle.firmware_load.specs.Inside.{load_of, KeepsInside, StaysBegun, SameRooms, TouchesOver};
+ghost use Rattle.guest_memory.specs.Touched.{is_touched};
 
 use crate::guest::Guest;
 use crate::rooms::{most_transfers, script_len};
@@ -46,6 +47,7 @@ impl Loading {
         ensures begun { IfOk result (λ l. IsBegun items top fill (load_of l)) }
         ensures kept { IfOk result (λ l. IsKept NoAnswer items top fill [] (load_of l)) }
         ensures inside { IfOk result KeepsInside }
+        ensures untouched { IfOk result (λ l. (frame : ℕ) → is_touched l.guest.memory.touched frame ≡ false) }
     {
         let transfers = most_transfers(&items);
         let listed = Vec::with_capacity(alloc, items.all().len())?;
@@ -70,7 +72,7 @@ impl Loading {
     pub(crate) fn step<A: ZoneAlloc>(&mut self, place: &mut A, event: Event)
         requires inside { KeepsInside self.old }
         requires begun { (A.state place.old).begun.ready ≡ true }
-        requires zones { AreZonesOf self.old.guest.memory.top (A.state place.old).begun.zones }
+        requires zones { AreZonesOf self.old.guest.memory.memory.top (A.state place.old).begun.zones }
         requires handed { (A.state place.old).handed ≡ placed_ranges self.old.guest.placements.placed.items }
         ensures inside { KeepsInside self.new }
         ensures begun_so { StaysBegun self.old self.new }
@@ -81,6 +83,7 @@ impl Loading {
         ensures no_room { IsWithoutRoom event (load_of self.old) (load_of self.new) (A.state place.old) (A.state place.new) }
         ensures sound { IsSound (load_of self.old) (load_of self.new) (A.state place.old) (A.state place.new) }
         ensures begun { (A.state place.new).begun ≡ (A.state place.old).begun }
+        ensures touches { TouchesOver (event ∷ []) self.old.guest self.new.guest }
     {
         match event {
             Event::Device(bytes) => self.move_piece(bytes),
@@ -94,6 +97,7 @@ impl Loading {
         requires { KeepsInside self.old }
         ensures steps { load_of self.new ≡ step (Moved bytes) None (load_of self.old) }
         ensures rooms { SameRooms self.old self.new }
+        ensures touches { TouchesOver [] self.old.guest self.new.guest }
     {
         self.guest.device.piece(&mut self.guest.memory, bytes);
     }
@@ -103,6 +107,7 @@ impl Loading {
         requires { KeepsInside self.old }
         ensures steps { load_of self.new ≡ step (Written addr byte) None (load_of self.old) }
         ensures rooms { SameRooms self.old self.new }
+        ensures touches { TouchesOver (Written addr byte ∷ []) self.old.guest self.new.guest }
     {
         self.guest.write_by_other(addr, byte);
     }

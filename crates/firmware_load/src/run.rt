@@ -6,8 +6,8 @@ ghost use Rattle.load_states.specs.Loads.{IsBegun, stage_after, most_closing};
 ghost use Rattle.load_states.specs.Runs.{has_ended, closing_events};
 ghost use Rattle.load_states.specs.LoadState.{LoadState};
 ghost use Rattle.load_states.specs.declared.event.Event.{Event as EventOf};
-ghost use Rattle.firmware_load.specs.World.{state_at, IsLoadOver};
-ghost use Rattle.firmware_load.specs.Inside.{load_of, IsInside, KeepsInside, StaysBegun, IsOnRun, IsTurn, AsksOnTheWay};
+ghost use Rattle.firmware_load.specs.World.{state_at, IsLoadOver, TouchesByPlan};
+ghost use Rattle.firmware_load.specs.Inside.{load_of, IsInside, KeepsInside, StaysBegun, IsOnRun, IsTurn, AsksOnTheWay, TouchesOver, TouchesTaken};
 ghost use Rattle.cfg_directory.specs.declared.item.Item.{Item};
 ghost use Rattle.command_acts.specs.FilesInMemory.{placed_ranges};
 
@@ -26,9 +26,9 @@ impl Loading {
         plan: &mut C,
     ) -> Result<(), LoadFault>
         requires inside { KeepsInside self.old }
-        requires fresh { IsBegun self.old.guest.device.items self.old.guest.memory.top self.old.guest.memory.fill (load_of self.old) }
+        requires fresh { IsBegun self.old.guest.device.items self.old.guest.memory.memory.top self.old.guest.memory.memory.fill (load_of self.old) }
         requires begun { (A.state place.old).begun.ready ≡ true }
-        requires zones { AreZonesOf self.old.guest.memory.top (A.state place.old).begun.zones }
+        requires zones { AreZonesOf self.old.guest.memory.memory.top (A.state place.old).begun.zones }
         requires handed { (A.state place.old).handed ≡ [] }
         ensures inside { KeepsInside self.new }
         ensures loaded { IsLoadOver (MayAnswer A.state A.gives (A.state place.old).begun) (load_of self.old)
@@ -39,6 +39,8 @@ impl Loading {
             × IsAsked self.old.guest.device.items index (A.state place.new).refused }
         ensures sound { ((index : ℕ) → result ≢ Err (LoadFault.NoRoom index)) → (A.state place.new).refusals ≡ (A.state place.old).refusals }
         ensures begun { (A.state place.new).begun ≡ (A.state place.old).begun }
+        ensures touches { TouchesByPlan self.old.guest.memory.memory.top (C.plan plan.old).left (C.plan plan.new).left (A.state place.new).handed
+            self.old.guest.memory.touched self.new.guest.memory.touched }
     {
         self.follow(place, plan);
         self.close(place);
@@ -79,7 +81,7 @@ impl Loading {
     fn follow<A: ZoneAlloc, C: Schedule>(&mut self, place: &mut A, plan: &mut C)
         requires inside { KeepsInside self.old }
         requires begun { (A.state place.old).begun.ready ≡ true }
-        requires zones { AreZonesOf self.old.guest.memory.top (A.state place.old).begun.zones }
+        requires zones { AreZonesOf self.old.guest.memory.memory.top (A.state place.old).begun.zones }
         requires handed { (A.state place.old).handed ≡ placed_ranges self.old.guest.placements.placed.items }
         ensures inside { KeepsInside self.new }
         ensures begun_so { StaysBegun self.old self.new }
@@ -93,6 +95,7 @@ impl Loading {
             → AsksOnTheWay items self.old self.new (A.state place.old) (A.state place.new) }
         ensures handed { (A.state place.new).handed ≡ placed_ranges self.new.guest.placements.placed.items }
         ensures begun { (A.state place.new).begun ≡ (A.state place.old).begun }
+        ensures touches { TouchesTaken (C.plan plan.old).left (C.plan plan.new).left self.old.guest self.new.guest }
     {
         while !self.has_ended() {
             match plan.next() {
@@ -106,7 +109,7 @@ impl Loading {
     fn close<A: ZoneAlloc>(&mut self, place: &mut A)
         requires inside { KeepsInside self.old }
         requires begun { (A.state place.old).begun.ready ≡ true }
-        requires zones { AreZonesOf self.old.guest.memory.top (A.state place.old).begun.zones }
+        requires zones { AreZonesOf self.old.guest.memory.memory.top (A.state place.old).begun.zones }
         requires handed { (A.state place.old).handed ≡ placed_ranges self.old.guest.placements.placed.items }
         ensures inside { KeepsInside self.new }
         ensures begun_so { StaysBegun self.old self.new }
@@ -120,6 +123,7 @@ impl Loading {
             → AsksOnTheWay items self.old self.new (A.state place.old) (A.state place.new) }
         ensures handed { (A.state place.new).handed ≡ placed_ranges self.new.guest.placements.placed.items }
         ensures begun { (A.state place.new).begun ≡ (A.state place.old).begun }
+        ensures touches { TouchesOver [] self.old.guest self.new.guest }
     {
         while !self.has_ended() {
             self.take_turn(place);
@@ -131,7 +135,7 @@ impl Loading {
         requires inside { KeepsInside self.old }
         requires running { has_ended self.old.stage ≡ false }
         requires begun { (A.state place.old).begun.ready ≡ true }
-        requires zones { AreZonesOf self.old.guest.memory.top (A.state place.old).begun.zones }
+        requires zones { AreZonesOf self.old.guest.memory.memory.top (A.state place.old).begun.zones }
         requires handed { (A.state place.old).handed ≡ placed_ranges self.old.guest.placements.placed.items }
         ensures inside { KeepsInside self.new }
         ensures begun_so { StaysBegun self.old self.new }
@@ -140,6 +144,7 @@ impl Loading {
             → AsksOnTheWay items self.old self.new (A.state place.old) (A.state place.new) }
         ensures handed { (A.state place.new).handed ≡ placed_ranges self.new.guest.placements.placed.items }
         ensures begun { (A.state place.new).begun ≡ (A.state place.old).begun }
+        ensures touches { TouchesOver [] self.old.guest self.new.guest }
     {
         self.step(place, Event::Firmware);
         if !self.has_ended() {

@@ -1,4 +1,4 @@
-ghost use Rattle.std.specs.Prelude.{◌≡◌, ◌≢◌, ℕ, List, [], ◌∷◌, ◌++◌, true, None, Ok, Err, IsSome, IfSome, IsSomeAnd, OnOk, OnErr};
+ghost use Rattle.std.specs.Prelude.{◌≡◌, ◌≢◌, ℕ, List, [], ◌∷◌, ◌++◌, true, false, None, Ok, Err, IsSome, IfSome, IsSomeAnd, OnOk, OnErr};
 ghost use Rattle.vt_outside.specs.Stream.{next_count};
 ghost use Rattle.vt_bytes.specs.Memory.{IsTop};
 ghost use Rattle.cfg_directory.specs.declared.item.Item.{Item};
@@ -10,7 +10,9 @@ ghost use Rattle.load_states.specs.Kept.{IsKept};
 ghost use Rattle.load_states.specs.Loads.{IsBegun};
 ghost use Rattle.load_states.specs.LoadState.{memory_of};
 ghost use Rattle.load_states.specs.Runs.{NoAnswer, StepsTo, request_of};
-ghost use Rattle.firmware_load.specs.World.{state_of, IsWithoutRoom, IsSound, IsLoadOver};
+ghost use Rattle.load_states.specs.Touching.{MayTouchOver};
+ghost use Rattle.guest_memory.specs.Touched.{TouchesOnly, is_touched};
+ghost use Rattle.firmware_load.specs.World.{idle_world, state_of, IsWithoutRoom, IsSound, IsLoadOver, TouchesByPlan};
 
 use crate::loading::Loading;
 use crate::schedule::Schedule;
@@ -32,13 +34,13 @@ pub struct World {
 }
 
 impl Model for World {
-    ghost use Rattle.std.specs.Prelude.{Option, IfSome};
-    ghost use Rattle.load_states.specs.LoadState.{LoadState};
-    ghost use Rattle.firmware_load.specs.Inside.{load_in, KeepsInside};
+    ghost use Rattle.std.specs.Prelude.{IfSome};
+    ghost use Rattle.firmware_load.specs.World.{WorldState};
+    ghost use Rattle.firmware_load.specs.Inside.{world_in, KeepsInside};
 
-    ghost Value = { Option LoadState };
+    ghost Value = { WorldState };
 
-    ghost view = { λ w. load_in w.loading };
+    ghost view = { λ w. world_in w.loading };
 
     ghost invariant = { λ w. IfSome w.loading KeepsInside };
 }
@@ -46,7 +48,7 @@ impl Model for World {
 impl World {
     /// Returns a world in which nothing was begun.
     pub fn idle() -> World
-        ensures { result ≡ None }
+        ensures { result ≡ idle_world }
     {
         World { loading: None }
     }
@@ -64,9 +66,10 @@ impl World {
         fill: u8,
     ) -> Result<(), OutOfMemory>
         requires { IsTop top }
-        ensures ok { OnOk result (IsSomeAnd self.new (IsBegun items top fill)) }
-        ensures kept { OnOk result (IsSomeAnd self.new (IsKept NoAnswer items top fill [])) }
-        ensures err { OnErr result (self.new ≡ None) }
+        ensures ok { OnOk result (IsSomeAnd self.new.load (IsBegun items top fill)) }
+        ensures kept { OnOk result (IsSomeAnd self.new.load (IsKept NoAnswer items top fill [])) }
+        ensures untouched { OnOk result ((frame : ℕ) → is_touched self.new.touched frame ≡ false) }
+        ensures err { OnErr result (self.new ≡ idle_world) }
     {
         self.loading = None;
         self.loading = Some(Loading::begin(alloc, items, top, fill)?);
@@ -77,25 +80,30 @@ impl World {
     /// byte. A load was begun; `place` was begun with the zones of this memory, and has handed out the ranges of the files that are
     /// placed, and no others. It is asked for a place once where an Allocate is carried out, and else not at all. It takes no memory.
     ///
-    /// When the load has ended, an event of the firmware has no effect.
+    /// When the load has ended, an event of the firmware has no effect. Each frame that the step touches has an address of the work range, of
+    /// a placed file, or that another processor writes.
     pub fn step<A: ZoneAlloc>(&mut self, place: &mut A, event: Event)
-        requires some { IsSome self.old }
+        requires some { IsSome self.old.load }
         requires begun { (A.state place.old).begun.ready ≡ true }
-        requires zones { IfSome self.old (λ w. AreZonesOf (memory_of w).top (A.state place.old).begun.zones) }
-        requires handed { IfSome self.old (λ w. (A.state place.old).handed ≡ placed_ranges w.placed) }
+        requires zones { IfSome self.old.load (λ w. AreZonesOf (memory_of w).top (A.state place.old).begun.zones) }
+        requires handed { IfSome self.old.load (λ w. (A.state place.old).handed ≡ placed_ranges w.placed) }
 
         // It is the one step of the load, with an answer that the allocator may give.
-        ensures steps { IfSome self.old (λ old. IsSomeAnd self.new (StepsTo (MayAnswer A.state A.gives (A.state place.old).begun) event old)) }
-        ensures kept { IfSome self.old (λ old. IsSomeAnd self.new (λ new. (items : List Item) (top fill : ℕ) (events : List EventOf)
+        ensures steps { IfSome self.old.load (λ old. IsSomeAnd self.new.load (StepsTo (MayAnswer A.state A.gives (A.state place.old).begun) event old)) }
+        ensures kept { IfSome self.old.load (λ old. IsSomeAnd self.new.load (λ new. (items : List Item) (top fill : ℕ) (events : List EventOf)
             → IsKept (MayAnswer A.state A.gives (A.state place.old).begun) items top fill events old
             → IsKept (MayAnswer A.state A.gives (A.state place.old).begun) items top fill (events ++ event ∷ []) new)) }
 
         // What the allocator was asked, where it refused, and what it keeps.
-        ensures handed { IfSome self.new (λ w. (A.state place.new).handed ≡ placed_ranges w.placed) }
-        ensures unasked { IfSome self.old (λ w. request_of event w ≡ None → place.new ≡ place.old) }
-        ensures no_room { IfSome self.old (λ old. IsSomeAnd self.new (λ new. IsWithoutRoom event old new (A.state place.old) (A.state place.new))) }
-        ensures sound { IfSome self.old (λ old. IsSomeAnd self.new (λ new. IsSound old new (A.state place.old) (A.state place.new))) }
+        ensures handed { IfSome self.new.load (λ w. (A.state place.new).handed ≡ placed_ranges w.placed) }
+        ensures unasked { IfSome self.old.load (λ w. request_of event w ≡ None → place.new ≡ place.old) }
+        ensures no_room { IfSome self.old.load (λ old. IsSomeAnd self.new.load (λ new. IsWithoutRoom event old new (A.state place.old) (A.state place.new))) }
+        ensures sound { IfSome self.old.load (λ old. IsSomeAnd self.new.load (λ new. IsSound old new (A.state place.old) (A.state place.new))) }
         ensures begun { (A.state place.new).begun ≡ (A.state place.old).begun }
+
+        // Which frames it touches.
+        ensures touches { IfSome self.old.load (λ old. IsSomeAnd self.new.load (λ new. TouchesOnly
+            (MayTouchOver (memory_of old).top (event ∷ []) (placed_ranges new.placed)) (memory_of old).top self.old.touched self.new.touched)) }
     {
         match &mut self.loading {
             Some(loading) => loading.step(place, event),
@@ -110,28 +118,33 @@ impl World {
     ///
     /// Returns `NoScript` where no file has the script's name, `ScriptLength` where its length is no script's, `Command` at the first
     /// command that is refused, with its first cause, and `NoRoom` at the first one for whose file `place` has no room. No list of
-    /// events changes the answer but through the places that are given.
+    /// events changes the answer but through the places that are given. Each frame that is then touched has an address of the work range, of
+    /// a range that was handed out, or that an event of another processor has written.
     pub fn load<A: ZoneAlloc, C: Schedule>(
         &mut self,
         place: &mut A,
         plan: &mut C,
     ) -> Result<(), LoadFault>
-        requires fresh { IsSomeAnd self.old (λ w. IsBegun w.attached.device.items (memory_of w).top (memory_of w).fill w) }
+        requires fresh { IsSomeAnd self.old.load (λ w. IsBegun w.attached.device.items (memory_of w).top (memory_of w).fill w) }
         requires begun { (A.state place.old).begun.ready ≡ true }
-        requires zones { IfSome self.old (λ w. AreZonesOf (memory_of w).top (A.state place.old).begun.zones) }
+        requires zones { IfSome self.old.load (λ w. AreZonesOf (memory_of w).top (A.state place.old).begun.zones) }
         requires handed { (A.state place.old).handed ≡ [] }
 
         // It is the run over the plan's events that it has taken and, behind their end, over some that end it; and no shorter run has ended.
-        ensures loaded { IfSome self.old (λ old. IsSomeAnd self.new (IsLoadOver (MayAnswer A.state A.gives (A.state place.old).begun) old
+        ensures loaded { IfSome self.old.load (λ old. IsSomeAnd self.new.load (IsLoadOver (MayAnswer A.state A.gives (A.state place.old).begun) old
             (C.plan plan.old).left (C.plan plan.new).left (A.state place.new).handed result)) }
         ensures plan { (C.plan plan.new).events ≡ (C.plan plan.old).events }
 
         // Where the allocator refused, and what it keeps.
         ensures no_room { (index : ℕ) → result ≡ Err (LoadFault.NoRoom index)
             → ((A.state place.new).refusals ≡ next_count (A.state place.old).refusals)
-            × IfSome self.old (λ w. IsAsked w.attached.device.items index (A.state place.new).refused) }
+            × IfSome self.old.load (λ w. IsAsked w.attached.device.items index (A.state place.new).refused) }
         ensures sound { ((index : ℕ) → result ≢ Err (LoadFault.NoRoom index)) → (A.state place.new).refusals ≡ (A.state place.old).refusals }
         ensures begun { (A.state place.new).begun ≡ (A.state place.old).begun }
+
+        // Which frames it has touched, whatever it answers.
+        ensures touches { IfSome self.old.load (λ old. TouchesByPlan (memory_of old).top (C.plan plan.old).left (C.plan plan.new).left
+            (A.state place.new).handed self.old.touched self.new.touched) }
     {
         match &mut self.loading {
             Some(loading) => loading.load(place, plan),
@@ -141,7 +154,7 @@ impl World {
 
     /// Returns how far the world is.
     pub fn state(&self) -> State
-        ensures { result ≡ state_of self.now }
+        ensures { result ≡ state_of self.now.load }
     {
         match &self.loading {
             None => State::Idle,
@@ -151,8 +164,9 @@ impl World {
 
     /// Returns the guest's memory, borrowed. A load was begun.
     pub fn memory(&self) -> &GuestMemory
-        requires { IsSome self.now }
-        ensures { IsSomeAnd self.now (λ w. result.now ≡ memory_of w) }
+        requires { IsSome self.now.load }
+        ensures memory { IsSomeAnd self.now.load (λ w. result.now.memory ≡ memory_of w) }
+        ensures touched { result.now.touched ≡ self.now.touched }
     {
         match &self.loading {
             Some(loading) => &loading.guest.memory,
@@ -162,8 +176,8 @@ impl World {
 
     /// Returns the fw_cfg device, borrowed. A load was begun.
     pub fn device(&self) -> &Device
-        requires { IsSome self.now }
-        ensures { IsSomeAnd self.now (λ w. result.now ≡ w.attached.device) }
+        requires { IsSome self.now.load }
+        ensures { IsSomeAnd self.now.load (λ w. result.now ≡ w.attached.device) }
     {
         match &self.loading {
             Some(loading) => &loading.guest.device,

@@ -1,9 +1,9 @@
 -- A memory as its three lists of bytes: how each of them is read and written.
-use Rattle.std.proofs.Common.{◌≡◌, ℕ, Bool, ◌+◌, ◌-◌, ◌*◌, ◌%◌, if◌then◌else◌, ◌<◌, ◌≤◌, inl, inr, List, [], ◌∷◌, ◌++◌, length, slice_index, take, drop, rules, arith, refl, ap, subst, sym, ◌∙◌}
+use Rattle.std.proofs.Common.{◌≡◌, ℕ, Bool, ◌+◌, ◌-◌, ◌*◌, ◌%◌, if◌then◌else◌, ◌<◌, ◌≤◌, inl, inr, List, [], ◌∷◌, length, slice_index, take, drop, rules, arith, refl, ap, subst, sym, ◌∙◌}
 use Rattle.std.proofs.lemmas.List.{places, same_lists, take_all}
 use Rattle.vt_bytes.specs.Parts.{part, put_at}
 use Rattle.vt_bytes.specs.Memory.{Memory, IsTop, IsRam, IsMemory, high_start, ram_ranges, at, bytes_at, with_bytes, put_in}
-use Rattle.guest_memory.specs.Blocks.{Filled, IsPlaceOf, memory_of, parts_of}
+use Rattle.guest_memory.specs.Store.{Filled, IsPlaceOf, memory_of, parts_of}
 use Rattle.vt_bytes.proofs.Bytes.{bytes_at-window, bytes_at-one}
 use Rattle.std.proofs.lemmas.Bool.{cases_lt, lt-ltb, le-ltb}
 use Rattle.guest_memory.specs.Frames.{frame_start}
@@ -54,16 +54,6 @@ part_before bytes put from size place before within = same_lists _ _ (search (ru
 part_past : (bytes put : List ℕ) (from size place : ℕ) → place + length put ≤ from → from + size ≤ length bytes
     → part (put_at bytes place put) from size ≡ part bytes from size
 part_past bytes put from size place past within = same_lists _ _ (search (rules, places)) (λ k d h. grind (arith, places))
-
--- the items of a `Vec` of n once a part of it from a place on was lent, and the borrower left ws
-abbrev pub left_with : ℕ → List ℕ → ℕ → List ℕ → List ℕ
-left_with n xs place ws =
-    let front = take place xs ++ (ws ++ drop (length ws) (drop place xs)) in
-    take n (front ++ drop (length front) xs)
-
--- they are what was put there, as far as the `Vec` goes
-pub left_is_put : (xs ws : List ℕ) (place n room : ℕ) → n ≡ length xs → place + room ≡ n → left_with n xs place ws ≡ put_at xs place (take room ws)
-left_is_put xs ws place n room size fits = same_lists _ _ (search (rules, places)) (λ k d h. grind (arith, places))
 
 -- bytes of one frame are a part of one list
 part_low : (top fill : ℕ) (low bios high : List ℕ) (m : Memory) (a n : ℕ) → held top fill low bios high ≡ m → length low ≡ 0xA0000
@@ -121,25 +111,25 @@ with_high top fill low bios high bytes a lawful from fits below =
     ap (λ (all : List (List ℕ)). record { top = top; fill = fill; parts = all })
     (ap (λ w. low ∷ bios ∷ put_at high (a - high_start top) w ∷ []) (sym (all_fit (top - a) bytes (omega arith))) ∙ sym put)
 
--- blocks hold a memory
-pub lawful_held : (top : ℕ) (blocks : Filled) → IsTop top → length blocks.bytes ≡ 0x2100000 → IsMemory (memory_of top blocks)
+-- all bytes in a row are a memory
+pub lawful_held : (top : ℕ) (row : Filled) → IsTop top → length row.bytes ≡ 0x2100000 → IsMemory (memory_of top row)
 unfolding parts_of
-lawful_held top blocks lawful size =
+lawful_held top row lawful size =
     let all : top - high_start top ≡ 0x2000000 = omega (arith, lawful.at_least) in
     record {
       top = lawful;
       parts = (
-        length_part blocks.bytes 0 0xA0000 (omega (arith, size)),
-        (length_part blocks.bytes 0xE0000 0x20000 (omega (arith, size)), (length_part blocks.bytes 0x100000 0x2000000 (omega (arith, size)) ∙ sym all, tt)),
+        length_part row.bytes 0 0xA0000 (omega (arith, size)),
+        (length_part row.bytes 0xE0000 0x20000 (omega (arith, size)), (length_part row.bytes 0x100000 0x2000000 (omega (arith, size)) ∙ sym all, tt)),
       );
     }
 
--- bytes of one frame are a part of what blocks hold
-pub part_held : (top : ℕ) (blocks : Filled) (m : Memory) (a n place : ℕ) → memory_of top blocks ≡ m → IsTop top → length blocks.bytes ≡ 0x2100000
-    → IsRam top a → IsPlaceOf top a place → a % 4096 + n ≤ 4096 → part blocks.bytes place n ≡ bytes_at m a n
+-- bytes of one frame are a part of all bytes in a row
+pub part_held : (top : ℕ) (row : Filled) (m : Memory) (a n place : ℕ) → memory_of top row ≡ m → IsTop top → length row.bytes ≡ 0x2100000
+    → IsRam top a → IsPlaceOf top a place → a % 4096 + n ≤ 4096 → part row.bytes place n ≡ bytes_at m a n
 unfolding parts_of
-part_held top blocks m a n place is lawful size ram at frame =
-    let bytes = blocks.bytes in
+part_held top row m a n place is lawful size ram at frame =
+    let bytes = row.bytes in
     let low = part bytes 0 0xA0000 in
     let bios = part bytes 0xE0000 0x20000 in
     let high = part bytes 0x100000 0x2000000 in
@@ -147,12 +137,12 @@ part_held top blocks m a n place is lawful size ram at frame =
       | inl here ↦
           let same : 0 + a ≡ place = omega (arith, at.low (omega (arith, here.1))) in
           ap (λ p. part bytes p n) (sym same) ∙ sym (part_within bytes 0 0xA0000 a n (omega (arith, here.1)))
-          ∙ part_low top blocks.fill low bios high m a n is (length_part bytes 0 0xA0000 (omega (arith, size))) here.1 frame
+          ∙ part_low top row.fill low bios high m a n is (length_part bytes 0 0xA0000 (omega (arith, size))) here.1 frame
       | inr later ↦ elim later as (λ _. part bytes place n ≡ bytes_at m a n) [
         | inl here ↦
             let same : 0xE0000 + (a - 0xE0000) ≡ place = omega (arith, here.0, at.low here.1) in
             ap (λ p. part bytes p n) (sym same) ∙ sym (part_within bytes 0xE0000 0x20000 (a - 0xE0000) n (omega (arith, here.0, here.1)))
-            ∙ part_bios top blocks.fill low bios high m a n is (length_part bytes 0xE0000 0x20000 (omega (arith, size))) here.0 here.1 frame
+            ∙ part_bios top row.fill low bios high m a n is (length_part bytes 0xE0000 0x20000 (omega (arith, size))) here.0 here.1 frame
         | inr last ↦ elim last as (λ _. part bytes place n ≡ bytes_at m a n) [
           | inl here ↦
               let past : 0x100000 ≤ a = omega (arith, here.0, lawful.at_least) in
@@ -160,7 +150,7 @@ part_held top blocks m a n place is lawful size ram at frame =
               let from : a - high_start top + high_start top ≡ a = omega (arith, here.0) in
               ap (λ p. part bytes p n) (sym same)
               ∙ sym (part_within bytes 0x100000 0x2000000 (a - high_start top) n (omega (arith, here.0, here.1, lawful.whole, lawful.at_least)))
-              ∙ part_high top blocks.fill low bios high m a n (a - high_start top) is lawful (length_part bytes 0x100000 0x2000000 (omega (arith, size))) from
+              ∙ part_high top row.fill low bios high m a n (a - high_start top) is lawful (length_part bytes 0x100000 0x2000000 (omega (arith, size))) from
               here.1 frame
           | inr none ↦ absurd none
         ]
@@ -174,86 +164,86 @@ same_held top fill low other_low bios other_bios high other_high is_low is_bios 
     ap (λ all. held top fill all bios high) is_low ∙ ap (λ all. held top fill other_low all high) is_bios
     ∙ ap (λ all. held top fill other_low other_bios all) is_high
 
--- what blocks hold once bytes were put into one of them
-pub put_held : (top : ℕ) (blocks : Filled) (m : Memory) (a place : ℕ) (bytes : List ℕ) → memory_of top blocks ≡ m → IsTop top
-    → length blocks.bytes ≡ 0x2100000 → IsRam top a → IsPlaceOf top a place → a % 65536 + length bytes ≤ 65536
-    → memory_of top (record blocks { bytes = put_at blocks.bytes place bytes }) ≡ with_bytes m a bytes
+-- what all bytes in a row are once others were put among them
+pub put_held : (top : ℕ) (row : Filled) (m : Memory) (a place : ℕ) (bytes : List ℕ) → memory_of top row ≡ m → IsTop top
+    → length row.bytes ≡ 0x2100000 → IsRam top a → IsPlaceOf top a place → a % 4096 + length bytes ≤ 4096
+    → memory_of top (record row { bytes = put_at row.bytes place bytes }) ≡ with_bytes m a bytes
 unfolding parts_of
-put_held top blocks m a place bytes is lawful size ram at fits =
-    let all = blocks.bytes in
+put_held top row m a place bytes is lawful size ram at fits =
+    let all = row.bytes in
     let low = part all 0 0xA0000 in
     let bios = part all 0xE0000 0x20000 in
     let high = part all 0x100000 0x2000000 in
-    elim ram as (λ _. memory_of top (record blocks { bytes = put_at all place bytes }) ≡ with_bytes m a bytes) [
+    elim ram as (λ _. memory_of top (record row { bytes = put_at all place bytes }) ≡ with_bytes m a bytes) [
       | inl here ↦
           let same : place - 0 ≡ a = omega (arith, at.low (omega (arith, here.1))) in
-          same_held top blocks.fill _ (put_at low a bytes) _ bios _ high
+          same_held top row.fill _ (put_at low a bytes) _ bios _ high
           (part_put all bytes 0 0xA0000 place (omega arith) (omega (arith, same, here.1)) (omega (arith, size)) ∙ ap (λ p. put_at low p bytes) same)
           (part_past all bytes 0xE0000 0x20000 place (omega (arith, same, here.1)) (omega (arith, size)))
           (part_past all bytes 0x100000 0x2000000 place (omega (arith, same, here.1)) (omega (arith, size)))
-          ∙ with_low top blocks.fill low bios high bytes a (omega (arith, here.1)) here.1 ∙ ap (λ other. with_bytes other a bytes) is
-      | inr later ↦ elim later as (λ _. memory_of top (record blocks { bytes = put_at all place bytes }) ≡ with_bytes m a bytes) [
+          ∙ with_low top row.fill low bios high bytes a (omega (arith, here.1)) here.1 ∙ ap (λ other. with_bytes other a bytes) is
+      | inr later ↦ elim later as (λ _. memory_of top (record row { bytes = put_at all place bytes }) ≡ with_bytes m a bytes) [
         | inl here ↦
             let same : place - 0xE0000 ≡ a - 0xE0000 = omega (arith, at.low here.1) in
             let at_place : place ≡ a = at.low here.1 in
-            same_held top blocks.fill _ low _ (put_at bios (a - 0xE0000) bytes) _ high
+            same_held top row.fill _ low _ (put_at bios (a - 0xE0000) bytes) _ high
             (part_before all bytes 0 0xA0000 place (omega (arith, at_place, here.0)) (omega (arith, at_place, here.1, size)))
             (part_put all bytes 0xE0000 0x20000 place (omega (arith, at_place, here.0)) (omega (arith, at_place, here.1)) (omega (arith, size))
             ∙ ap (λ p. put_at bios p bytes) same)
             (part_past all bytes 0x100000 0x2000000 place (omega (arith, at_place, here.1)) (omega (arith, size)))
-            ∙ with_bios top blocks.fill low bios high bytes a here.0 (omega (arith, here.1)) here.1 ∙ ap (λ other. with_bytes other a bytes) is
-        | inr last ↦ elim last as (λ _. memory_of top (record blocks { bytes = put_at all place bytes }) ≡ with_bytes m a bytes) [
+            ∙ with_bios top row.fill low bios high bytes a here.0 (omega (arith, here.1)) here.1 ∙ ap (λ other. with_bytes other a bytes) is
+        | inr last ↦ elim last as (λ _. memory_of top (record row { bytes = put_at all place bytes }) ≡ with_bytes m a bytes) [
           | inl here ↦
               let past : 0x100000 ≤ a = omega (arith, here.0, lawful.at_least) in
               let at_place : place + high_start top ≡ a + 0x100000 = at.high past in
               let same : place - 0x100000 ≡ a - high_start top = omega (arith, at_place, here.0) in
               let ends : a + length bytes ≤ top = omega (arith, here.1, lawful.whole, fits) in
-              same_held top blocks.fill _ low _ bios _ (put_at high (a - high_start top) bytes)
+              same_held top row.fill _ low _ bios _ (put_at high (a - high_start top) bytes)
               (part_before all bytes 0 0xA0000 place (omega (arith, at_place, here.0)) (omega (arith, at_place, here.0, ends, size)))
               (part_before all bytes 0xE0000 0x20000 place (omega (arith, at_place, here.0)) (omega (arith, at_place, here.0, ends, size)))
               (part_put all bytes 0x100000 0x2000000 place (omega (arith, at_place, here.0)) (omega (arith, at_place, here.0, ends)) (omega (arith, size))
               ∙ ap (λ p. put_at high p bytes) same)
-              ∙ with_high top blocks.fill low bios high bytes a lawful here.0 ends here.1 ∙ ap (λ other. with_bytes other a bytes) is
+              ∙ with_high top row.fill low bios high bytes a lawful here.0 ends here.1 ∙ ap (λ other. with_bytes other a bytes) is
           | inr none ↦ absurd none
         ]
       ]
     ]
 
--- a byte of RAM is one that blocks hold
-pub at_held : (top : ℕ) (blocks : Filled) (a place : ℕ) → IsTop top → length blocks.bytes ≡ 0x2100000 → IsRam top a → IsPlaceOf top a place
-    → at (memory_of top blocks) a ≡ slice_index blocks.bytes place
-at_held top blocks a place lawful size ram is_place =
-    let one = part_held top blocks (memory_of top blocks) a 1 place refl lawful size ram is_place (omega arith) in
-    sym (ap (λ bytes. slice_index bytes 0) (bytes_at-one (memory_of top blocks) a)) ∙ sym (ap (λ bytes. slice_index bytes 0) one)
-    ∙ part_byte blocks.bytes place 1 (omega arith)
+-- a byte of RAM is one of all bytes in a row
+pub at_held : (top : ℕ) (row : Filled) (a place : ℕ) → IsTop top → length row.bytes ≡ 0x2100000 → IsRam top a → IsPlaceOf top a place
+    → at (memory_of top row) a ≡ slice_index row.bytes place
+at_held top row a place lawful size ram is_place =
+    let one = part_held top row (memory_of top row) a 1 place refl lawful size ram is_place (omega arith) in
+    sym (ap (λ bytes. slice_index bytes 0) (bytes_at-one (memory_of top row) a)) ∙ sym (ap (λ bytes. slice_index bytes 0) one)
+    ∙ part_byte row.bytes place 1 (omega arith)
 
--- a place is one that blocks have, and as far from the end of its block as its address
+-- a place is one of all bytes, and as far from the end of its frame as its address
 pub place_within : (top a place : ℕ) → IsTop top → IsRam top a → IsPlaceOf top a place → place < 0x2100000
 place_within top a place lawful ram is = elim (cases_lt a 0x100000) as (λ _. place < 0x2100000) [
   | inl low ↦ omega (arith, is.low low)
   | inr past ↦ omega (arith, is.high past, in_high top a lawful ram past)
 ]
 
-pub same_room : (top a place : ℕ) → IsTop top → IsRam top a → IsPlaceOf top a place → place % 65536 ≡ a % 65536
-same_room top a place lawful ram is = elim (cases_lt a 0x100000) as (λ _. place % 65536 ≡ a % 65536) [
-  | inl low ↦ ap (λ p. p % 65536) (is.low low)
+pub same_room : (top a place : ℕ) → IsTop top → IsRam top a → IsPlaceOf top a place → place % 4096 ≡ a % 4096
+same_room top a place lawful ram is = elim (cases_lt a 0x100000) as (λ _. place % 4096 ≡ a % 4096) [
+  | inl low ↦ ap (λ p. p % 4096) (is.low low)
   | inr past ↦ omega (arith, is.high past, lawful.whole, lawful.at_least)
 ]
 
--- what holds of each byte of blocks holds of the one at each address of RAM
-pub each_held : (P : ℕ → Type 0) (top : ℕ) (blocks : Filled) → IsTop top → length blocks.bytes ≡ 0x2100000
-    → ((place : ℕ) → place < 0x2100000 → P (slice_index blocks.bytes place)) → (a : ℕ) → IsRam top a → P (at (memory_of top blocks) a)
-each_held P top blocks lawful size each a ram = elim (cases_lt a 0x100000) as (λ _. P (at (memory_of top blocks) a)) [
+-- what holds of each of all bytes in a row holds of the one at each address of RAM
+pub each_held : (P : ℕ → Type 0) (top : ℕ) (row : Filled) → IsTop top → length row.bytes ≡ 0x2100000
+    → ((place : ℕ) → place < 0x2100000 → P (slice_index row.bytes place)) → (a : ℕ) → IsRam top a → P (at (memory_of top row) a)
+each_held P top row lawful size each a ram = elim (cases_lt a 0x100000) as (λ _. P (at (memory_of top row) a)) [
   | inl low ↦
       let is : IsPlaceOf top a a = record { low = λ _. refl; high = λ past. absurd (omega arith) } in
-      subst P (sym (at_held top blocks a a lawful size ram is)) (each a (place_within top a a lawful ram is))
+      subst P (sym (at_held top row a a lawful size ram is)) (each a (place_within top a a lawful ram is))
   | inr past ↦
       let place = a - high_start top + 0x100000 in
       let is : IsPlaceOf top a place = record { low = λ low. absurd (omega arith); high = λ _. omega (arith, in_high top a lawful ram past) } in
-      subst P (sym (at_held top blocks a place lawful size ram is)) (each place (place_within top a place lawful ram is))
+      subst P (sym (at_held top row a place lawful size ram is)) (each place (place_within top a place lawful ram is))
 ]
 
--- where blocks have the bytes of a frame
+-- where all bytes in a row have those of a frame
 pub frame_place : (top frame i : ℕ) → IsTop top → i < 4096 → IsPlaceOf top (frame_start top frame + i) (frame * 4096 + i)
 frame_place top frame i lawful within = elim (cases_lt frame 256) as (λ _. IsPlaceOf top (frame_start top frame + i) (frame * 4096 + i)) [
   | inl low ↦

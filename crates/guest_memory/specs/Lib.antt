@@ -1,7 +1,9 @@
-pub mod Blocks
+pub mod Store
+pub mod StoreLends
 pub mod Bytes
 pub mod Frames
 pub mod RamRange
+pub mod Touched
 pub use Rattle.vt_bytes.specs.Numbers
 pub use Rattle.vt_bytes.specs.View
 pub use Rattle.vt_bytes.specs.Memory

@@ -2,6 +2,7 @@ ghost use Rattle.std.specs.Prelude.{◌≡◌, ◌+◌, ◌%◌, ◌<◌, ◌≤
 ghost use Rattle.vt_bytes.specs.Numbers.{byte_sum};
 ghost use Rattle.vt_bytes.specs.Memory.{IsRam, IsRamRange, IsMemory, bytes_at, with_bytes};
 ghost use Rattle.guest_memory.specs.RamRange.{is_ram_range, LieInARange};
+ghost use Rattle.guest_memory.specs.Touched.{touched_at};
 
 use crate::memory::{FRAME_BYTES, GuestMemory, ram_ranges};
 use vt_bytes::{AddressRange, byte_sum};
@@ -10,16 +11,16 @@ impl GuestMemory {
     /// Tells whether each of the `len` bytes from the guest address `address` on is RAM. Where `len` is 0 it is true, whatever
     /// `address` is.
     pub fn is_ram_range(&self, address: u64, len: u32) -> bool
-        ensures value { result ≡ is_ram_range self.now.top address len }
-        ensures ram { IsTrue result ↔ IsRamRange self.now.top address len }
+        ensures value { result ≡ is_ram_range self.now.memory.top address len }
+        ensures ram { IsTrue result ↔ IsRamRange self.now.memory.top address len }
     {
         len == 0 || self.lie_in_a_range(address, len)
     }
 
     // Whether so many bytes from an address on lie in a range of RAM.
     fn lie_in_a_range(&self, address: u64, len: u32) -> bool
-        ensures range { IsTrue result ↔ LieInARange self.now.top address len }
-        ensures lawful { IsMemory self.now }
+        ensures range { IsTrue result ↔ LieInARange self.now.memory.top address len }
+        ensures lawful { IsMemory self.now.memory }
     {
         let [low, bios, high] = ram_ranges(self.top());
         is_within(low, address, len)
@@ -30,9 +31,10 @@ impl GuestMemory {
     /// Writes `bytes` at the guest address `address`. Each of those addresses must be RAM, and each other byte stays. Where
     /// `bytes` is empty, `address` may be any number and nothing changes.
     pub fn copy_in(&mut self, address: u64, bytes: &[u8])
-        requires { IsRamRange self.old.top address (length bytes.now) }
-        ensures after { self.new ≡ with_bytes self.old address bytes.now }
-        ensures lawful { IsMemory self.old }
+        requires { IsRamRange self.old.memory.top address (length bytes.now) }
+        ensures after { self.new.memory ≡ with_bytes self.old.memory address bytes.now }
+        ensures touched { self.new.touched ≡ touched_at self.old.memory.top address (length bytes.now) self.old.touched }
+        ensures lawful { IsMemory self.old.memory }
     {
         // That a memory is lawful is said by its top's call.
         let _top = self.top();
@@ -45,8 +47,8 @@ impl GuestMemory {
     /// Returns the sum, modulo 256, of the `len` bytes from the guest address `address` on. Each of those addresses must be
     /// RAM.
     pub fn sum_range(&self, address: u64, len: u32) -> u8
-        requires { IsRamRange self.now.top address len }
-        ensures { result ≡ byte_sum (bytes_at self.now address len) }
+        requires { IsRamRange self.now.memory.top address len }
+        ensures { result ≡ byte_sum (bytes_at self.now.memory address len) }
     {
         // That a memory is lawful is said by its top's call.
         let _top = self.top();
@@ -64,8 +66,8 @@ impl GuestMemory {
     /// Reads as many bytes as `bytes` has from the guest address `address` on into `bytes`. Each of those addresses must be RAM.
     /// Where `bytes` is empty, `address` may be any number.
     pub fn copy_out(&self, address: u64, bytes: &mut [u8])
-        requires { IsRamRange self.now.top address (length bytes.old) }
-        ensures { bytes.new ≡ bytes_at self.now address (length bytes.old) }
+        requires { IsRamRange self.now.memory.top address (length bytes.old) }
+        ensures { bytes.new ≡ bytes_at self.now.memory address (length bytes.old) }
     {
         // That a memory is lawful is said by its top's call.
         let _top = self.top();
@@ -78,8 +80,9 @@ impl GuestMemory {
     // Writes as many of `bytes` as the frame of an address has room for, and returns how many.
     fn put_in_frame(&mut self, address: u64, bytes: &[u8]) -> usize
         requires some { 0 < length bytes.now }
-        requires ram { IsRam self.old.top address }
-        ensures after { self.new ≡ with_bytes self.old address (take result bytes.now) }
+        requires ram { IsRam self.old.memory.top address }
+        ensures after { self.new.memory ≡ with_bytes self.old.memory address (take result bytes.now) }
+        ensures touched { self.new.touched ≡ touched_at self.old.memory.top address result self.old.touched }
         ensures some { 0 < result }
         ensures within { result ≤ length bytes.now }
     {
@@ -92,8 +95,8 @@ impl GuestMemory {
     // Reads the bytes from an address on into the front of `bytes`, as many as fit and as its frame has, and returns how many.
     fn get_from_frame(&self, address: u64, bytes: &mut [u8]) -> usize
         requires some { 0 < length bytes.old }
-        requires ram { IsRam self.now.top address }
-        ensures front { take result bytes.new ≡ bytes_at self.now address result }
+        requires ram { IsRam self.now.memory.top address }
+        ensures front { take result bytes.new ≡ bytes_at self.now.memory address result }
         ensures some { 0 < result }
         ensures within { result ≤ length bytes.old }
     {
@@ -106,8 +109,8 @@ impl GuestMemory {
     /// more than `len` of them, which must be at least 1.
     pub fn part_in_frame(&self, address: u64, len: usize) -> &[u8]
         requires some { 0 < len }
-        requires ram { IsRam self.now.top address }
-        ensures value { result.now ≡ bytes_at self.now address (length result.now) }
+        requires ram { IsRam self.now.memory.top address }
+        ensures value { result.now ≡ bytes_at self.now.memory address (length result.now) }
         ensures some { 0 < length result.now }
         ensures within { length result.now ≤ len }
     {

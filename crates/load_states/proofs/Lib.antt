@@ -7,6 +7,7 @@ pub mod Opening
 pub mod OtherEvents
 pub mod Counting
 pub mod CanReads
+pub mod Touching
 pub mod Taken
 pub mod Known
 pub mod DeviceEvents

@@ -5,3 +5,4 @@ pub mod Runs
 pub mod Moves
 pub mod Kept
 pub mod Loads
+pub mod Touching

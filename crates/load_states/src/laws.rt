@@ -2,12 +2,15 @@
 
 ghost use Rattle.std.specs.Prelude.{ℕ, List, [], ◌∷◌, ◌++◌};
 ghost use Rattle.cfg_directory.specs.declared.item.Item.{Item};
+ghost use Rattle.cfg_dma.specs.Touching.{MayTouch};
 ghost use Rattle.command_acts.specs.Allocators.{AreLawful};
+ghost use Rattle.command_acts.specs.FilesInMemory.{placed_ranges};
 ghost use Rattle.load_states.specs.declared.event.Event.{Event};
 ghost use Rattle.load_states.specs.Kept.{IsKept};
 ghost use Rattle.load_states.specs.Loads.{IsBegun};
 ghost use Rattle.load_states.specs.LoadState.{LoadState};
 ghost use Rattle.load_states.specs.Runs.{NoAnswer, StepsTo};
+ghost use Rattle.load_states.specs.Touching.{IsOwn};
 
 /// Answers of allocators. The laws hold of any.
 pub trait Answering {
@@ -34,4 +37,10 @@ pub fn no_answer_is_any<A: Answering>()
 pub fn a_step_keeps<A: Answering>()
     ensures { (items : List Item) (top fill : ℕ) (events : List Event) (event : Event) (w next : LoadState) → AreLawful A.may top
         → IsKept A.may items top fill events w → StepsTo A.may event w next → IsKept A.may items top fill (events ++ event ∷ []) next }
+{}
+
+/// States that the transfer in flight, if there is one, touches no addresses but those of the work range and of placed files.
+pub fn a_transfer_touches_what_is_its_own<A: Answering>()
+    ensures { (items : List Item) (top fill : ℕ) (events : List Event) (w : LoadState) (address : ℕ) → IsKept A.may items top fill events w
+        → MayTouch w.attached.device.flight address → IsOwn (placed_ranges w.placed) address }
 {}

@@ -3,8 +3,9 @@
 //!
 //! `Event` is one step of the firmware, the device or another processor, `Stage` is how far the firmware is, and `Reading` is what it reads
 //! by one transfer. The definitions stand in `specs/`: the places that the firmware works in (`Guarded`), the state of a load (`LoadState`),
-//! one step for one event (`Steps`), whole runs (`Runs`), the transfers of a load (`Moves`), what a load keeps over every event (`Kept`), and
-//! what a whole load leaves (`Loads`). The laws in `laws` say that a load that is begun keeps that, and that each step does.
+//! one step for one event (`Steps`), whole runs (`Runs`), the transfers of a load (`Moves`), what a load keeps over every event (`Kept`),
+//! what a whole load leaves (`Loads`), and which addresses a load touches (`Touching`). The laws in `laws` say that a load that is begun
+//! keeps what it has to, that each step does, and that a transfer in flight touches what is the load's own.
 #![tactic(auto)]
 
 mod event;

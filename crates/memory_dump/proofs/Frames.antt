@@ -1,6 +1,6 @@
 -- The lines of frames, each of 256 rows, frame by frame.
-use Rattle.std.proofs.Common.{◌≡◌, ◌==◌, ℕ, zero, suc, ◌+◌, ◌*◌, ◌-◌, ◌/◌, ◌<◌, Bool, true, false, not, List, [], ◌++◌, get_or, refl, ap, sym, subst, ◌∙◌, arith, add-zero}
-use Rattle.std.proofs.lemmas.Bool.{and_parts, and_from, eq-eqb, not-false}
+use Rattle.std.proofs.Common.{◌≡◌, ◌==◌, ℕ, zero, suc, ◌+◌, ◌*◌, ◌-◌, ◌/◌, ◌<◌, true, List, [], ◌++◌, get_or, refl, ap, sym, subst, ◌∙◌, arith, add-zero}
+use Rattle.std.proofs.lemmas.Bool.{and_parts, and_from, eq-eqb}
 use Rattle.std.proofs.lemmas.List.Folds.{list_all-append}
 use Rattle.std.specs.List.{flat_map, list_all, range_with_len}
 use Rattle.vt_bytes.specs.declared.memory.AddressRange.{AddressRange}
@@ -87,16 +87,8 @@ pub frame_passed : (before now : SinkSeen) (m : Memory) (start k : ℕ) → Took
 frame_passed before now m start k so_far none =
     frame_took before now now m start k so_far (subst (λ t. Took t now now) (sym none) (took_nothing now))
 
--- a frame whose bytes were compared with the fill byte, and are all it, has no lines
-pub frame_filled : (m : Memory) (address fill : ℕ) (frame : List ℕ) (filled : Bool) → frame ≡ bytes_at m address 4096 → fill ≡ m.fill
-    → filled ≡ list_all (λ byte. byte == fill) frame → not filled ≡ false → rows_text m address 256 ≡ []
-frame_filled m address fill frame filled read same test none_other =
-    let all : filled ≡ true = not-false filled none_other in
-    let tested : list_all (λ byte. byte == m.fill) (bytes_at m address 4096) ≡ true = rw (← read, ← same) (sym test ∙ all) in
-    rows_text-filled m address 256 tested
-
 -- bytes of a memory each of which is the fill byte
-all_fill : (m : Memory) (a n : ℕ) → ((i : ℕ) → i < n → at m (a + i) ≡ m.fill) → list_all (λ byte. byte == m.fill) (bytes_at m a n) ≡ true
+pub all_fill : (m : Memory) (a n : ℕ) → ((i : ℕ) → i < n → at m (a + i) ≡ m.fill) → list_all (λ byte. byte == m.fill) (bytes_at m a n) ≡ true
 unfolding bytes_at
 all_fill m a zero holds = refl
 all_fill m a (suc n) holds =

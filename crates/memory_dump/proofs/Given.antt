@@ -4,6 +4,7 @@ use Rattle.std.specs.Prelude.{IsErrAnd}
 use Rattle.vt_bytes.specs.Memory.{Memory, IsMemory, IsRam, at}
 use Rattle.memory_dump.specs.Dump.{dump}
 use Rattle.guest_memory.specs.Bytes.{HoldsBytes}
+use Rattle.guest_memory.specs.Touched.{HeldMemory}
 use Rattle.memory_dump.specs.Reading.{Gives, behind_so, header_of, read_so}
 use Rattle.memory_dump.specs.declared.header.Header.{Header}
 use Rattle.memory_dump.specs.declared.fault.DumpFault.{DumpFault}
@@ -12,7 +13,7 @@ use Rattle.memory_dump.proofs.PutRows.{is_blank}
 use Rattle.memory_dump.proofs.ReadAgain.{text_read}
 use Rattle.memory_dump.proofs.Said.{read-header}
 
-gives_fault : (fault : DumpFault) (read : Result Memory DumpFault) → read ≡ Err fault → Gives {T = Memory} (λ m. m) (Err fault) read
+gives_fault : (fault : DumpFault) (read : Result Memory DumpFault) → read ≡ Err fault → Gives {T = HeldMemory} (λ held. held.memory) (Err fault) read
 gives_fault BadHeader read is = is
 gives_fault (BadLine number) read is = is
 gives_fault (OutOfOrder number) read is = is
@@ -22,14 +23,14 @@ gives_fault Truncated read is = is
 gives_fault OutOfMemory read is = tt
 
 -- a fault that is handed on is what reading gives
-pub handed : (result : Result Memory DumpFault) (read : Result Memory DumpFault) (fault : DumpFault) → IsErrAnd result (λ e. e ≡ fault)
-    → read ≡ Err fault → Gives (λ m. m) result read
+pub handed : (result : Result HeldMemory DumpFault) (read : Result Memory DumpFault) (fault : DumpFault) → IsErrAnd result (λ e. e ≡ fault)
+    → read ≡ Err fault → Gives (λ held. held.memory) result read
 handed (Ok m) read fault is same = absurd is
 handed (Err e) read fault is same = gives_fault e read (same ∙ ap (λ (f : DumpFault). Err f) (sym is))
 
 -- and comes of no text
-pub no_text : (result : Result Memory DumpFault) (bytes : List ℕ) (fault : DumpFault) (m : Memory) → IsMemory m → HoldsBytes m → dump m ≡ bytes
-    → read_so bytes ≡ Err fault → Gives (λ n. n) result (Ok m)
+pub no_text : (result : Result HeldMemory DumpFault) (bytes : List ℕ) (fault : DumpFault) (m : Memory) → IsMemory m → HoldsBytes m → dump m ≡ bytes
+    → read_so bytes ≡ Err fault → Gives (λ held. held.memory) result (Ok m)
 no_text result bytes fault m lawful holds is same =
     let both : Ok m ≡ Err fault = sym (text_read bytes m lawful holds is) ∙ same in
     absurd (cc)

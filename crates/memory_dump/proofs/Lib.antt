@@ -18,3 +18,4 @@ pub mod Fronts
 pub mod Given
 pub mod Faults
 pub mod FeedsOfDump
+pub mod FewLines

@@ -12,7 +12,7 @@ use Rattle.vt_outside.specs.Stream.{SinkSeen, Took}
 use Rattle.vt_outside.proofs.Taken.{took_nothing}
 
 -- a range of numbers in two parts
-range_with_len-split : (a n d : ℕ) → range_with_len a (n + d) ≡ range_with_len a n ++ range_with_len (a + n) d
+pub range_with_len-split : (a n d : ℕ) → range_with_len a (n + d) ≡ range_with_len a n ++ range_with_len (a + n) d
 range_with_len-split a zero d =
     let none : 0 + d ≡ d = omega arith in
     let here : a ≡ a + 0 = omega arith in

@@ -19,13 +19,13 @@ const LAST: usize = 4;
 pub fn read_dump(alloc: Global, bytes: &[u8]) -> Result<GuestMemory, DumpFault>
     requires { length bytes.now < 2 ^ 32 }
     // What is read is a memory whose text the bytes are.
-    ensures found { IfOk result (λ memory. dump memory ≡ bytes.now) }
-    ensures lawful { IfOk result IsMemory }
-    ensures holds { IfOk result HoldsBytes }
+    ensures found { IfOk result (λ held. dump held.memory ≡ bytes.now) }
+    ensures lawful { IfOk result (λ held. IsMemory held.memory) }
+    ensures holds { IfOk result (λ held. HoldsBytes held.memory) }
     // A memory whose text the bytes are is read, unless memory runs out.
-    ensures only { (m : Memory) → IsMemory m → HoldsBytes m → dump m ≡ bytes.now → Gives (λ read. read) result (Ok m) }
+    ensures only { (m : Memory) → IsMemory m → HoldsBytes m → dump m ≡ bytes.now → Gives (λ held. held.memory) result (Ok m) }
     // Which fault it is.
-    ensures exact { Gives (λ read. read) result (read_so bytes.now) }
+    ensures exact { Gives (λ held. held.memory) result (read_so bytes.now) }
 {
     let header = read_header(bytes)?;
     let mut memory = GuestMemory::begin(alloc, header.top, header.fill)?;
@@ -51,8 +51,8 @@ fn read_header(bytes: &[u8]) -> Result<Header, DumpFault>
 // Puts the rows of the lines behind the first one in a memory, up to the last line.
 fn read_rows(memory: &mut GuestMemory, text: &[u8]) -> Result<(), DumpFault>
     requires { length text.now + 3 < 2 ^ 32 }
-    ensures ok { OnOk result (behind_so memory.old 2 0 text.now ≡ Ok memory.new) }
-    ensures err { IfErr result (λ fault. behind_so memory.old 2 0 text.now ≡ Err fault) }
+    ensures ok { OnOk result (behind_so memory.old.memory 2 0 text.now ≡ Ok memory.new.memory) }
+    ensures err { IfErr result (λ fault. behind_so memory.old.memory 2 0 text.now ≡ Err fault) }
 {
     let mut rest = text;
     let mut number = 2;
@@ -69,9 +69,9 @@ fn read_rows(memory: &mut GuestMemory, text: &[u8]) -> Result<(), DumpFault>
 // Puts the row of the line of this number in a memory, or says why it isn't taken. Rows are awaited from the address `from` on.
 fn put_row(memory: &mut GuestMemory, row: &Row, number: u32, from: u64) -> Result<(), DumpFault>
     requires { row.now.address % 16 ≡ 0 }
-    ensures taken { OnOk result (fault_of_row memory.old number from row.now ≡ None) }
-    ensures after { OnOk result (memory.new ≡ with_bytes memory.old row.now.address row.now.bytes) }
-    ensures err { IfErr result (λ fault. fault_of_row memory.old number from row.now ≡ Some fault) }
+    ensures taken { OnOk result (fault_of_row memory.old.memory number from row.now ≡ None) }
+    ensures after { OnOk result (memory.new.memory ≡ with_bytes memory.old.memory row.now.address row.now.bytes) }
+    ensures err { IfErr result (λ fault. fault_of_row memory.old.memory number from row.now ≡ Some fault) }
 {
     // That a memory is lawful is said by its top's call.
     let _top = memory.top();

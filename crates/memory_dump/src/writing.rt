@@ -1,10 +1,10 @@
-ghost use Rattle.std.specs.Prelude.{◌≡◌, ◌*◌, ◌%◌, ◌<◌, ◌≤◌, ◌==◌, false, [], length, take, OnOk, OnErr};
-ghost use Rattle.std.specs.List.{list_all};
+ghost use Rattle.std.specs.Prelude.{◌≡◌, ◌+◌, ◌*◌, ◌%◌, ◌<◌, ◌≤◌, false, [], length, take, OnOk, OnErr};
 ghost use Rattle.vt_bytes.specs.Memory.{IsMemory, IsTop, IsRam, IsRamRange, ram_ranges};
 ghost use Rattle.guest_memory.specs.Bytes.{HoldsBytes};
 ghost use Rattle.memory_dump.specs.Dump.{dump, ranges_text, rows_text};
 ghost use Rattle.guest_memory.specs.Frames.{frame_limit, frame_start};
-ghost use Rattle.vt_outside.specs.Stream.{Took, TookFront};
+ghost use Rattle.guest_memory.specs.Touched.{touched_count};
+ghost use Rattle.vt_outside.specs.Stream.{Took, TookFront, line_feeds};
 
 use crate::header::header_text;
 use crate::row::{LINE, ROW, is_filled_row, line};
@@ -25,11 +25,13 @@ const HIGH_BYTES: u64 = 0x200_0000;
 /// the fill byte, then `end`. Each line is offered whole in one `write`, and then what is left of it. It takes no memory, and doesn't
 /// flush `out`. Returns `Failed` when a write fails; `out` then took a part of the dump from its front.
 pub fn dump_to<K: Sink>(memory: &GuestMemory, out: &mut K) -> Result<(), Failed>
-    ensures ok { OnOk result (Took (dump memory.now) (K.seen out.old) (K.seen out.new)) }
-    ensures front { OnErr result (TookFront (dump memory.now) (K.seen out.old) (K.seen out.new)) }
+    ensures ok { OnOk result (Took (dump memory.now.memory) (K.seen out.old) (K.seen out.new)) }
+    ensures front { OnErr result (TookFront (dump memory.now.memory) (K.seen out.old) (K.seen out.new)) }
+    // It has a line for each of at most 256 rows of a frame that is touched, and two more.
+    ensures few { line_feeds (dump memory.now.memory) ≤ 2 + 256 * touched_count memory.now.touched }
     // So that the memory is the only one with this text.
-    ensures lawful { IsMemory memory.now }
-    ensures holds { HoldsBytes memory.now }
+    ensures lawful { IsMemory memory.now.memory }
+    ensures holds { HoldsBytes memory.now.memory }
 {
     memory.holds_bytes();
     write_all(out, &header_text(memory.top(), memory.fill()))?;
@@ -39,8 +41,8 @@ pub fn dump_to<K: Sink>(memory: &GuestMemory, out: &mut K) -> Result<(), Failed>
 
 // Writes the lines of each range of RAM.
 fn dump_ranges<K: Sink>(memory: &GuestMemory, out: &mut K) -> Result<(), Failed>
-    ensures ok { OnOk result (Took (ranges_text memory.now (ram_ranges memory.now.top)) (K.seen out.old) (K.seen out.new)) }
-    ensures front { OnErr result (TookFront (ranges_text memory.now (ram_ranges memory.now.top)) (K.seen out.old) (K.seen out.new)) }
+    ensures ok { OnOk result (Took (ranges_text memory.now.memory (ram_ranges memory.now.memory.top)) (K.seen out.old) (K.seen out.new)) }
+    ensures front { OnErr result (TookFront (ranges_text memory.now.memory (ram_ranges memory.now.memory.top)) (K.seen out.old) (K.seen out.new)) }
 {
     for range in ram_ranges(memory.top()) {
         let frames = (range.end - range.start) / FRAME_BYTES;
@@ -56,11 +58,11 @@ fn dump_frames<K: Sink>(
     start: u64,
     count: u64,
 ) -> Result<(), Failed>
-    requires lawful { IsTop memory.now.top }
-    requires ram { IsRamRange memory.now.top start (4096 * count) }
+    requires lawful { IsTop memory.now.memory.top }
+    requires ram { IsRamRange memory.now.memory.top start (4096 * count) }
     requires aligned { start % 4096 ≡ 0 }
-    ensures ok { OnOk result (Took (rows_text memory.now start (256 * count)) (K.seen out.old) (K.seen out.new)) }
-    ensures front { OnErr result (TookFront (rows_text memory.now start (256 * count)) (K.seen out.old) (K.seen out.new)) }
+    ensures ok { OnOk result (Took (rows_text memory.now.memory start (256 * count)) (K.seen out.old) (K.seen out.new)) }
+    ensures front { OnErr result (TookFront (rows_text memory.now.memory start (256 * count)) (K.seen out.old) (K.seen out.new)) }
 {
     for k in 0..count {
         let address = start + FRAME_BYTES * k;
@@ -72,15 +74,14 @@ fn dump_frames<K: Sink>(
 }
 
 // Whether the frame at an address may have lines. Most of RAM is as it was at the beginning: a frame that wasn't touched isn't looked
-// at, and one that was is first compared with the fill byte as a whole.
+// at.
 fn may_have_lines(memory: &GuestMemory, address: u64) -> bool
-    requires lawful { IsTop memory.now.top }
-    requires ram { IsRamRange memory.now.top address 4096 }
+    requires lawful { IsTop memory.now.memory.top }
+    requires ram { IsRamRange memory.now.memory.top address 4096 }
     requires aligned { address % 4096 ≡ 0 }
-    ensures { result ≡ false → rows_text memory.now address 256 ≡ [] }
+    ensures { result ≡ false → rows_text memory.now.memory address 256 ≡ [] }
 {
     memory.touched(frame_at(address, memory.top()))
-        && !is_filled(memory.window(address, FRAME_BYTES as u32), memory.fill())
 }
 
 // The number of the frame that begins at an address.
@@ -101,11 +102,11 @@ fn frame_at(address: u64, top: u32) -> u32
 
 // Writes the lines of the frame at an address. Their text is made at once.
 fn dump_frame<K: Sink>(memory: &GuestMemory, out: &mut K, address: u64) -> Result<(), Failed>
-    requires lawful { IsTop memory.now.top }
-    requires ram { IsRamRange memory.now.top address 4096 }
+    requires lawful { IsTop memory.now.memory.top }
+    requires ram { IsRamRange memory.now.memory.top address 4096 }
     requires aligned { address % 4096 ≡ 0 }
-    ensures ok { OnOk result (Took (rows_text memory.now address 256) (K.seen out.old) (K.seen out.new)) }
-    ensures front { OnErr result (TookFront (rows_text memory.now address 256) (K.seen out.old) (K.seen out.new)) }
+    ensures ok { OnOk result (Took (rows_text memory.now.memory address 256) (K.seen out.old) (K.seen out.new)) }
+    ensures front { OnErr result (TookFront (rows_text memory.now.memory address 256) (K.seen out.old) (K.seen out.new)) }
 {
     let mut text = [0; FRAME_TEXT];
     let len = put_rows(&mut text, memory, address);
@@ -128,11 +129,11 @@ fn write_lines<K: Sink>(out: &mut K, text: &[u8]) -> Result<(), Failed>
 
 // Puts the lines of the frame at an address at the front of `text`, and returns how many bytes they have.
 fn put_rows(text: &mut [u8; FRAME_TEXT], memory: &GuestMemory, address: u64) -> usize
-    requires lawful { IsTop memory.now.top }
-    requires ram { IsRamRange memory.now.top address 4096 }
+    requires lawful { IsTop memory.now.memory.top }
+    requires ram { IsRamRange memory.now.memory.top address 4096 }
     requires aligned { address % 4096 ≡ 0 }
     ensures fits { result ≤ 10752 }
-    ensures lines { take result text.new ≡ rows_text memory.now address 256 }
+    ensures lines { take result text.new ≡ rows_text memory.now.memory address 256 }
 {
     let frame = memory.window(address, FRAME_BYTES as u32);
     let fill = memory.fill();
@@ -145,15 +146,4 @@ fn put_rows(text: &mut [u8; FRAME_TEXT], memory: &GuestMemory, address: u64) -> 
         }
     }
     len
-}
-
-// Whether bytes are all the fill byte. It doesn't stop at the first that isn't, so that the compiler compares many at once.
-fn is_filled(bytes: &[u8], fill: u8) -> bool
-    ensures { result ≡ list_all (λ byte. byte == fill) bytes.now }
-{
-    let mut filled = true;
-    for &byte in bytes {
-        filled &= byte == fill;
-    }
-    filled
 }

@@ -30,4 +30,6 @@ mod sinks;
 #[cfg(test)]
 mod sources;
 #[cfg(test)]
+mod touched;
+#[cfg(test)]
 mod worlds;

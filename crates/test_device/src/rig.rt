@@ -85,7 +85,7 @@ pub(crate) fn memory(alloc: Global) -> Result<GuestMemory, OutOfMemory> {
 /// Starts a transfer.
 pub(crate) fn start(rt: &impl Abort, device: &mut Device, memory: &mut GuestMemory, asked: Asked)
     requires { room_of device.old ≡ 8 }
-    ensures can_move { CanMove (attached device.new memory.new) }
+    ensures can_move { CanMove (attached device.new memory.new.memory) }
     ensures room { room_of device.new ≡ 8 }
 {
     describe(memory, asked);
@@ -108,7 +108,7 @@ pub(crate) fn start_at(
     low: u32,
 )
     requires { room_of device.old ≡ 8 }
-    ensures can_move { CanMove (attached device.new memory.new) }
+    ensures can_move { CanMove (attached device.new memory.new.memory) }
     ensures room { room_of device.new ≡ 8 }
 {
     device.write_address_high(high);
@@ -118,7 +118,7 @@ pub(crate) fn start_at(
 /// Writes the lower half of the address register.
 pub(crate) fn start_low(rt: &impl Abort, device: &mut Device, memory: &mut GuestMemory, low: u32)
     requires { room_of device.old ≡ 8 }
-    ensures can_move { CanMove (attached device.new memory.new) }
+    ensures can_move { CanMove (attached device.new memory.new.memory) }
     ensures room { room_of device.new ≡ 8 }
 {
     assert!(rt; !device.busy());
@@ -128,7 +128,7 @@ pub(crate) fn start_low(rt: &impl Abort, device: &mut Device, memory: &mut Guest
 
 /// Moves pieces of `bytes` bytes until the transfer is over.
 pub(crate) fn finish(rt: &impl Abort, device: &mut Device, memory: &mut GuestMemory, bytes: u32)
-    requires can_move { CanMove (attached device.old memory.old) }
+    requires can_move { CanMove (attached device.old memory.old.memory) }
     requires room { room_of device.old ≡ 8 }
     ensures { room_of device.new ≡ 8 }
 {
@@ -138,7 +138,7 @@ pub(crate) fn finish(rt: &impl Abort, device: &mut Device, memory: &mut GuestMem
 
 // Moves some pieces.
 fn move_pieces(device: &mut Device, memory: &mut GuestMemory, bytes: u32)
-    requires can_move { CanMove (attached device.old memory.old) }
+    requires can_move { CanMove (attached device.old memory.old.memory) }
     requires room { room_of device.old ≡ 8 }
     ensures { room_of device.new ≡ 8 }
 {

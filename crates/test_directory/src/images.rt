@@ -23,13 +23,6 @@ pub(crate) fn two_files() -> [u8; 137] {
     image
 }
 
-/// Makes a copy of a container, to be given up.
-pub(crate) fn copy_of(alloc: Global, image: &[u8]) -> Result<Bytes, OutOfMemory> {
-    let mut copy = Bytes::new(alloc);
-    copy.extend(image)?;
-    Ok(copy)
-}
-
 /// Makes the entry of the file of a number, below 1,024: its size in bytes, its selector, and its name.
 pub(crate) fn entry_of(number: u16, size: u32) -> [u8; 64]
     requires { number < 1024 }

@@ -4,8 +4,9 @@
 ghost use Rattle.std.specs.Prelude.{◌≡◌, ◌<◌, ◌≤◌, ◌+◌, ◌*◌, [], length, IfOk, OnOk};
 ghost use Rattle.test_directory.specs.Filled.{HasFiles};
 
-use crate::images::{copy_of, entry_of, field_of, put_flags};
-use cfg_directory::{Items, directory_bytes, read_image, take_image, write_image};
+use crate::images::{entry_of, field_of, put_flags};
+use crate::pieces::read_by;
+use cfg_directory::{Items, directory_bytes, read_image, write_image};
 use std::alloc::Global;
 use std::process::Abort;
 use std::test::Fail;
@@ -27,7 +28,7 @@ fn is_read_and_written(rt: &impl Abort, alloc: Global, count: u16, chunks: u16) 
 {
     let image = image(alloc, count, chunks)?;
     is_read(rt, alloc, image.as_slice(), count)?;
-    is_taken(rt, alloc, image.as_slice(), count)
+    is_read_by_chunks(rt, alloc, image.as_slice(), count)
 }
 
 fn is_read(rt: &impl Abort, alloc: Global, image: &[u8], count: u16) -> Result<(), Fail> {
@@ -37,8 +38,8 @@ fn is_read(rt: &impl Abort, alloc: Global, image: &[u8], count: u16) -> Result<(
     done
 }
 
-fn is_taken(rt: &impl Abort, alloc: Global, image: &[u8], count: u16) -> Result<(), Fail> {
-    let items = take_image(alloc, copy_of(alloc, image)?)?;
+fn is_read_by_chunks(rt: &impl Abort, alloc: Global, image: &[u8], count: u16) -> Result<(), Fail> {
+    let items = read_by(rt, alloc, image, CHUNK)?;
     let done = are_written_all(rt, alloc, &items, image, count);
     drop(items);
     done

@@ -1,7 +1,8 @@
-//! Bytes that are refused as a container, lent or given up.
+//! Bytes that are refused as a container, at once or in pieces.
 
-use crate::images::{copy_of, one_file, two_files};
-use cfg_directory::{ImageFault, Items, read_image, take_image};
+use crate::images::{one_file, two_files};
+use crate::pieces::{SIZES, read_by};
+use cfg_directory::{ImageFault, read_image};
 use std::alloc::Global;
 use std::process::Abort;
 use std::test::Fail;
@@ -18,20 +19,28 @@ fn a_container_and_its_fronts(rt: HostRuntime) {
 }
 
 fn has_fault(rt: &impl Abort, alloc: Global, case: &str, bytes: &[u8], fault: Option<ImageFault>) {
-    let lent = read_image(alloc, bytes).err();
-    assert_eq!(rt; lent, fault, "{case}, of {} bytes", bytes.len());
-    let given_up = take_copy(alloc, bytes).err();
-    assert_eq!(rt;
-        given_up,
-        fault,
-        "{case}, of {} bytes, given up",
-        bytes.len()
-    );
+    let at_once = read_image(alloc, bytes).err();
+    assert_eq!(rt; at_once, fault, "{case}, of {} bytes", bytes.len());
+    for size in &SIZES {
+        has_fault_by(rt, alloc, case, bytes, *size, fault);
+    }
 }
 
-fn take_copy(alloc: Global, bytes: &[u8]) -> Result<Items, ImageFault> {
-    let copy = copy_of(alloc, bytes)?;
-    take_image(alloc, copy)
+fn has_fault_by(
+    rt: &impl Abort,
+    alloc: Global,
+    case: &str,
+    bytes: &[u8],
+    size: usize,
+    fault: Option<ImageFault>,
+) {
+    let in_pieces = read_by(rt, alloc, bytes, size).err();
+    assert_eq!(rt;
+        in_pieces,
+        fault,
+        "{case}, of {} bytes, in pieces of {size}",
+        bytes.len()
+    );
 }
 
 #[test]

@@ -1,21 +1,22 @@
-//! Containers of files of many sizes, lent or given up. Of one that is given up a file with half of all bytes keeps its memory, wherever
-//! it stands.
+//! Containers of files of many sizes, at once and in pieces.
 
 ghost use Rattle.std.specs.Prelude.{◌≤◌, length};
 
 use crate::containers::are_bytes;
-use crate::images::{copy_of, entry_of, put_flags};
-use cfg_directory::{Items, read_image, take_image, write_image};
+use crate::images::{entry_of, put_flags};
+use crate::pieces::read_by;
+use cfg_directory::{Items, read_image, write_image};
 use std::alloc::Global;
 use std::process::Abort;
 use std::test::Fail;
 use vt_outside::{Bytes, OutOfMemory};
 
 // How many bytes each file has, in their order.
-static SIZES: [(&str, &[u16]); 11] = [
+static SIZES: [(&str, &[u16]); 12] = [
     ("no file", &[]),
     ("an empty file", &[0]),
     ("two empty files", &[0, 0]),
+    ("as many empty files as there may be", &[0; 1024]),
     ("one file", &[10_000]),
     ("a file, and an empty one", &[4096, 0]),
     ("an empty file first", &[0, 4097]),
@@ -39,7 +40,7 @@ fn is_read(rt: &impl Abort, alloc: Global, case: &str, sizes: &[u16]) -> Result<
     let image = image_of(alloc, sizes)?;
     let items = read_image(alloc, image.as_slice())?;
     are_written(rt, alloc, case, items, image.as_slice())?;
-    let items = take_image(alloc, copy_of(alloc, image.as_slice())?)?;
+    let items = read_by(rt, alloc, image.as_slice(), 65)?;
     are_written(rt, alloc, case, items, image.as_slice())
 }
 

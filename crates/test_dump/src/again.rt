@@ -61,9 +61,9 @@ fn write_again(alloc: Global, text: &[u8], out: &mut ListSink) -> Result<(), Fai
 
 /// Writes the dump of a memory to a sink that has room for it.
 pub fn write(memory: &GuestMemory, out: &mut ListSink) -> Result<(), Fail>
-    ensures taken { OnOk result (out.new.taken ≡ out.old.taken ++ dump memory.now) }
-    ensures lawful { IsMemory memory.now }
-    ensures holds { HoldsBytes memory.now }
+    ensures taken { OnOk result (out.new.taken ≡ out.old.taken ++ dump memory.now.memory) }
+    ensures lawful { IsMemory memory.now.memory }
+    ensures holds { HoldsBytes memory.now.memory }
 {
     match dump_to(memory, out) {
         Ok(()) => Ok(()),
@@ -97,14 +97,14 @@ fn dumped_and_read(
     out: &mut ListSink,
 ) -> Result<GuestMemory, Fail>
     requires { out.old.taken ≡ [] }
-    ensures { IfOk result (λ again. again ≡ memory.now) }
+    ensures { IfOk result (λ again. again.memory ≡ memory.now.memory) }
 {
     write(memory, out)?;
     read(alloc, out.taken())
 }
 
 fn read(alloc: Global, text: &[u8]) -> Result<GuestMemory, Fail>
-    ensures { (m : Memory) → IsMemory m → HoldsBytes m → dump m ≡ text.now → IfOk result (λ memory. memory ≡ m) }
+    ensures { (m : Memory) → IsMemory m → HoldsBytes m → dump m ≡ text.now → IfOk result (λ held. held.memory ≡ m) }
 {
     if text.len() > 0xFFFF_FFFF {
         return Err(Fail::new(format_args!("a dump is too long")));

@@ -46,6 +46,8 @@ mod states;
 #[cfg(test)]
 mod steps;
 #[cfg(test)]
+mod touched;
+#[cfg(test)]
 mod write_causes;
 #[cfg(test)]
 mod write_itself;

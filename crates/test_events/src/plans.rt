@@ -42,8 +42,8 @@ pub(crate) fn small_items(alloc: Global) -> Result<Items, Fail> {
 
 /// Begins the small load in a world.
 pub(crate) fn begin_small(alloc: Global, world: &mut World) -> Result<(), Fail>
-    ensures fresh { OnOk result (IsSomeAnd world.new (λ w. IsBegun w.attached.device.items (memory_of w).top (memory_of w).fill w)) }
-    ensures top { OnOk result (IfSome world.new (λ w. (memory_of w).top ≡ 0x4000000)) }
+    ensures fresh { OnOk result (IsSomeAnd world.new.load (λ w. IsBegun w.attached.device.items (memory_of w).top (memory_of w).fill w)) }
+    ensures top { OnOk result (IfSome world.new.load (λ w. (memory_of w).top ≡ 0x4000000)) }
 {
     let items = small_items(alloc)?;
     begin(alloc, world, items)?;

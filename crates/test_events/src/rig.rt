@@ -58,8 +58,8 @@ pub(crate) struct End<'a> {
 
 /// Begins a load of `items` in a world, below [`TOP`].
 pub(crate) fn begin(alloc: Global, world: &mut World, items: Items) -> Result<(), OutOfMemory>
-    ensures fresh { OnOk result (IsSomeAnd world.new (λ w. IsBegun w.attached.device.items (memory_of w).top (memory_of w).fill w)) }
-    ensures top { OnOk result (IfSome world.new (λ w. (memory_of w).top ≡ 0x4000000)) }
+    ensures fresh { OnOk result (IsSomeAnd world.new.load (λ w. IsBegun w.attached.device.items (memory_of w).top (memory_of w).fill w)) }
+    ensures top { OnOk result (IfSome world.new.load (λ w. (memory_of w).top ≡ 0x4000000)) }
 {
     world.begin(alloc, items, TOP, FILL)
 }
@@ -136,8 +136,8 @@ fn begun_ends<C: Schedule>(
     plan: &mut C,
     end: &End<'_>,
 ) -> Result<(), Fail>
-    requires fresh { IsSomeAnd world.old (λ w. IsBegun w.attached.device.items (memory_of w).top (memory_of w).fill w) }
-    requires top { IfSome world.old (λ w. (memory_of w).top ≡ 0x4000000) }
+    requires fresh { IsSomeAnd world.old.load (λ w. IsBegun w.attached.device.items (memory_of w).top (memory_of w).fill w) }
+    requires top { IfSome world.old.load (λ w. (memory_of w).top ≡ 0x4000000) }
 {
     let mut failing = failing_places(alloc, fails)?;
     let done = ends_placed(rt, alloc, world, &mut failing, Policy::Low, plan, end);
@@ -155,8 +155,8 @@ pub(crate) fn ends_placed<A: ZoneAlloc, C: Schedule>(
     plan: &mut C,
     end: &End<'_>,
 ) -> Result<(), Fail>
-    requires fresh { IsSomeAnd world.old (λ w. IsBegun w.attached.device.items (memory_of w).top (memory_of w).fill w) }
-    requires top { IfSome world.old (λ w. (memory_of w).top ≡ 0x4000000) }
+    requires fresh { IsSomeAnd world.old.load (λ w. IsBegun w.attached.device.items (memory_of w).top (memory_of w).fill w) }
+    requires top { IfSome world.old.load (λ w. (memory_of w).top ≡ 0x4000000) }
 {
     begin_zones(alloc, place, by)?;
     ends_as(rt, world, place, plan, end);
@@ -177,11 +177,11 @@ pub(crate) fn ends_as<A: ZoneAlloc, C: Schedule>(
     plan: &mut C,
     end: &End<'_>,
 )
-    requires fresh { IsSomeAnd world.old (λ w. IsBegun w.attached.device.items (memory_of w).top (memory_of w).fill w) }
+    requires fresh { IsSomeAnd world.old.load (λ w. IsBegun w.attached.device.items (memory_of w).top (memory_of w).fill w) }
     requires begun { (A.state place.old).begun.ready ≡ true }
     requires handed { (A.state place.old).handed ≡ [] }
-    requires zones { IfSome world.old (λ w. AreZonesOf (memory_of w).top (A.state place.old).begun.zones) }
-    ensures { IsSome world.new }
+    requires zones { IfSome world.old.load (λ w. AreZonesOf (memory_of w).top (A.state place.old).begun.zones) }
+    ensures { IsSome world.new.load }
 {
     let answer = world.load(place, plan);
     assert_eq!(rt; answer, end.answer);
@@ -190,7 +190,7 @@ pub(crate) fn ends_as<A: ZoneAlloc, C: Schedule>(
 
 // The load has ended so.
 fn is_so(rt: &impl Abort, world: &World, end: &End<'_>)
-    requires { IsSome world.now }
+    requires { IsSome world.now.load }
 {
     is_in(rt, world, state_after(end.answer));
     is_moved(rt, world.device(), end);

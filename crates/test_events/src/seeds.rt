@@ -108,8 +108,8 @@ fn begun_ends_over(
     seed: u64,
     end: &End<'_>,
 ) -> Result<(), Fail>
-    requires fresh { IsSomeAnd world.old (λ w. IsBegun w.attached.device.items (memory_of w).top (memory_of w).fill w) }
-    requires top { IfSome world.old (λ w. (memory_of w).top ≡ 0x4000000) }
+    requires fresh { IsSomeAnd world.old.load (λ w. IsBegun w.attached.device.items (memory_of w).top (memory_of w).fill w) }
+    requires top { IfSome world.old.load (λ w. (memory_of w).top ≡ 0x4000000) }
 {
     let mut plan = SeededSchedule::new();
     plan.begin(seed);

@@ -92,7 +92,7 @@ fn is_loaded(
 
 // A load was begun.
 fn is_begun(rt: &impl Abort, world: &World)
-    requires { IsSome world.now }
+    requires { IsSome world.now.load }
 {
     is_in(rt, world, State::Running);
     is_filled(rt, world.memory());
@@ -153,8 +153,8 @@ fn loads_begun(
     case: &Case<'_>,
 ) -> Result<(), Fail>
     requires lawful { IsTop top }
-    requires fresh { IsSomeAnd world.old (λ w. IsBegun w.attached.device.items (memory_of w).top (memory_of w).fill w) }
-    requires top { IfSome world.old (λ w. (memory_of w).top ≡ top) }
+    requires fresh { IsSomeAnd world.old.load (λ w. IsBegun w.attached.device.items (memory_of w).top (memory_of w).fill w) }
+    requires top { IfSome world.old.load (λ w. (memory_of w).top ≡ top) }
 {
     let mut shelf = ShelfAlloc::new();
     let done = loads_begun_on(rt, alloc, top, world, &mut shelf, case);
@@ -172,8 +172,8 @@ fn loads_begun_on(
     case: &Case<'_>,
 ) -> Result<(), Fail>
     requires lawful { IsTop top }
-    requires fresh { IsSomeAnd world.old (λ w. IsBegun w.attached.device.items (memory_of w).top (memory_of w).fill w) }
-    requires top { IfSome world.old (λ w. (memory_of w).top ≡ top) }
+    requires fresh { IsSomeAnd world.old.load (λ w. IsBegun w.attached.device.items (memory_of w).top (memory_of w).fill w) }
+    requires top { IfSome world.old.load (λ w. (memory_of w).top ≡ top) }
 {
     shelf.begin(alloc, zones_of(top), Policy::Low)?;
     let mut plan = no_events(alloc);

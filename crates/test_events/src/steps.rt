@@ -136,8 +136,8 @@ fn begins_and_goes_on(
 
 // The world that was begun goes on as it should, with the least places.
 fn goes_on(rt: &impl Abort, alloc: Global, world: &mut World, walk: &Walk<'_>) -> Result<(), Fail>
-    requires fresh { IsSomeAnd world.old (λ w. IsBegun w.attached.device.items (memory_of w).top (memory_of w).fill w) }
-    requires top { IfSome world.old (λ w. (memory_of w).top ≡ 0x4000000) }
+    requires fresh { IsSomeAnd world.old.load (λ w. IsBegun w.attached.device.items (memory_of w).top (memory_of w).fill w) }
+    requires top { IfSome world.old.load (λ w. (memory_of w).top ≡ 0x4000000) }
 {
     let mut shelf = ShelfAlloc::new();
     let done = goes_on_with(rt, alloc, world, &mut shelf, walk);
@@ -152,8 +152,8 @@ fn goes_on_with<A: ZoneAlloc>(
     place: &mut A,
     walk: &Walk<'_>,
 ) -> Result<(), Fail>
-    requires fresh { IsSomeAnd world.old (λ w. IsBegun w.attached.device.items (memory_of w).top (memory_of w).fill w) }
-    requires top { IfSome world.old (λ w. (memory_of w).top ≡ 0x4000000) }
+    requires fresh { IsSomeAnd world.old.load (λ w. IsBegun w.attached.device.items (memory_of w).top (memory_of w).fill w) }
+    requires top { IfSome world.old.load (λ w. (memory_of w).top ≡ 0x4000000) }
 {
     begin_zones(alloc, place, Policy::Low)?;
     goes(rt, world, place, walk);
@@ -162,10 +162,10 @@ fn goes_on_with<A: ZoneAlloc>(
 
 // The world goes on as it should.
 fn goes<A: ZoneAlloc>(rt: &impl Abort, world: &mut World, place: &mut A, walk: &Walk<'_>)
-    requires some { IsSome world.old }
+    requires some { IsSome world.old.load }
     requires begun { (A.state place.old).begun.ready ≡ true }
     requires zones { AreZonesOf 0x4000000 (A.state place.old).begun.zones }
-    requires handed { IfSome world.old (λ w. (A.state place.old).handed ≡ placed_ranges w.placed) }
+    requires handed { IfSome world.old.load (λ w. (A.state place.old).handed ≡ placed_ranges w.placed) }
 {
     for Turns(count, events, seen) in walk.turns {
         take_turns(rt, world, place, *count, events);
@@ -181,14 +181,14 @@ fn take_turns<A: ZoneAlloc>(
     count: u8,
     events: &[Event],
 )
-    requires some { IsSome world.old }
+    requires some { IsSome world.old.load }
     requires begun { (A.state place.old).begun.ready ≡ true }
     requires zones { AreZonesOf 0x4000000 (A.state place.old).begun.zones }
-    requires handed { IfSome world.old (λ w. (A.state place.old).handed ≡ placed_ranges w.placed) }
-    ensures some { IsSome world.new }
+    requires handed { IfSome world.old.load (λ w. (A.state place.old).handed ≡ placed_ranges w.placed) }
+    ensures some { IsSome world.new.load }
     ensures begun { (A.state place.new).begun.ready ≡ true }
     ensures zones { AreZonesOf 0x4000000 (A.state place.new).begun.zones }
-    ensures handed { IfSome world.new (λ w. (A.state place.new).handed ≡ placed_ranges w.placed) }
+    ensures handed { IfSome world.new.load (λ w. (A.state place.new).handed ≡ placed_ranges w.placed) }
 {
     for _ in 0..count {
         take_all(rt, world, place, events);
@@ -196,14 +196,14 @@ fn take_turns<A: ZoneAlloc>(
 }
 
 fn take_all<A: ZoneAlloc>(rt: &impl Abort, world: &mut World, place: &mut A, events: &[Event])
-    requires some { IsSome world.old }
+    requires some { IsSome world.old.load }
     requires begun { (A.state place.old).begun.ready ≡ true }
     requires zones { AreZonesOf 0x4000000 (A.state place.old).begun.zones }
-    requires handed { IfSome world.old (λ w. (A.state place.old).handed ≡ placed_ranges w.placed) }
-    ensures some { IsSome world.new }
+    requires handed { IfSome world.old.load (λ w. (A.state place.old).handed ≡ placed_ranges w.placed) }
+    ensures some { IsSome world.new.load }
     ensures begun { (A.state place.new).begun.ready ≡ true }
     ensures zones { AreZonesOf 0x4000000 (A.state place.new).begun.zones }
-    ensures handed { IfSome world.new (λ w. (A.state place.new).handed ≡ placed_ranges w.placed) }
+    ensures handed { IfSome world.new.load (λ w. (A.state place.new).handed ≡ placed_ranges w.placed) }
 {
     for event in events {
         take(rt, world, place, *event);
@@ -212,14 +212,14 @@ fn take_all<A: ZoneAlloc>(rt: &impl Abort, world: &mut World, place: &mut A, eve
 
 // The world takes the step of an event.
 fn take<A: ZoneAlloc>(rt: &impl Abort, world: &mut World, place: &mut A, event: Event)
-    requires some { IsSome world.old }
+    requires some { IsSome world.old.load }
     requires begun { (A.state place.old).begun.ready ≡ true }
     requires zones { AreZonesOf 0x4000000 (A.state place.old).begun.zones }
-    requires handed { IfSome world.old (λ w. (A.state place.old).handed ≡ placed_ranges w.placed) }
-    ensures some { IsSome world.new }
+    requires handed { IfSome world.old.load (λ w. (A.state place.old).handed ≡ placed_ranges w.placed) }
+    ensures some { IsSome world.new.load }
     ensures begun { (A.state place.new).begun.ready ≡ true }
     ensures zones { AreZonesOf 0x4000000 (A.state place.new).begun.zones }
-    ensures handed { IfSome world.new (λ w. (A.state place.new).handed ≡ placed_ranges w.placed) }
+    ensures handed { IfSome world.new.load (λ w. (A.state place.new).handed ≡ placed_ranges w.placed) }
 {
     assert_eq!(rt; world.memory().top(), TOP);
     world.step(place, event);
@@ -227,7 +227,7 @@ fn take<A: ZoneAlloc>(rt: &impl Abort, world: &mut World, place: &mut A, event: 
 
 // This is seen of the world; the transfers are all of its load's.
 fn is_seen(rt: &impl Abort, world: &World, transfers: &[Transfer], seen: &Seen)
-    requires { IsSome world.now }
+    requires { IsSome world.now.load }
 {
     let Seen(state, busy, count, held, contents) = *seen;
     is_in(rt, world, state);

@@ -14,4 +14,6 @@ mod records;
 #[cfg(test)]
 mod rows;
 #[cfg(test)]
+mod sums;
+#[cfg(test)]
 mod worked;

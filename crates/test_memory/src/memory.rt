@@ -107,7 +107,7 @@ fn ranges_of_memory(rt: HostRuntime) -> Result<(), Fail> {
 }
 
 fn change_ranges(rt: &impl Abort, memory: &mut GuestMemory)
-    requires { memory.old.top ≡ 0x4000000 }
+    requires { memory.old.memory.top ≡ 0x4000000 }
 {
     put_ranges(memory);
     are_sums(rt, memory);
@@ -124,8 +124,8 @@ fn hold(rt: &impl Abort, memory: &GuestMemory, rows: &[(u64, u8)]) {
 }
 
 fn put_ranges(memory: &mut GuestMemory)
-    requires { memory.old.top ≡ 0x4000000 }
-    ensures { memory.new.top ≡ 0x4000000 }
+    requires { memory.old.memory.top ≡ 0x4000000 }
+    ensures { memory.new.memory.top ≡ 0x4000000 }
 {
     // over the end of a frame
     memory.copy_in(0xFFE, &[0xFF, 2, 3, 4, 5]);
@@ -134,7 +134,7 @@ fn put_ranges(memory: &mut GuestMemory)
 }
 
 fn are_sums(rt: &impl Abort, memory: &GuestMemory)
-    requires { memory.now.top ≡ 0x4000000 }
+    requires { memory.now.memory.top ≡ 0x4000000 }
 {
     is_sum(rt, memory, 0xFFE, 5, 13);
     is_sum(rt, memory, 0x3FF_FFFE, 2, 13);
@@ -143,7 +143,7 @@ fn are_sums(rt: &impl Abort, memory: &GuestMemory)
 
 // The sum of so many bytes from an address on, modulo 256.
 fn is_sum(rt: &impl Abort, memory: &GuestMemory, address: u64, len: u32, sum: u8)
-    requires { IsRamRange memory.now.top address len }
+    requires { IsRamRange memory.now.memory.top address len }
 {
     assert_eq!(rt; memory.sum_range(address, len), sum, "at {address}");
 }

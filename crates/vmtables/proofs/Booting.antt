@@ -273,7 +273,7 @@ boot_failed Gives setting m items script f before after free built decoded (not_
 -- a load that is done, after which memory holds bytes
 pub booted_so : (Gives : Answering) (setting : Setting) (m : Machine) (items : List Item) (script : List Entry) (before after : Seen)
     → AllFree Gives → IsBuilt m items script → total_size (image_items m) ≤ image_limit
-    → IsImageLoaded Gives items (top_of m) setting (Ok tt) before after → IsSomeAnd after.world (λ w. HoldsBytes (memory_of w))
+    → IsImageLoaded Gives items (top_of m) setting (Ok tt) before after → IsSomeAnd after.world.load (λ w. HoldsBytes (memory_of w))
     → IsMachineBooted Gives setting m before after
 booted_so Gives setting m items script before after free built small loaded held =
     let its = subst (λ those. IsImageLoaded Gives those (top_of m) setting (Ok tt) before after) built.items_are loaded in

@@ -23,7 +23,7 @@ its_summary processors files bytes commands rows m counts are =
 
 pub counted_so : (Gives : Answering) (processors files bytes commands rows : ℕ) (text : List ℕ) (m : Memory) (before after : Seen)
     → IsMachineBooted Gives plain (generated processors) before after → AreCounts (generated processors) files bytes commands
-    → rows ≡ length (rows_of m).rows → IsSomeAnd after.world (λ w. m ≡ memory_of w) → text ≡ summary_of processors files bytes commands rows
+    → rows ≡ length (rows_of m).rows → IsSomeAnd after.world.load (λ w. m ≡ memory_of w) → text ≡ summary_of processors files bytes commands rows
     → GenMakes Gives processors before after (Ok text)
 counted_so Gives processors files bytes commands rows text m before after is counts are held same =
     let its : m ≡ memory_of is.loaded.world = subst (λ seen. IsSomeAnd seen (λ w. m ≡ memory_of w)) is.loaded.world_is held in

@@ -42,36 +42,49 @@ pub commanded : (Gives : Answering) (known command : Option Command) (r : Result
 commanded Gives known command r before after source source_after out out_after is =
     subst (λ those. Ran (Does Gives those before after) r source source_after out out_after) is
 
--- the answer of a reading that was cut off
-abbrev pub input_failed : InputFault → Result (List ℕ) InputFault
-input_failed why = Err why
+abbrev pub read_as : {A : Type 0} → A → Result A InputFault
+read_as got = Ok got
 
-given_more : (had left : Option (List ℕ)) → IfSome had (λ _. (input_failed input.TooLong ≡ Err input.TooLong) ↔ (input_limit < given_count had left))
+never_long : {A : Type 0} (got : A) → read_as got ≡ Err input.TooLong → ⊥
+never_long got is = cc
+
+-- What a reading that ended says of too many bytes, it says whatever was made of them.
+pub read_whole : {A : Type 0} (got : A) (bytes : List ℕ) (had left : Option (List ℕ))
+    → IfSome had (λ _. (read_as got ≡ Err input.TooLong) ↔ (input_limit < given_count had left))
+    → IfSome had (λ _. (was_read bytes ≡ Err input.TooLong) ↔ (input_limit < given_count had left))
+read_whole got bytes None left too_long = tt
+read_whole got bytes (Some all) left too_long = (λ is. cc, λ more. absurd (never_long got (too_long.1 more)))
+
+-- the answer of a reading that was cut off
+abbrev pub input_failed : (A : Type 0) → InputFault → Result A InputFault
+input_failed A why = Err why
+
+given_more : (A : Type 0) (had left : Option (List ℕ)) → IfSome had (λ _. (input_failed A input.TooLong ≡ Err input.TooLong) ↔ (input_limit < given_count had left))
     → IfSome had (λ _. input_limit < given_count had left)
-given_more None left too_long = tt
-given_more (Some all) left too_long = too_long.0 refl
+given_more A None left too_long = tt
+given_more A (Some all) left too_long = too_long.0 refl
 
 -- the fault of a reading was counted, or too many bytes were given
-was_cut : (why : InputFault) (source source_after : SourceSeen)
-    → (input_failed why ≡ Err input.Failed → Rose source.faults source_after.faults)
-    → IfSome source.left (λ _. (input_failed why ≡ Err input.TooLong) ↔ (input_limit < given_count source.left source_after.left))
+was_cut : (A : Type 0) (why : InputFault) (source source_after : SourceSeen)
+    → (input_failed A why ≡ Err input.Failed → Rose source.faults source_after.faults)
+    → IfSome source.left (λ _. (input_failed A why ≡ Err input.TooLong) ↔ (input_limit < given_count source.left source_after.left))
     → WasCut why source source_after
-was_cut input.Failed source source_after failed too_long = failed refl
-was_cut input.TooLong source source_after failed too_long = given_more source.left source_after.left too_long
-was_cut input.OutOfMemory source source_after failed too_long = tt
+was_cut A input.Failed source source_after failed too_long = failed refl
+was_cut A input.TooLong source source_after failed too_long = given_more A source.left source_after.left too_long
+was_cut A input.OutOfMemory source source_after failed too_long = tt
 
 -- A command that reads its whole input ends with the fault of the reading.
-pub cut_off : (Makes : List ℕ → Seen → Seen → Made → Type 0) (why : InputFault) (r : Result (Unit {0}) Fault) (seen : Seen)
+pub cut_off : {A : Type 0} (Makes : List ℕ → Seen → Seen → Made → Type 0) (why : InputFault) (r : Result (Unit {0}) Fault) (seen : Seen)
     (source source_after : SourceSeen) (out : SinkSeen)
-    → (input_failed why ≡ Err input.Failed → Rose source.faults source_after.faults)
-    → IfSome source.left (λ _. (input_failed why ≡ Err input.TooLong) ↔ (input_limit < given_count source.left source_after.left))
+    → (input_failed A why ≡ Err input.Failed → Rose source.faults source_after.faults)
+    → IfSome source.left (λ _. (input_failed A why ≡ Err input.TooLong) ↔ (input_limit < given_count source.left source_after.left))
     → IsErrAnd r (λ ended. ended ≡ input_fault why) → Ran (ReadsAll Makes seen seen) r source source_after out out
-cut_off Makes why (Ok done) seen source source_after out failed too_long is = absurd is
-cut_off Makes why (Err ended) seen source source_after out failed too_long is = record {
+cut_off {A} Makes why (Ok done) seen source source_after out failed too_long is = absurd is
+cut_off {A} Makes why (Err ended) seen source source_after out failed too_long is = record {
   input = Cut why;
   made = Err (input_fault why);
   did = (refl, refl);
-  read = was_cut why source source_after failed too_long;
+  read = was_cut A why source source_after failed too_long;
   wrote = (is, refl);
 }
 
@@ -130,10 +143,10 @@ world_dumped seen world is lawful holds = record {
 -- A command that loaded files, and wrote the dump of that world or a part of it.
 pub dump_wrote : (Makes : List ℕ → Seen → Seen → Made → Type 0) (r : Result (Unit {0}) Fault) (bytes : List ℕ) (world : LoadState)
     (before after : Seen) (source source_after : SourceSeen) (out out_after : SinkSeen)
-    → WasEnded bytes source source_after → after.world ≡ Some world → Makes bytes before after (Ok (dump (memory_of world)))
-    → OnOk r (IsSomeAnd after.world (λ w. TookWhole (dump (memory_of w)) out out_after))
+    → WasEnded bytes source source_after → after.world.load ≡ Some world → Makes bytes before after (Ok (dump (memory_of world)))
+    → OnOk r (IsSomeAnd after.world.load (λ w. TookWhole (dump (memory_of w)) out out_after))
     → IfErr r (λ f. f ≡ fault.WriteFault)
-    → OnErr r (IsSomeAnd after.world (λ w. TookFront (dump (memory_of w)) out out_after))
+    → OnErr r (IsSomeAnd after.world.load (λ w. TookFront (dump (memory_of w)) out out_after))
     → Ran (ReadsAll Makes before after) r source source_after out out_after
 dump_wrote Makes r bytes world before after source source_after out out_after read is makes dumped failed front =
     wrote Makes r bytes (dump (memory_of world)) before after source source_after out out_after read makes

@@ -33,7 +33,7 @@ zones_are zones top high_start high_end fseg_start fseg_end Fseg = ap₂ (λ s e
 pub record IsRunOf (Gives : Answering) (items : List Item) (top : ℕ) (setting : Setting) (answer : Result (Unit {0}) LoadFault)
     (before after : Seen) (began : Option LoadState) (between : AllocState) (plan : Plan) : Type 0 where
   pub was_begun : IsSomeAnd began (IsBegun items top setting.fill)
-  pub loaded : IfSome began (λ old. IsSomeAnd after.world (IsLoadOver (Gives between.begun) old plan.left after.plan.left after.place.handed answer))
+  pub loaded : IfSome began (λ old. IsSomeAnd after.world.load (IsLoadOver (Gives between.begun) old plan.left after.plan.left after.place.handed answer))
   pub plan_is : plan ≡ record before.plan { left = before.plan.events setting.seed }
   pub events_stay : after.plan.events ≡ plan.events
   pub begun_stays : after.place.begun ≡ between.begun
@@ -58,7 +58,7 @@ pub items_loaded : (Gives : Answering) (items : List Item) (top : ℕ) (setting 
     → IsRunOf Gives items top setting answer before after began between plan → IsImageLoaded Gives items top setting answer before after
 items_loaded Gives items top setting answer before after None between plan run = absurd run.was_begun
 items_loaded Gives items top setting answer before after (Some begun) between plan run =
-    let world = there after.world run.loaded in
+    let world = there after.world.load run.loaded in
     let left_is : plan.left ≡ before.plan.events setting.seed = ap (λ (p : Plan). p.left) run.plan_is in
     record {
       begun = begun;

@@ -102,7 +102,34 @@ pub container_quiet : (Gives : Answering) (top_mib : ℕ) (setting : Setting) (b
 container_quiet Gives top_mib setting bytes before after f (not_read cannot same) = unread_quiet bytes f (why_unread bytes f cannot)
 container_quiet Gives top_mib setting bytes before after f (not_loaded items contained failed) = failed_quiet Gives items _ setting before after f failed
 
--- Nor is one of a boot that of words which are no command.
+-- Nor is one of a load or a boot that of words which are no command.
+
+abbrev failed_for : Fault → Result (Unit {0}) Fault
+failed_for f = Err f
+
+same_failure : (a b : Fault) → failed_for a ≡ failed_for b → a ≡ b
+same_failure a b is = cc
+
+unread_known : (bytes : List ℕ) (f : Fault) → IsUnread bytes f → f ≢ fault.Usage
+unread_known bytes f (not_container read) = λ is. cc
+unread_known bytes f no_room = λ is. cc
+
+unloaded_known : (Gives : Answering) (items : List Item) (top : ℕ) (setting : Setting) (before after : Seen) (f : Fault)
+    → FailsToLoad Gives items top setting before after f → f ≢ fault.Usage
+unloaded_known Gives items top setting before after f (ended_early loaded) = λ is. cc
+unloaded_known Gives items top setting before after f (not_begun unloaded) = λ is. cc
+
+load_fault_known : (Gives : Answering) (top_mib : ℕ) (setting : Setting) (bytes : List ℕ) (before after : Seen) (f : Fault)
+    → LoadMakes Gives top_mib setting bytes before after (Err f) → f ≢ fault.Usage
+load_fault_known Gives top_mib setting bytes before after f (not_read cannot same) = unread_known bytes f (why_unread bytes f cannot)
+load_fault_known Gives top_mib setting bytes before after f (not_loaded items contained failed) =
+    unloaded_known Gives items _ setting before after f failed
+
+pub load_known : (Gives : Answering) (top_mib : ℕ) (setting : Setting) (bytes : List ℕ) (before after : Seen) (f : Fault) (r : Result (Unit {0}) Fault)
+    → LoadMakes Gives top_mib setting bytes before after (Err f) → IsErrAnd r (λ ended. ended ≡ f) → r ≢ Err fault.Usage
+load_known Gives top_mib setting bytes before after f (Ok done) makes is = absurd is
+load_known Gives top_mib setting bytes before after f (Err ended) makes is =
+    λ usage. load_fault_known Gives top_mib setting bytes before after f makes (sym is ∙ same_failure ended fault.Usage usage)
 
 machine_known : (Gives : Answering) (setting : Setting) (m : Machine) (before after : Seen) (f : Fault)
     → FailsToBoot Gives setting m before after f → f ≢ fault.Usage
@@ -119,12 +146,6 @@ boot_fault_known : (Gives : Answering) (setting : Setting) (bytes : List ℕ) (b
     → BootMakes Gives setting bytes before after (Err f) → f ≢ fault.Usage
 boot_fault_known Gives setting bytes before after f (boot_made.not_read cannot same) = undescribed_known bytes f (why_undescribed bytes f cannot)
 boot_fault_known Gives setting bytes before after f (boot_made.not_booted m read fails) = machine_known Gives setting m before after f fails
-
-abbrev failed_for : Fault → Result (Unit {0}) Fault
-failed_for f = Err f
-
-same_failure : (a b : Fault) → failed_for a ≡ failed_for b → a ≡ b
-same_failure a b is = cc
 
 pub boot_known : (Gives : Answering) (setting : Setting) (bytes : List ℕ) (before after : Seen) (f : Fault) (r : Result (Unit {0}) Fault)
     → BootMakes Gives setting bytes before after (Err f) → IsErrAnd r (λ ended. ended ≡ f) → r ≢ Err fault.Usage

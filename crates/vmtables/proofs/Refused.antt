@@ -218,7 +218,8 @@ unmade_boot Gives setting m seen f (Ok done) none is = absurd is
 unmade_boot Gives setting m seen f (Err ended) none is = rw is (without_image Gives setting m seen f none)
 
 -- and a load of a container that isn't read
-pub unread_so : (Gives : Answering) (top_mib : ℕ) (setting : Setting) (bytes : List ℕ) (seen : Seen) (f : Fault) (r : Result (Unit {0}) Fault)
-    → CannotBeRead bytes f → IsErrAnd r (λ ended. ended ≡ f) → IfErr r (λ ended. LoadMakes Gives top_mib setting bytes seen seen (Err ended))
-unread_so Gives top_mib setting bytes seen f (Ok done) cannot is = absurd is
-unread_so Gives top_mib setting bytes seen f (Err ended) cannot is = rw is (load_made.not_read cannot refl)
+pub unread_when : (Is : List ℕ → Type 0) (Gives : Answering) (top_mib : ℕ) (setting : Setting) (seen : Seen) (f : Fault) (r : Result (Unit {0}) Fault)
+    → ((bytes : List ℕ) → Is bytes → CannotBeRead bytes f) → IsErrAnd r (λ ended. ended ≡ f)
+    → IfErr r (λ ended. (bytes : List ℕ) → Is bytes → LoadMakes Gives top_mib setting bytes seen seen (Err ended))
+unread_when Is Gives top_mib setting seen f (Ok done) cannot is = absurd is
+unread_when Is Gives top_mib setting seen f (Err ended) cannot is = rw is (λ bytes given. load_made.not_read (cannot bytes given) refl)

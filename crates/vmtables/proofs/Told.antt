@@ -38,7 +38,7 @@ sound_fault bytes inventory f shows sound (no_machine {item = item} fails) =
     absurd (sound item (subst (λ i. IsFirstFailing i item) same fails.fails))
 
 -- no item of a machine's inventory fails
-machine_sound : (m : Machine) → IsAccepted m → HasFittingFields m → (item : ℕ) → IsFirstFailing (inventory_of m) item → ⊥
+pub machine_sound : (m : Machine) → IsAccepted m → HasFittingFields m → (item : ℕ) → IsFirstFailing (inventory_of m) item → ⊥
 machine_sound m accepted fits item = none_fails (inventory_of m) m item accepted fits refl
 
 -- what is made of a dump of which a machine is told
@@ -50,7 +50,7 @@ told_text bytes text lent seen same (machine, accepted, fits, shows, describes) 
 
 -- What `decode` made of the bytes.
 
-fault_of_sound : (bytes : List ℕ) (inventory : Inventory) (before after : Seen) (f : Fault) → DumpShows bytes inventory
+pub fault_of_sound : (bytes : List ℕ) (inventory : Inventory) (before after : Seen) (f : Fault) → DumpShows bytes inventory
     → ((item : ℕ) → IsFirstFailing inventory item → ⊥) → DecodeMakes bytes before after (Err f) → f ≡ fault.OutOfMemory
 fault_of_sound bytes inventory before after f shows sound (not_told cannot same) =
     sound_fault bytes inventory f shows sound (why_untold bytes f cannot)

@@ -1,11 +1,11 @@
 -- How a call ends, whatever its command is.
-use Rattle.std.specs.Prelude.{◌≡◌, ◌≢◌, ◌<◌, ◌↔◌, ◌⊎◌, ℕ, true, List, [], Option, IfSome, Result, Ok, Err, IfErr}
+use Rattle.std.specs.Prelude.{◌≡◌, ◌≢◌, ◌<◌, ◌↔◌, ◌⊎◌, ℕ, true, List, [], IfSome, Result, Ok, Err, IfErr}
 use Rattle.vt_outside.specs.Stream.{SourceSeen, SinkSeen, Rose, in_front, behind, Took, TookFront, IsFlushed}
 use Rattle.vmtables.specs.Outcome.{status_of, line_of, input_limit, given_count}
 use Rattle.zone_alloc.specs.Allocators.{AllocState, Begun}
 use Rattle.command_acts.specs.Runs.{Answers}
 use Rattle.firmware_load.specs.Schedules.{Plan}
-use Rattle.load_states.specs.LoadState.{LoadState}
+use Rattle.firmware_load.specs.World.{WorldState}
 use Rattle.vmtables.specs.Causes.{input_fault}
 use Rattle.vmtables.specs.declared.input.InputFault.{InputFault}
 use Rattle.vmtables.specs.declared.input.InputFault.TheVariants as input
@@ -16,12 +16,12 @@ use Rattle.vmtables.specs.declared.status.Status.TheVariants as status
 
 -- what is seen of a call's world, its allocator and its plan
 pub record Seen : Type 0 where
-  pub world : Option LoadState
+  pub world : WorldState
   pub place : AllocState
   pub plan : Plan
 
 -- the same by the states that an allocator and a plan tell
-abbrev pub seen_by : {A C : Type 0} → (A → AllocState) → (C → Plan) → Option LoadState → A → C → Seen
+abbrev pub seen_by : {A C : Type 0} → (A → AllocState) → (C → Plan) → WorldState → A → C → Seen
 seen_by state_of plan_of world a c = record { world = world; place = state_of a; plan = plan_of c }
 
 -- how an allocator may answer that was begun so

@@ -151,3 +151,9 @@ IsBootListed Gives Others = (setting : Setting) (description text : List ℕ) (b
 abbrev pub IsBootTold : Answering → Answering → Type 0
 IsBootTold Gives Others = (setting : Setting) (description text : List ℕ) (boot : Call Gives (Boot setting)) (decode : Call Others Decode)
     → HasBooted description text boot → IsFed text decode → (machine : Machine) × Reads description machine × IsTold machine decode
+
+-- What `boot` wrote of a description is never refused by `decode`, neither as no dump nor for its tables, whatever the streams do.
+abbrev pub IsBootNeverRefused : Answering → Answering → Type 0
+IsBootNeverRefused Gives Others = (setting : Setting) (description text : List ℕ) (boot : Call Gives (Boot setting)) (decode : Call Others Decode)
+    → HasBooted description text boot → decode.source.left ≡ Some text
+    → (decode.answer ≢ status.DumpRefused) × (decode.answer ≢ status.TablesRefused)

@@ -9,6 +9,7 @@ pub mod Build
 pub mod Boot
 pub mod Decode
 pub mod Generate
+pub mod Given
 pub mod Does
 pub mod Complete
 pub mod Shelf

@@ -13,7 +13,7 @@ use Rattle.command_acts.specs.Allocators.{AreZonesOf}
 use Rattle.command_acts.specs.Script.{IsAsked}
 use Rattle.load_states.specs.Loads.{IsBegun}
 use Rattle.load_states.specs.LoadState.{LoadState}
-use Rattle.firmware_load.specs.World.{IsLoadOver}
+use Rattle.firmware_load.specs.World.{IsLoadOver, idle_world}
 use Rattle.vmtables.specs.Calls.{Answering, Seen}
 use Rattle.vmtables.specs.declared.fault.Fault.{Fault}
 use Rattle.vmtables.specs.declared.fault.Fault.TheVariants as fault
@@ -26,7 +26,7 @@ pub record IsImageLoaded (Gives : Answering) (items : List Item) (top : ℕ) (se
   pub begun : LoadState
   pub was_begun : IsBegun items top setting.fill begun
   pub world : LoadState
-  pub world_is : after.world ≡ Some world
+  pub world_is : after.world.load ≡ Some world
   pub load : IsLoadOver (Gives after.place.begun) begun (before.plan.events setting.seed) after.plan.left after.place.handed answer world
   pub events : after.plan.events ≡ before.plan.events
   pub zones : AreZonesOf top after.place.begun.zones
@@ -49,7 +49,7 @@ pub record IsRefusedFree (May : Answers) (top : ℕ) (handed : List Range) (aske
 abbrev pub IsUnloaded : List Item → ℕ → ℕ → Seen → Seen → Type 0
 IsUnloaded items top fill before after =
     (after.plan ≡ before.plan)
-    × (((after.world ≡ None) × (after.place ≡ before.place)) ⊎ IsSomeAnd after.world (IsBegun items top fill))
+    × (((after.world ≡ idle_world) × (after.place ≡ before.place)) ⊎ IsSomeAnd after.world.load (IsBegun items top fill))
 
 -- How the loading of items fails: it ended before its script did, or memory ran out before.
 pub data FailsToLoad (Gives : Answering) (items : List Item) (top : ℕ) (setting : Setting) (before after : Seen) : Fault → Type 0 where

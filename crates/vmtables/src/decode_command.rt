@@ -100,9 +100,9 @@ fn inventory_in(alloc: Global, bytes: Bytes) -> Result<Inventory, Fault>
 // The memory of which these bytes are the dump.
 fn memory_in(alloc: Global, bytes: &[u8]) -> Result<GuestMemory, Fault>
     requires { length bytes.now < 2 ^ 32 }
-    ensures text { IfOk result (λ memory. dump memory ≡ bytes.now) }
-    ensures lawful { IfOk result IsMemory }
-    ensures holds { IfOk result HoldsBytes }
+    ensures text { IfOk result (λ held. dump held.memory ≡ bytes.now) }
+    ensures lawful { IfOk result (λ held. IsMemory held.memory) }
+    ensures holds { IfOk result (λ held. HoldsBytes held.memory) }
     ensures err { IfErr result (CannotBeListed bytes.now) }
 {
     match read_dump(alloc, bytes) {

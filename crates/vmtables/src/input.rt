@@ -1,7 +1,11 @@
 ghost use Rattle.std.specs.Prelude.{◌≡◌, ◌≢◌, ◌<◌, ◌≤◌, ◌↔◌, [], true, length, take, Err, IfErr, IfOk, OnErr, OnOk, IfSome};
 ghost use Rattle.vt_outside.specs.Stream.{ReadFailed, Rose, in_front};
+ghost use Rattle.cfg_directory.specs.Fed.{judged};
+ghost use Rattle.vmtables.specs.Given.{WasGiven};
 ghost use Rattle.vmtables.specs.Outcome.{input_limit, given_count};
 
+use crate::taker::Taker;
+use cfg_directory::ImageReader;
 use std::alloc::Global;
 use vt_outside::{Bytes, Failed, OutOfMemory, Source};
 
@@ -48,16 +52,57 @@ pub(crate) fn read_to_end<S: Source>(alloc: Global, source: &mut S) -> Result<By
     ensures sound { result ≢ Err InputFault.Failed → (S.seen source.new).faults ≡ (S.seen source.old).faults }
 {
     let mut bytes = Bytes::new(alloc);
+    match read_into(alloc, source, &mut bytes) {
+        Ok(()) => Ok(bytes),
+        Err(fault) => Err(fault),
+    }
+}
+
+/// Reads `source` to its end as a container, piece by piece, and returns the reader that was fed its bytes, at most 67,108,864. A fault of the
+/// container ends no reading: the reader tells it in the end. It takes memory from `alloc` for the files, each once, and for a buffer of
+/// 65,536 bytes. Returns what `read_to_end` does where the reading fails.
+pub(crate) fn read_container<S: Source>(
+    alloc: Global,
+    source: &mut S,
+) -> Result<ImageReader, InputFault>
+    ensures given { IfOk result (λ reader. WasGiven (λ bytes. reader ≡ judged bytes) (S.seen source.old) (S.seen source.new)) }
+    ensures failed { result ≡ Err InputFault.Failed → Rose (S.seen source.old).faults (S.seen source.new).faults }
+    ensures too_long { IfSome (S.seen source.old).left (λ _.
+        (result ≡ Err InputFault.TooLong) ↔ (input_limit < given_count (S.seen source.old).left (S.seen source.new).left)) }
+    ensures sound { result ≢ Err InputFault.Failed → (S.seen source.new).faults ≡ (S.seen source.old).faults }
+{
+    let mut reader = ImageReader::new(alloc);
+    match read_into(alloc, source, &mut reader) {
+        Ok(()) => Ok(reader),
+        Err(fault) => Err(fault),
+    }
+}
+
+// Reads a source to its end into what takes its bytes, and was given none yet.
+fn read_into<S: Source, T: Taker>(
+    alloc: Global,
+    source: &mut S,
+    taker: &mut T,
+) -> Result<(), InputFault>
+    requires { T.took taker.old [] }
+    ensures given { OnOk result (WasGiven (T.took taker.new) (S.seen source.old) (S.seen source.new)) }
+    ensures failed { result ≡ Err InputFault.Failed → Rose (S.seen source.old).faults (S.seen source.new).faults }
+    ensures too_long { IfSome (S.seen source.old).left (λ _.
+        (result ≡ Err InputFault.TooLong) ↔ (input_limit < given_count (S.seen source.old).left (S.seen source.new).left)) }
+    ensures sound { result ≢ Err InputFault.Failed → (S.seen source.new).faults ≡ (S.seen source.old).faults }
+{
+    let mut len = 0;
     let mut piece = buffer(alloc, PIECE)?;
     loop {
         let count = read_piece(source, &mut piece)?;
         if count == 0 {
-            return Ok(bytes);
+            return Ok(());
         }
-        if count > INPUT_LIMIT - bytes.len() {
+        if count > INPUT_LIMIT - len {
             return Err(InputFault::TooLong);
         }
-        bytes.extend(&piece[..count])?;
+        taker.take(&piece[..count])?;
+        len += count;
     }
 }
 

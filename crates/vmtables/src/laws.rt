@@ -6,7 +6,7 @@ ghost use Rattle.vt_words.specs.declared.command.Command.TheVariants.{Boot, Gen}
 ghost use Rattle.vt_words.specs.declared.setting.Setting.{Setting};
 ghost use Rattle.command_acts.specs.Allocators.{MayAnswer};
 ghost use Rattle.vmtables.specs.Calls.{Answered, Seen};
-ghost use Rattle.vmtables.specs.Complete.{IsBootComplete, IsBootListed, IsBootTold, IsBuildComplete, IsDecodeComplete, IsDecodeExact, IsGenComplete};
+ghost use Rattle.vmtables.specs.Complete.{IsBootComplete, IsBootListed, IsBootTold, IsBuildComplete, IsDecodeComplete, IsDecodeExact, IsGenComplete, IsBootNeverRefused};
 ghost use Rattle.vmtables.specs.Complete.{IsListComplete, IsListExact, IsLoadComplete, IsShownListed, IsShownTold};
 ghost use Rattle.vmtables.specs.Does.{Does};
 ghost use Rattle.vmtables.specs.Shelf.{shelf_answers};
@@ -82,4 +82,10 @@ pub fn a_booted_machine_is_listed<A: ZoneAlloc, B: ZoneAlloc>()
 /// unless memory ran out, where no read, no write and no flush failed. The allocators of the two calls may differ.
 pub fn a_booted_machine_is_told<A: ZoneAlloc, B: ZoneAlloc>()
     ensures { IsBootTold (MayAnswer A.state A.gives) (MayAnswer B.state B.gives) }
+{}
+
+/// States that `decode` of what `boot` wrote of a description never answers that it is no dump, nor that its tables have a fault or are no
+/// machine's, also where a read, a write or a flush failed. The allocators of the two calls may differ.
+pub fn what_boot_wrote_is_never_refused<A: ZoneAlloc, B: ZoneAlloc>()
+    ensures { IsBootNeverRefused (MayAnswer A.state A.gives) (MayAnswer B.state B.gives) }
 {}

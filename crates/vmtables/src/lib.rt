@@ -23,6 +23,7 @@ mod load_command;
 mod loading;
 mod machine_booting;
 mod status;
+mod taker;
 mod top_call;
 mod writing;
 

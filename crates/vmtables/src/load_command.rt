@@ -1,6 +1,7 @@
 ghost use Rattle.std.specs.Prelude.{◌≡◌, ◌≢◌, ℕ, List, ◌≤◌, Ok, Err, IfErr, IfOk, OnErr, OnOk, IsSomeAnd};
 ghost use Rattle.cfg_directory.specs.declared.item.Item.{Item};
 ghost use Rattle.cfg_directory.specs.Container.{IsContainer};
+ghost use Rattle.cfg_directory.specs.Fed.{judged};
 ghost use Rattle.command_acts.specs.Allocators.{MayAnswer};
 ghost use Rattle.memory_dump.specs.Dump.{dump};
 ghost use Rattle.vmtables.specs.Calls.{ReadsAll, Ran, Streams, seen_by};
@@ -9,13 +10,13 @@ ghost use Rattle.vmtables.specs.Loading.{IsImageLoaded};
 ghost use Rattle.vmtables.specs.Outcome.{status_of};
 
 use crate::fault::Fault;
-use crate::input::read_to_end;
+use crate::input::read_container;
 use crate::loading::{MIB, load_items};
 use crate::writing::write_dump;
-use cfg_directory::{Items, take_image};
+use cfg_directory::{ImageReader, Items};
 use firmware_load::{Schedule, World};
 use std::alloc::Global;
-use vt_outside::{Bytes, Sink, Source};
+use vt_outside::{Sink, Source};
 use vt_words::Setting;
 use zone_alloc::ZoneAlloc;
 
@@ -40,39 +41,38 @@ pub(crate) fn load<S: Source, K: Sink, A: ZoneAlloc, C: Schedule>(
     ensures streams { Streams (status_of result)
         (S.seen source.old) (S.seen source.new) (K.seen out.old) (K.seen out.new) }
 {
-    let bytes = read_to_end(alloc, source)?;
-    load_container(alloc, top_mib, setting, bytes, place, plan, world)?;
+    let reader = read_container(alloc, source)?;
+    load_container(alloc, top_mib, setting, reader, place, plan, world)?;
     write_dump(world, out)
 }
 
-// Loads the files of a container into the world's memory. The container is given up, so that a file that has most of its bytes isn't held
-// twice.
+// Loads the files of the container that a reader was fed into the world's memory.
 fn load_container<A: ZoneAlloc, C: Schedule>(
     alloc: Global,
     top_mib: u32,
     setting: &Setting,
-    container: Bytes,
+    container: ImageReader,
     place: &mut A,
     plan: &mut C,
     world: &mut World,
 ) -> Result<(), Fault>
     requires lawful { (64 ≤ top_mib) × (top_mib ≤ 3072) }
-    ensures ok { OnOk result ((items : List Item) × IsContainer container items
+    ensures ok { OnOk result ((bytes : List ℕ) → container ≡ judged bytes → (items : List Item) × IsContainer bytes items
         × IsImageLoaded (MayAnswer A.state A.gives) items (mib top_mib) setting.now (Ok tt)
         (seen_by A.state C.plan world.old place.old plan.old)
         (seen_by A.state C.plan world.new place.new plan.new)) }
-    ensures err { IfErr result (λ fault. LoadMakes (MayAnswer A.state A.gives) top_mib setting.now container
+    ensures err { IfErr result (λ fault. (bytes : List ℕ) → container ≡ judged bytes → LoadMakes (MayAnswer A.state A.gives) top_mib setting.now bytes
         (seen_by A.state C.plan world.old place.old plan.old)
         (seen_by A.state C.plan world.new place.new plan.new) (Err fault)) }
 {
-    let items = items_of(alloc, container)?;
+    let items = items_of(container)?;
     load_items(alloc, items, top_mib * MIB, setting, place, plan, world)
 }
 
-// The files of a container.
-fn items_of(alloc: Global, container: Bytes) -> Result<Items, Fault>
-    ensures ok { IfOk result (IsContainer container) }
-    ensures err { IfErr result (CannotBeRead container) }
+// The files of the container that a reader was fed.
+fn items_of(container: ImageReader) -> Result<Items, Fault>
+    ensures ok { IfOk result (λ items. (bytes : List ℕ) → container ≡ judged bytes → IsContainer bytes items) }
+    ensures err { IfErr result (λ fault. (bytes : List ℕ) → container ≡ judged bytes → CannotBeRead bytes fault) }
 {
-    Ok(take_image(alloc, container)?)
+    Ok(container.finish()?)
 }

@@ -16,12 +16,12 @@ use vt_outside::{Failed, Sink, write_all};
 
 /// Writes the dump of the world's memory, and flushes it.
 pub(crate) fn write_dump<K: Sink>(world: &World, out: &mut K) -> Result<(), Fault>
-    requires { IsSome world.now }
-    ensures ok { OnOk result (IsSomeAnd world.now (λ w. TookWhole (dump (memory_of w)) (K.seen out.old) (K.seen out.new))) }
+    requires { IsSome world.now.load }
+    ensures ok { OnOk result (IsSomeAnd world.now.load (λ w. TookWhole (dump (memory_of w)) (K.seen out.old) (K.seen out.new))) }
     ensures fault { IfErr result (λ fault. fault ≡ Fault.WriteFault) }
-    ensures front { OnErr result (IsSomeAnd world.now (λ w. TookFront (dump (memory_of w)) (K.seen out.old) (K.seen out.new))) }
-    ensures lawful { IsSomeAnd world.now (λ w. IsMemory (memory_of w)) }
-    ensures holds { IsSomeAnd world.now (λ w. HoldsBytes (memory_of w)) }
+    ensures front { OnErr result (IsSomeAnd world.now.load (λ w. TookFront (dump (memory_of w)) (K.seen out.old) (K.seen out.new))) }
+    ensures lawful { IsSomeAnd world.now.load (λ w. IsMemory (memory_of w)) }
+    ensures holds { IsSomeAnd world.now.load (λ w. HoldsBytes (memory_of w)) }
 {
     match dump_to(world.memory(), out) {
         Ok(()) => flush(out),

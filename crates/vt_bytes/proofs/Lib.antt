@@ -1,4 +1,5 @@
 pub mod Numbers
+pub mod LaneSums
 pub mod Puts
 pub mod Spelt
 pub mod Each

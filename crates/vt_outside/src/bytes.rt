@@ -39,6 +39,14 @@ impl Bytes {
         })
     }
 
+    /// Takes room for `count` bytes more at once: so many are added without taking more. The bytes stay. It fails with `OutOfMemory`
+    /// only where memory runs out.
+    pub fn reserve(&mut self, count: usize) -> Result<(), OutOfMemory>
+        ensures { self.new ≡ self.old }
+    {
+        self.bytes.reserve(count)
+    }
+
     /// Adds `byte` at the end. On `OutOfMemory` nothing is added, and the bytes are what they were.
     pub fn push(&mut self, byte: u8) -> Result<(), OutOfMemory>
         ensures ok { OnOk result (self.new ≡ self.old ++ byte ∷ []) }

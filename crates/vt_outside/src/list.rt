@@ -40,6 +40,15 @@ impl<T: Drop> List<T> {
         })
     }
 
+    /// Takes room for `count` items more at once: so many are added without taking more. The items stay. It fails with `OutOfMemory`
+    /// only where memory runs out.
+    pub fn reserve(&mut self, count: usize) -> Result<(), OutOfMemory>
+        ensures { self.new ≡ self.old }
+    {
+        self.items.reserve_exact(count)?;
+        Ok(())
+    }
+
     /// Adds `item` at the end. On `OutOfMemory` it isn't added, and the list is what it was.
     pub fn push(&mut self, item: T) -> Result<(), OutOfMemory>
         ensures ok { OnOk result (self.new ≡ self.old ++ item ∷ []) }

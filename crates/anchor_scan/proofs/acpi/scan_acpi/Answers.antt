@@ -12,13 +12,13 @@ returns-in_default-clause-shown c = c.find_rsdp.ensures.none.0 c.in_default.is
 
 pub walk-requires : goal.walk-requires
 walk-requires c =
-    let same = all_within c.args.memory.now c.top-top.ensures.lawful in
+    let same = all_within c.args.memory.now.memory c.top-top.ensures.lawful in
     subst (λ (view : View). HasRsdp view c.in-Some.rsdp) (sym same) c.in-Some.ensures.some.0
 
 pub returns-in_err-walk-clause-refused : goal.returns-in_err-walk-clause-refused
 returns-in_err-walk-clause-refused c =
     let p = err_from_is_err_and c.from_residual.result c.from_residual.ensures.1 in
-    let same = all_within c.args.memory.now c.top-top.ensures.lawful in
+    let same = all_within c.args.memory.now.memory c.top-top.ensures.lawful in
     rw (p.1, p.2) (⊎_elim (λ memory. inl memory)
     (λ first. inr (record {
       rsdp = c.in-Some.rsdp;
@@ -28,7 +28,7 @@ returns-in_err-walk-clause-refused c =
 
 pub returns-clause-shown : goal.returns-clause-shown
 returns-clause-shown c =
-    let same = all_within c.args.memory.now c.top-top.ensures.lawful in
+    let same = all_within c.args.memory.now.memory c.top-top.ensures.lawful in
     record {
       rsdp = c.in-Some.rsdp;
       least = c.in-Some.ensures.some.1;

@@ -6,7 +6,7 @@ use Rattle.anchor_scan.proofs.anchor.read_anchor.Goals as goal
 
 pub returns : goal.returns
 returns c =
-    let m = c.args.memory.now in
+    let m = c.args.memory.now.memory in
     let address = c.args.address in
     let bytes = c.copy_out.new.bytes in
     let rows = c.anchor_rows-rows.ensures.rows in

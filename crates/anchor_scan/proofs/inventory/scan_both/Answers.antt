@@ -9,15 +9,15 @@ use Rattle.anchor_scan.proofs.inventory.scan_both.Goals as goal
 
 pub returns-in_err-smbios-clause-refused : goal.returns-in_err-smbios-clause-refused
 returns-in_err-smbios-clause-refused c =
-    let view = seen c.args.memory.now in
+    let view = seen c.args.memory.now.memory in
     let p = err_from_is_err_and c.from_residual-in_err-smbios.result c.from_residual-in_err-smbios.ensures.1 in
     let part = acpi_part view c.in_ok-acpi.acpi c.in_ok-acpi.ensures.shown in
     rw (p.1, p.2) (smbios_told view c.in_err-smbios.field-0.0 part c.in_err-smbios.ensures.refused)
 
 pub returns-clause-shown : goal.returns-clause-shown
 returns-clause-shown c =
-    let view = seen c.args.memory.now in
-    let top = c.args.memory.now.top in
+    let view = seen c.args.memory.now.memory in
+    let top = c.args.memory.now.memory.top in
     let none = λ (is : c.in_ok-smbios.smbios ≡ None). c.scan_smbios.ensures.none.0 (c.in_ok-smbios.was ∙ ap Ok is) in
     let smbios = smbios_part view c.in_ok-smbios.smbios c.in_ok-smbios.ensures.shown none in
     subst (λ (inventory : Inventory). Shows top view inventory)

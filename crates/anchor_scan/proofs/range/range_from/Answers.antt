@@ -11,7 +11,7 @@ copy_out-requires c i below =
 
 pub returns : goal.returns
 returns c =
-    let m = c.args.memory.now in
+    let m = c.args.memory.now.memory in
     let bytes = c.copy_out.new.bytes in
     let count : length c.deref_mut.result.now ≡ c.min-size.result = c.deref_mut.ensures.len ∙ c.in_ok-bytes.ensures.len in
     let size : length bytes ≡ c.min-size.result =

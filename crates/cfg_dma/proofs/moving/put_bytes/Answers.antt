@@ -9,13 +9,13 @@ use Rattle.vt_bytes.proofs.Bytes.{bytes_at-none}
 pub loop-done-init : goal.loop-done-init
 loop-done-init c = record {
   within = omega arith;
-  so_far = sym (ap (with_bytes_at c.args.items.now c.args.select c.args.offset) (sym (bytes_at-none c.args.memory.now c.args.address 0 refl))
+  so_far = sym (ap (with_bytes_at c.args.items.now c.args.select c.args.offset) (sym (bytes_at-none c.args.memory.now.memory c.args.address 0 refl))
       ∙ written_none c.args.items.now c.args.select c.args.offset);
 }
 
 pub part_in_frame-part-requires-clause-ram : goal.part_in_frame-part-requires-clause-ram
 part_in_frame-part-requires-clause-ram c =
-    subst (λ k. IsRam c.args.memory.now.top (c.args.address + k)) (sym c.from.ensures) (c.requires.ram c.loop-done.done c.loop-done-test.true)
+    subst (λ k. IsRam c.args.memory.now.memory.top (c.args.address + k)) (sym c.from.ensures) (c.requires.ram c.loop-done.done c.loop-done-test.true)
 
 pub overflow_add-offset : goal.overflow_add-offset
 overflow_add-offset c = omega (arith, fits_small c.args.items.now c.args.select (c.args.offset + c.args.count) c.requires.lawful c.requires.fits)
@@ -24,7 +24,7 @@ pub write_at-requires : goal.write_at-requires
 write_at-requires c =
     fits_less c.loop-done.items c.args.select (c.args.offset + c.loop-done.done + length c.part_in_frame-part.result.now) (c.args.offset + c.args.count)
     (omega arith)
-    (fits_left c.args.items.now c.loop-done.items c.args.memory.now c.args.select c.args.offset c.args.address c.loop-done.done c.args.count
+    (fits_left c.args.items.now c.loop-done.items c.args.memory.now.memory c.args.select c.args.offset c.args.address c.loop-done.done c.args.count
     c.requires.lawful.distinct c.requires.fits c.loop-done.invariant.within c.loop-done.invariant.so_far)
 
 pub loop-done-preserved : goal.loop-done-preserved
@@ -32,8 +32,8 @@ loop-done-preserved c =
     let part = c.part_in_frame-part.result.now in
     record {
       within = omega arith;
-      so_far = written_more c.args.items.now c.loop-done.items c.write_at.new.self c.args.memory.now c.args.select c.args.offset c.args.address
+      so_far = written_more c.args.items.now c.loop-done.items c.write_at.new.self c.args.memory.now.memory c.args.select c.args.offset c.args.address
           c.loop-done.done (length part) part
-          (c.part_in_frame-part.ensures.value ∙ ap (λ k. bytes_at c.args.memory.now (c.args.address + k) (length part)) c.from.ensures)
+          (c.part_in_frame-part.ensures.value ∙ ap (λ k. bytes_at c.args.memory.now.memory (c.args.address + k) (length part)) c.from.ensures)
           c.loop-done.invariant.so_far c.write_at.ensures;
     }

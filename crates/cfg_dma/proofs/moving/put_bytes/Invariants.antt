@@ -6,7 +6,7 @@ use Rattle.cfg_dma.proofs.moving.put_bytes.Given as goal
 abbrev pub invariant-loop-done : goal.invariant-loop-done
 invariant-loop-done l = record {
   within : l.done ≤ l.count;
-  so_far : l.items ≡ with_bytes_at l.fn.items l.select l.offset (bytes_at l.memory l.address l.done);
+  so_far : l.items ≡ with_bytes_at l.fn.items l.select l.offset (bytes_at l.memory.memory l.address l.done);
 }
 
 abbrev pub decreases-loop-done : goal.decreases-loop-done

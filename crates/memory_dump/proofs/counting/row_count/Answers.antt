@@ -2,9 +2,9 @@ use Rattle.std.proofs.Common.{arith}
 use Rattle.memory_dump.proofs.FeedsOfDump.{CountsRows, counts_rows}
 use Rattle.memory_dump.proofs.counting.row_count.Goals as goal
 
-rows : (c : goal.After-line_feeds) → CountsRows c.args.memory.now c.line_feeds.result
+rows : (c : goal.After-line_feeds) → CountsRows c.args.memory.now.memory c.line_feeds.result
 rows c =
-    counts_rows c.args.memory.now c.dump_to.result c.unwrap.result c.new-lines.result c.dump_to.new.out c.line_feeds.result c.dump_to.ensures.lawful
+    counts_rows c.args.memory.now.memory c.dump_to.result c.unwrap.result c.new-lines.result c.dump_to.new.out c.line_feeds.result c.dump_to.ensures.lawful
     c.dump_to.ensures.holds c.unwrap.ensures c.dump_to.ensures.ok c.new-lines.ensures c.line_feeds.ensures
 
 pub overflow_sub-result : goal.overflow_sub-result

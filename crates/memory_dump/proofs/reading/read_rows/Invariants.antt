@@ -4,7 +4,7 @@ use Rattle.memory_dump.proofs.reading.read_rows.Given as goal
 
 abbrev pub invariant-loop-row : goal.invariant-loop-row
 invariant-loop-row l = record {
-  said : behind_so l.initial.memory 2 0 l.text ≡ behind_so l.memory l.number l.from l.rest;
+  said : behind_so l.initial.memory.memory 2 0 l.text ≡ behind_so l.memory.memory l.number l.from l.rest;
   few : l.number + length l.rest ≤ 2 + length l.text;
 }
 

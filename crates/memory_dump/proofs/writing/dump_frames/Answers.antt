@@ -17,13 +17,13 @@ dump_frame-requires-clause-ram g c = frame_ram _ _ c.args.count _ c.requires.ram
 pub returns-in_err-dump_frame-clause-front : goal.returns-in_err-dump_frame-clause-front
 returns-in_err-dump_frame-clause-front g c =
     on_err c.from_residual.result _
-    (frame_failed _ _ _ c.args.memory.now c.args.start _ c.args.count c.loop-k-test.true c.loop-k.invariant c.in_err-dump_frame.ensures.front)
+    (frame_failed _ _ _ c.args.memory.now.memory c.args.start _ c.args.count c.loop-k-test.true c.loop-k.invariant c.in_err-dump_frame.ensures.front)
 
 pub loop-k-preserved : goal.loop-k-preserved
 loop-k-preserved g c =
     elim c.if-may_have_lines.branch [
       | then-may_have_lines+in_ok-dump_frame w ↦ ap g.K.Sink.seen w.out-is
-          ∙ frame_took _ _ _ c.args.memory.now c.args.start _ c.loop-k.invariant w.in_ok-dump_frame.ensures.ok
+          ∙ frame_took _ _ _ c.args.memory.now.memory c.args.start _ c.loop-k.invariant w.in_ok-dump_frame.ensures.ok
       | else-may_have_lines w ↦ ap g.K.Sink.seen w.out-is
-          ∙ frame_passed _ _ c.args.memory.now c.args.start _ c.loop-k.invariant (c.may_have_lines.ensures w.if-may_have_lines.false)
+          ∙ frame_passed _ _ c.args.memory.now.memory c.args.start _ c.loop-k.invariant (c.may_have_lines.ensures w.if-may_have_lines.false)
     ]

@@ -11,7 +11,7 @@ loop-k-init c = record { size = c.told-text; room = omega arith; so_far = text_n
 
 pub loop-k-preserved : goal.loop-k-preserved
 loop-k-preserved c =
-    let m = c.args.memory.now in
+    let m = c.args.memory.now.memory in
     let start = c.args.address in
     let row = row_of_frame m start c.loop-k.k _ c.window-frame.ensures.value c.loop-k-test.true in
     elim c.if-not-is_filled_row.branch [

@@ -5,8 +5,8 @@ use Rattle.test_events.proofs.steps.goes.Given as goal
 
 abbrev pub invariant-loop-count : goal.invariant-loop-count
 invariant-loop-count g l = record {
-  some : IsSome l.world;
+  some : IsSome l.world.load;
   begun : (g.A.ZoneAlloc.state l.place).begun.ready ≡ true;
   zones : AreZonesOf 0x4000000 (g.A.ZoneAlloc.state l.place).begun.zones;
-  handed : IfSome l.world (λ w. (g.A.ZoneAlloc.state l.place).handed ≡ placed_ranges w.placed);
+  handed : IfSome l.world.load (λ w. (g.A.ZoneAlloc.state l.place).handed ≡ placed_ranges w.placed);
 }

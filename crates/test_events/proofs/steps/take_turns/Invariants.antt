@@ -5,8 +5,8 @@ use Rattle.test_events.proofs.steps.take_turns.Given as goal
 
 abbrev pub invariant-loop : goal.invariant-loop
 invariant-loop g l = record {
-  some : IsSome l.world;
+  some : IsSome l.world.load;
   begun : (g.A.ZoneAlloc.state l.place).begun.ready ≡ true;
   zones : AreZonesOf 0x4000000 (g.A.ZoneAlloc.state l.place).begun.zones;
-  handed : IfSome l.world (λ w. (g.A.ZoneAlloc.state l.place).handed ≡ placed_ranges w.placed);
+  handed : IfSome l.world.load (λ w. (g.A.ZoneAlloc.state l.place).handed ≡ placed_ranges w.placed);
 }

@@ -17,6 +17,6 @@ returns-clause-ran g c = λ source.
     let written = c.write_text.ensures in
     plain_wrote (GenMakes (MayAnswer g.A.ZoneAlloc.state g.A.ZoneAlloc.gives) c.args.processors) c.write_text.result c.as_bytes.result.now _ _ source _ _
     (counted_so (MayAnswer g.A.ZoneAlloc.state g.A.ZoneAlloc.gives) c.args.processors booted.counts.files booted.counts.bytes booted.counts.commands
-    c.row_count-rows.result c.as_bytes.result.now c.memory.result.now _ _ booted.ensures.ok booted.ensures.counts c.row_count-rows.ensures
-    c.memory.ensures (c.as_bytes.ensures.value ∙ c.deref.ensures.0 ∙ c.summary.ensures))
+    c.row_count-rows.result c.as_bytes.result.now c.memory.result.now.memory _ _ booted.ensures.ok booted.ensures.counts c.row_count-rows.ensures
+    c.memory.ensures.memory (c.as_bytes.ensures.value ∙ c.deref.ensures.0 ∙ c.summary.ensures))
     written.ok written.fault written.front

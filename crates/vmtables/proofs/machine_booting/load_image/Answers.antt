@@ -17,4 +17,4 @@ pub returns-clause-ok : goal.returns-clause-ok
 returns-clause-ok g c =
     booted_so (MayAnswer g.A.ZoneAlloc.state g.A.ZoneAlloc.gives) c.args.setting.now c.args.machine.now _ _ _ _
     (λ begun handed request place may. may.lawful) c.requires.built c.requires.small c.in_ok-load_items.ensures.ok
-    (held_by _ c.memory.result.now c.memory.ensures c.holds_bytes.ensures)
+    (held_by _ c.memory.result.now.memory c.memory.ensures.memory c.holds_bytes.ensures)

@@ -7,7 +7,7 @@ use Rattle.anchor_scan.proofs.anchor.SmbiosAnchorAnchorKind.stands.Goals as goal
 
 pub returns : goal.returns
 returns c =
-    let m = c.args.memory.now in
+    let m = c.args.memory.now.memory in
     let address = c.args.address in
     let anchor = c.read_anchor.result.anchor in
     let structures = c.read_anchor.result.structures in

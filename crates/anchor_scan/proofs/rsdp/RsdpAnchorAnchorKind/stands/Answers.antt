@@ -4,7 +4,7 @@ use Rattle.anchor_scan.proofs.rsdp.RsdpAnchorAnchorKind.stands.Goals as goal
 
 pub returns : goal.returns
 returns c =
-    let m = c.args.memory.now in
+    let m = c.args.memory.now.memory in
     let address = c.args.address in
     let bytes = c.copy_out.new.bytes in (
       λ passes. rsdp_stands m address bytes c.requires.from c.requires.aligned (omega (arith, c.requires.below, c.if-address.false))

@@ -7,13 +7,13 @@ use Rattle.anchor_scan.proofs.view.SeenMemView.copy_out.Goals as goal
 
 pub copy_out-requires : goal.copy_out-requires
 copy_out-requires c =
-    let m = c.args.self.now.0.now in
+    let m = c.args.self.now.0.now.memory in
     range_ram m c.args.address (length c.args.bytes.now)
     (subst (λ (view : View). is_ram view c.args.address (length c.args.bytes.now) ≡ true) (all_within m c.top-top.ensures.lawful) c.requires)
 
 pub returns : goal.returns
 returns c =
-    let m = c.args.self.now.0.now in
+    let m = c.args.self.now.0.now.memory in
     let same = all_within m c.top-top.ensures.lawful in
     let ram = range_ram m c.args.address (length c.args.bytes.now)
     (subst (λ (view : View). is_ram view c.args.address (length c.args.bytes.now) ≡ true) same c.requires) in

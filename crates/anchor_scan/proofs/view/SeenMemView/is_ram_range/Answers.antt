@@ -6,6 +6,6 @@ use Rattle.anchor_scan.proofs.view.SeenMemView.is_ram_range.Goals as goal
 
 pub returns : goal.returns
 returns c =
-    let m = c.args.self.now.0.now in
+    let m = c.args.self.now.0.now.memory in
     c.is_ram_range.ensures.value ∙ sym (range_tested m c.args.address c.args.count)
     ∙ ap (λ (view : View). is_ram view c.args.address c.args.count) (sym (all_within m c.top-top.ensures.lawful))

@@ -21,12 +21,12 @@ invariant_of-self c =
     subst (λ (d : DeviceState). LieInFile d c.args.count) (sym c.self.view_is) c.requires.fits in
     written_device c.self.inside.items c.put_bytes.new.items c.self.inside.directory c.self.inside.select c.self.inside.offset c.self.inside.address
     c.args.count c.args.address (vec_capacity c.self.inside.finished - vec_len c.self.inside.finished) c.self.inside.flight c.self.inside.finished.items
-    c.args.memory.now c.self.invariant.1.items c.put_bytes.ensures.kept c.self.invariant.0 fits c.put_bytes.ensures.after
+    c.args.memory.now.memory c.self.invariant.1.items c.put_bytes.ensures.kept c.self.invariant.0 fits c.put_bytes.ensures.after
     (ap (λ (d : DeviceState). d.flight) c.self.view_is ∙ c.requires.idle)
 
 pub returns : goal.returns
 returns c =
     let fits = subst (λ (d : DeviceState). LieInFile d c.args.count) (sym c.self.view_is) c.requires.fits in
-    written_is _ c.put_bytes.new.items c.args.memory.now c.args.address c.args.count c.self.invariant.1.items fits c.put_bytes.ensures.after
-    ∙ ap (λ (d : DeviceState). record (advanced d c.args.count) { items = with_bytes_at d.items d.select d.offset (bytes_at c.args.memory.now c.args.address c.args.count) })
+    written_is _ c.put_bytes.new.items c.args.memory.now.memory c.args.address c.args.count c.self.invariant.1.items fits c.put_bytes.ensures.after
+    ∙ ap (λ (d : DeviceState). record (advanced d c.args.count) { items = with_bytes_at d.items d.select d.offset (bytes_at c.args.memory.now.memory c.args.address c.args.count) })
     c.self.view_is

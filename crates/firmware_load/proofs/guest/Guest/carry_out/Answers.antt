@@ -19,32 +19,32 @@ refusal-requires-clause-distinct g c =
 pub refusal-requires-clause-low : goal.refusal-requires-clause-low
 refusal-requires-clause-low g c =
     subst (λ infos. EndLow infos (places_in c.args.self.now.placements.placed.items infos)) (sym c.requires.ready.infos)
-    (end_low c.args.self.now.memory.top (files_of c.args.self.now.device.items) c.args.self.now.placements.placed.items
+    (end_low c.args.self.now.memory.memory.top (files_of c.args.self.now.device.items) c.args.self.now.placements.placed.items
     (distinct_infos c.args.self.now.device.items c.requires.ready.items.distinct) c.requires.ready.loading)
 
 pub returns-in-Some-clause-goes : goal.returns-in-Some-clause-goes
 returns-in-Some-clause-goes g c = λ script.
     goes_refused (MayAnswer g.A.ZoneAlloc.state g.A.ZoneAlloc.gives (g.A.ZoneAlloc.state c.args.place.now).begun)
     (load_at c.args.self.now (AtCommand c.args.index) c.args.listed.now script) c.args.index c.args.entry.now c.in-Some.cause
-    (told_early c.args.self.now.memory (files_of c.args.self.now.device.items) c.args.self.now.placements.infos.items
+    (told_early c.args.self.now.memory.memory (files_of c.args.self.now.device.items) c.args.self.now.placements.infos.items
     c.args.self.now.placements.placed.items c.args.entry.now c.refusal.result _ c.requires.ready.infos c.refusal.ensures c.in-Some.is)
 
 pub allocate-requires-clause-early : goal.allocate-requires-clause-early
 allocate-requires-clause-early g c =
     subst (λ (entry : Entry). early_cause entry (progress_now c.args.self.now) ≡ None) c.in-Allocate.is
-    (told_early c.args.self.now.memory (files_of c.args.self.now.device.items) c.args.self.now.placements.infos.items
+    (told_early c.args.self.now.memory.memory (files_of c.args.self.now.device.items) c.args.self.now.placements.infos.items
     c.args.self.now.placements.placed.items c.args.entry.now c.refusal.result None c.requires.ready.infos c.refusal.ensures c.in_default.is)
 
 pub add_pointer-requires-clause-early : goal.add_pointer-requires-clause-early
 add_pointer-requires-clause-early g c =
     subst (λ (entry : Entry). early_cause entry (progress_now c.args.self.now) ≡ None) c.in-AddPointer.is
-    (told_early c.args.self.now.memory (files_of c.args.self.now.device.items) c.args.self.now.placements.infos.items
+    (told_early c.args.self.now.memory.memory (files_of c.args.self.now.device.items) c.args.self.now.placements.infos.items
     c.args.self.now.placements.placed.items c.args.entry.now c.refusal.result None c.requires.ready.infos c.refusal.ensures c.in_default.is)
 
 pub add_checksum-requires-clause-early : goal.add_checksum-requires-clause-early
 add_checksum-requires-clause-early g c =
     subst (λ (entry : Entry). early_cause entry (progress_now c.args.self.now) ≡ None) c.in-AddChecksum.is
-    (told_early c.args.self.now.memory (files_of c.args.self.now.device.items) c.args.self.now.placements.infos.items
+    (told_early c.args.self.now.memory.memory (files_of c.args.self.now.device.items) c.args.self.now.placements.infos.items
     c.args.self.now.placements.placed.items c.args.entry.now c.refusal.result None c.requires.ready.infos c.refusal.ensures c.in_default.is)
 
 pub returns-in-Skipped-clause-goes : goal.returns-in-Skipped-clause-goes
@@ -56,7 +56,7 @@ returns-in-Skipped-clause-goes g c = λ script.
 pub skip_to-requires-clause-there : goal.skip_to-requires-clause-there
 skip_to-requires-clause-there g c =
     let early = subst (λ (entry : Entry). early_cause entry (progress_now c.args.self.now) ≡ None) c.in-WritePointer.is
-    (told_early c.args.self.now.memory (files_of c.args.self.now.device.items) c.args.self.now.placements.infos.items
+    (told_early c.args.self.now.memory.memory (files_of c.args.self.now.device.items) c.args.self.now.placements.infos.items
     c.args.self.now.placements.placed.items c.args.entry.now c.refusal.result None c.requires.ready.infos c.refusal.ensures c.in_default.is) in
     dest_listed c.args.self.now c.args.listed.now c.in-WritePointer.dest c.in-WritePointer.src
     c.in-WritePointer.dst_offset c.in-WritePointer.src_offset c.in-WritePointer.size c.requires.ready early
@@ -64,7 +64,7 @@ skip_to-requires-clause-there g c =
 pub returns-in-WritePointer-clause-goes : goal.returns-in-WritePointer-clause-goes
 returns-in-WritePointer-clause-goes g c = λ script.
     let early = subst (λ (entry : Entry). early_cause entry (progress_now c.args.self.now) ≡ None) c.in-WritePointer.is
-    (told_early c.args.self.now.memory (files_of c.args.self.now.device.items) c.args.self.now.placements.infos.items
+    (told_early c.args.self.now.memory.memory (files_of c.args.self.now.device.items) c.args.self.now.placements.infos.items
     c.args.self.now.placements.placed.items c.args.entry.now c.refusal.result None c.requires.ready.infos c.refusal.ensures c.in_default.is) in
     rw c.in-WritePointer.is
     (goes_pointing (MayAnswer g.A.ZoneAlloc.state g.A.ZoneAlloc.gives (g.A.ZoneAlloc.state c.args.place.now).begun)

@@ -14,7 +14,7 @@ returns-clause-goes c = λ script.
     let guest = c.args.self.now in
     load_moved guest c.start.new.self _ (AwaitsSkip c.args.index) c.args.listed.now script
     (c.start.ensures.after
-    ∙ ap (λ control. started descriptor_at control c.args.offset 0 (attached guest.device guest.memory)) c.selected_skip.ensures)
+    ∙ ap (λ control. started descriptor_at control c.args.offset 0 (attached guest.device guest.memory.memory)) c.selected_skip.ensures)
     c.start.ensures.placements
     ∙ sym (ap (λ (o : Option Listed). skips c.args.index c.args.offset o (load_at guest (AtCommand c.args.index) c.args.listed.now script))
     c.listed_of-file.ensures)

@@ -17,6 +17,6 @@ returns-clause-after c =
     let l = c.args.self.now in
     load_moved l.guest c.start.new.self _ (Awaits c.args.reading) l.listed.items l.script.items
     (c.start.ensures.after
-    ∙ ap (λ (what : Asking). started descriptor_at what.control what.size what.address (attached l.guest.device l.guest.memory))
+    ∙ ap (λ (what : Asking). started descriptor_at what.control what.size what.address (attached l.guest.device l.guest.memory.memory))
     (sym (c.asking_for-control.ensures (load_of l))))
     c.start.ensures.placements

@@ -46,4 +46,5 @@ returns c =
       begun = begun;
       kept = begun_keeps NoAnswer c.args.items c.args.top c.args.fill (load_of l) begun;
       inside = (c.args.items, opening_inside c.args.items c.args.top c.args.fill l opening);
+      untouched = c.in_ok-memory.ensures.untouched;
     }

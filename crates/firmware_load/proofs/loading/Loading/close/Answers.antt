@@ -1,4 +1,4 @@
-use Rattle.std.proofs.Common.{refl, sym, ap, ◌∙◌}
+use Rattle.std.proofs.Common.{[], refl, sym, ap, ◌∙◌}
 use Rattle.std.proofs.lemmas.Bool.{true≢false}
 use Rattle.command_acts.specs.Allocators.{MayAnswer}
 use Rattle.command_acts.specs.Runs.{Answers}
@@ -6,6 +6,7 @@ use Rattle.command_acts.proofs.Goes.{answers_are_lawful}
 use Rattle.load_states.specs.Runs.{has_ended}
 use Rattle.firmware_load.specs.Inside.{load_of, IsTurn}
 use Rattle.firmware_load.proofs.OnRun.{asks_nothing, asks_through}
+use Rattle.firmware_load.proofs.Touching.{touches_still, touches_on}
 use Rattle.firmware_load.proofs.Turns.{closes_none, closes_more, turn_less_inside}
 use Rattle.firmware_load.proofs.loading.Loading.close.Goals as goal
 
@@ -16,6 +17,7 @@ loop-self-init g c = record {
   closes = closes_none (MayAnswer g.A.ZoneAlloc.state g.A.ZoneAlloc.gives (g.A.ZoneAlloc.state c.args.place.now).begun) (load_of c.args.self.now);
   asks = λ items inside. asks_nothing items c.args.self.now (g.A.ZoneAlloc.state c.args.place.now);
   handed = c.requires.handed;
+  touches = touches_still c.args.self.now.guest;
   begun = refl;
 }
 
@@ -27,7 +29,7 @@ pub loop-self-smaller : goal.loop-self-smaller
 loop-self-smaller g c =
     let state = c.loop-self in
     turn_less_inside (MayAnswer g.A.ZoneAlloc.state g.A.ZoneAlloc.gives (g.A.ZoneAlloc.state state.place).begun) state.self c.take_turn.new.self
-    (answers_are_lawful g.A.ZoneAlloc.state g.A.ZoneAlloc.gives (g.A.ZoneAlloc.state state.place).begun state.self.guest.memory.top
+    (answers_are_lawful g.A.ZoneAlloc.state g.A.ZoneAlloc.gives (g.A.ZoneAlloc.state state.place).begun state.self.guest.memory.memory.top
     (rw (state.invariant.begun, (state.invariant.asks c.requires.inside.0 c.requires.inside.1).top) c.requires.zones)) state.invariant.inside (sym c.loop-self-test.ensures)
     c.take_turn.ensures.turn
 
@@ -36,7 +38,7 @@ loop-self-preserved g c =
     let state = c.loop-self in
     let alloc = g.A.ZoneAlloc.state c.args.place.now in
     let May : Answers = MayAnswer g.A.ZoneAlloc.state g.A.ZoneAlloc.gives alloc.begun in
-    let lawful = answers_are_lawful g.A.ZoneAlloc.state g.A.ZoneAlloc.gives alloc.begun c.args.self.now.guest.memory.top c.requires.zones in
+    let lawful = answers_are_lawful g.A.ZoneAlloc.state g.A.ZoneAlloc.gives alloc.begun c.args.self.now.guest.memory.memory.top c.requires.zones in
     let turn : IsTurn May (load_of state.self) (load_of c.take_turn.new.self) =
     rw state.invariant.begun at c.take_turn.ensures.turn in
     let running = sym c.loop-self-test.ensures in
@@ -50,6 +52,7 @@ loop-self-preserved g c =
           (g.A.ZoneAlloc.state c.take_turn.new.place) running (state.invariant.asks items inside)
           (c.take_turn.ensures.asks items (state.invariant.begun_so items inside));
       handed = c.take_turn.ensures.handed;
+      touches = touches_on [] [] c.args.self.now.guest state.self.guest c.take_turn.new.self.guest state.invariant.touches c.take_turn.ensures.touches;
       begun = c.take_turn.ensures.begun ∙ state.invariant.begun;
     }
 

@@ -6,6 +6,7 @@ use Rattle.load_states.specs.Runs.{StepsTo}
 use Rattle.firmware_load.specs.Inside.{load_of}
 use Rattle.firmware_load.proofs.Given.{left_taken, left_ended}
 use Rattle.firmware_load.proofs.OnRun.{follows_more, follows_all, asks_through, step_asks}
+use Rattle.firmware_load.proofs.Touching.{taken_more, taken_all}
 use Rattle.firmware_load.proofs.loading.Loading.follow.Goals as goal
 
 pub step-requires-clause-zones : goal.step-requires-clause-zones
@@ -19,7 +20,7 @@ loop-plan-preserved g c =
     let alloc_then = g.A.ZoneAlloc.state state.place in
     let alloc_now = g.A.ZoneAlloc.state c.step.new.place in
     let May : Answers = MayAnswer g.A.ZoneAlloc.state g.A.ZoneAlloc.gives alloc.begun in
-    let lawful = answers_are_lawful g.A.ZoneAlloc.state g.A.ZoneAlloc.gives alloc.begun c.args.self.now.guest.memory.top c.requires.zones in
+    let lawful = answers_are_lawful g.A.ZoneAlloc.state g.A.ZoneAlloc.gives alloc.begun c.args.self.now.guest.memory.memory.top c.requires.zones in
     let steps : StepsTo May c.in-Some.event (load_of state.self) (load_of c.step.new.self) =
     rw state.invariant.begun at c.step.ensures.steps in
     let running = sym c.loop-plan-test.ensures in
@@ -38,6 +39,8 @@ loop-plan-preserved g c =
           (step_asks May items c.in-Some.event state.self c.step.new.self alloc_then alloc_now (rw asked.top lawful)
           (state.invariant.begun_so items inside) running steps c.step.ensures.no_room c.step.ensures.sound);
       handed = c.step.ensures.handed;
+      touches = taken_more (g.C.Schedule.plan c.args.plan.now).left (g.C.Schedule.plan state.plan).left (g.C.Schedule.plan c.next.new.self).left
+          c.in-Some.event c.args.self.now.guest state.self.guest c.step.new.self.guest state.invariant.touches given.0 c.step.ensures.touches;
       begun = c.step.ensures.begun ∙ state.invariant.begun;
     }
 
@@ -47,4 +50,10 @@ returns-in-None-clause-follows g c =
     (load_of c.loop-plan.self) (g.C.Schedule.plan c.args.plan.now).left (g.C.Schedule.plan c.loop-plan.plan).left
     (g.C.Schedule.plan c.next.new.self).left c.loop-plan.invariant.follows
     c.in-None.ensures.end
+    (left_ended (g.C.Schedule.plan c.loop-plan.plan) (g.C.Schedule.plan c.next.new.self) c.in-None.ensures.end c.in-None.ensures.same)
+
+pub returns-in-None-clause-touches : goal.returns-in-None-clause-touches
+returns-in-None-clause-touches g c =
+    taken_all (g.C.Schedule.plan c.args.plan.now).left (g.C.Schedule.plan c.loop-plan.plan).left (g.C.Schedule.plan c.next.new.self).left
+    c.args.self.now.guest c.loop-plan.self.guest c.loop-plan.invariant.touches c.in-None.ensures.end
     (left_ended (g.C.Schedule.plan c.loop-plan.plan) (g.C.Schedule.plan c.next.new.self) c.in-None.ensures.end c.in-None.ensures.same)

@@ -5,7 +5,7 @@ use Rattle.command_acts.specs.FilesInMemory.{placed_ranges}
 use Rattle.command_acts.specs.Runs.{Answers}
 use Rattle.load_states.specs.declared.event.Event.{Event}
 use Rattle.load_states.specs.LoadState.{LoadState}
-use Rattle.firmware_load.specs.Inside.{load_of, IsInside, KeepsInside, StaysBegun, IsOnRun, AsksOnTheWay}
+use Rattle.firmware_load.specs.Inside.{load_of, IsInside, KeepsInside, StaysBegun, IsOnRun, AsksOnTheWay, TouchesTaken}
 use Rattle.firmware_load.proofs.loading.Loading.follow.Given as goal
 
 abbrev pub decreases-loop-plan : goal.decreases-loop-plan
@@ -24,5 +24,6 @@ invariant-loop-plan g l =
       asks : (items : List Item) → IsInside items l.initial.self
           → AsksOnTheWay items l.initial.self l.self (g.A.ZoneAlloc.state l.initial.place) (g.A.ZoneAlloc.state l.place);
       handed : (g.A.ZoneAlloc.state l.place).handed ≡ placed_ranges l.self.guest.placements.placed.items;
+      touches : TouchesTaken (g.C.Schedule.plan l.initial.plan).left (g.C.Schedule.plan l.plan).left l.initial.self.guest l.self.guest;
       begun : (g.A.ZoneAlloc.state l.place).begun ≡ (g.A.ZoneAlloc.state l.initial.place).begun;
     }

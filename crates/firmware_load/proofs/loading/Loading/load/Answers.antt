@@ -3,6 +3,7 @@ use Rattle.command_acts.specs.Runs.{Answers}
 use Rattle.firmware_load.specs.Inside.{load_of}
 use Rattle.firmware_load.proofs.Loaded.{IsClosed, load_over, asks_in_all, without_room}
 use Rattle.firmware_load.proofs.Opening.{opening_on_run, opening_inside_own}
+use Rattle.firmware_load.proofs.Touching.{taken_closed}
 use Rattle.firmware_load.proofs.loading.Loading.load.Goals as goal
 
 pub close-requires-clause-zones : goal.close-requires-clause-zones
@@ -38,3 +39,8 @@ returns-clause-sound g c =
     (without_room items c.args.self.now c.close.new.self alloc alloc_now c.answer.result
     (asks_in_all items c.args.self.now c.follow.new.self c.close.new.self alloc (g.A.ZoneAlloc.state c.follow.new.place) alloc_now
     (c.follow.ensures.asks items own) (c.close.ensures.asks items (c.follow.ensures.begun_so items own))) c.requires.fresh.stage c.answer.ensures).1
+
+pub returns-clause-touches : goal.returns-clause-touches
+returns-clause-touches g c =
+    taken_closed (g.C.Schedule.plan c.args.plan.now).left (g.C.Schedule.plan c.follow.new.plan).left (g.A.ZoneAlloc.state c.close.new.place).handed
+    c.args.self.now.guest c.follow.new.self.guest c.close.new.self.guest c.follow.ensures.touches c.close.ensures.touches c.close.ensures.handed

@@ -1,5 +1,6 @@
 use Rattle.load_states.specs.declared.event.Event.TheVariants.{Device, Firmware, Other}
 use Rattle.firmware_load.proofs.StepInside.{inside_after}
+use Rattle.firmware_load.proofs.Touching.{touches_event}
 use Rattle.firmware_load.proofs.loading.Loading.step.Goals as goal
 
 pub returns-in-Device-clause-begun_so : goal.returns-in-Device-clause-begun_so
@@ -49,3 +50,11 @@ returns-in-Other-clause-inside g c =
       inside_after {A = g.row.A.Denot} A.state A.gives (A.state place).begun c.args.self.now c.write_by_other.new.self (Other c.in-Other.addr c.in-Other.byte)
           c.requires.zones c.write_by_other.ensures.steps c.write_by_other.ensures.rooms c.requires.inside.0 c.requires.inside.1,
     )
+
+pub returns-in-Device-clause-touches : goal.returns-in-Device-clause-touches
+returns-in-Device-clause-touches g c =
+    rw c.in-Device.is (touches_event (Device c.in-Device.bytes) c.args.self.now.guest c.move_piece.new.self.guest c.move_piece.ensures.touches)
+
+pub returns-in-Firmware-clause-touches : goal.returns-in-Firmware-clause-touches
+returns-in-Firmware-clause-touches g c =
+    rw c.in-Firmware.is (touches_event Firmware c.args.self.now.guest c.firmware_step.new.self.guest c.firmware_step.ensures.touches)

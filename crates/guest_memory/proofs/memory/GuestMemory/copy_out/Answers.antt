@@ -4,7 +4,7 @@ use Rattle.guest_memory.proofs.Runs.{length_read, one_more_read}
 use Rattle.guest_memory.proofs.memory.GuestMemory.copy_out.Goals as goal
 
 pub loop-done-init : goal.loop-done-init
-loop-done-init c = record { within = omega arith; size = refl; so_far = bytes_at-none c.args.self.now c.args.address 0 refl }
+loop-done-init c = record { within = omega arith; size = refl; so_far = bytes_at-none c.args.self.now.memory c.args.address 0 refl }
 
 pub loop-done-preserved : goal.loop-done-preserved
 loop-done-preserved c =
@@ -14,6 +14,6 @@ loop-done-preserved c =
     record {
       within = omega arith;
       size = omega arith;
-      so_far = one_more_read c.args.self.now c.args.address c.loop-done.bytes part c.loop-done.done left c.get_from_frame-done.result
+      so_far = one_more_read c.args.self.now.memory c.args.address c.loop-done.bytes part c.loop-done.done left c.get_from_frame-done.result
           c.loop-done.invariant.within (omega arith) c.loop-done.invariant.so_far c.get_from_frame-done.ensures.front;
     }

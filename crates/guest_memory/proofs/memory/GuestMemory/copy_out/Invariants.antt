@@ -6,7 +6,7 @@ abbrev pub invariant-loop-done : goal.invariant-loop-done
 invariant-loop-done l = record {
   within : l.done ≤ length l.bytes;
   size : length l.bytes ≡ length l.initial.bytes;
-  so_far : take l.done l.bytes ≡ bytes_at l.self l.address l.done;
+  so_far : take l.done l.bytes ≡ bytes_at l.self.memory l.address l.done;
 }
 
 abbrev pub decreases-loop-done : goal.decreases-loop-done

@@ -5,11 +5,11 @@ use Rattle.guest_memory.proofs.Runs.{one_more_summed}
 use Rattle.guest_memory.proofs.memory.GuestMemory.sum_range.Goals as goal
 
 pub loop-done-init : goal.loop-done-init
-loop-done-init c = record { within = omega arith; so_far = ap byte_sum (bytes_at-none c.args.self.now c.args.address 0 refl) }
+loop-done-init c = record { within = omega arith; so_far = ap byte_sum (bytes_at-none c.args.self.now.memory c.args.address 0 refl) }
 
 pub loop-done-preserved : goal.loop-done-preserved
 loop-done-preserved c = record {
   within = omega arith;
-  so_far = one_more_summed c.args.self.now c.args.address _ _ _ c.loop-done.done c.loop-done.invariant.so_far c.part_in_frame-part.ensures.value
+  so_far = one_more_summed c.args.self.now.memory c.args.address _ _ _ c.loop-done.done c.loop-done.invariant.so_far c.part_in_frame-part.ensures.value
       c.byte_sum-sum.ensures;
 }

@@ -1,16 +1,17 @@
-use Rattle.std.proofs.Common.{◌≡◌, ◌+◌, ◌*◌, arith, subst, sym, ◌∙◌}
-use Rattle.vt_bytes.specs.Memory.{Memory, IsRam, at}
-use Rattle.guest_memory.specs.Frames.{frame_start}
-use Rattle.guest_memory.specs.Blocks.{memory_of}
-use Rattle.guest_memory.proofs.Held.{at_held, frame_place}
+use Rattle.std.proofs.Common.{ap, subst, sym, ◌∙◌}
+use Rattle.guest_memory.specs.Frames.{HoldsFill}
+use Rattle.guest_memory.specs.Touched.{HeldMemory, is_touched}
+use Rattle.guest_memory.proofs.Lent.{holds_fill}
+use Rattle.guest_memory.proofs.StoreFlags.{empty_at}
+use Rattle.guest_memory.proofs.Touches.{flag_is}
 use Rattle.guest_memory.proofs.memory.GuestMemory.touched.Goals as goal
 
-pub returns : goal.returns
-returns c none i within ram =
-    let m = memory_of c.self.inside.top c.self.inside.blocks in
-    let address = frame_start c.self.inside.top c.args.frame + i in
-    let is_ram : IsRam m.top address = subst (λ (other : Memory). IsRam other.top (frame_start other.top c.args.frame + i)) (sym c.self.view_is) ram in
-    subst (λ (other : Memory). at other (frame_start other.top c.args.frame + i) ≡ other.fill) c.self.view_is
-    (at_held c.self.inside.top c.self.inside.blocks address (c.args.frame * 4096 + i) c.self.invariant.0 c.self.invariant.1 is_ram
-    (frame_place c.self.inside.top c.args.frame i c.self.invariant.0 within)
-    ∙ c.is_touched.ensures none i (omega arith))
+pub returns-clause-told : goal.returns-clause-told
+returns-clause-told c =
+    c.is_touched.ensures ∙ sym (flag_is c.self.inside.store.frames c.args.frame) ∙ ap (λ (h : HeldMemory). is_touched h.touched c.args.frame) c.self.view_is
+
+pub returns-clause-blank : goal.returns-clause-blank
+returns-clause-blank c none =
+    let s = c.self.inside.store in
+    subst (λ (h : HeldMemory). HoldsFill h.memory c.args.frame) c.self.view_is
+    (holds_fill c.self.inside.top s c.args.frame c.self.invariant.0 c.self.invariant.1 c.requires (empty_at s.frames c.args.frame (sym c.is_touched.ensures ∙ none)))
