@@ -14,6 +14,10 @@ import itertools
 import pathlib
 import sys
 
+sys.path.append(str(pathlib.Path(__file__).resolve().parent.parent / "tools"))  # whose modules the benchmark shares
+
+from endings import ended, number_of
+
 LEVELS = 16
 LEADS, CHARS = b"ABCDEFGHIJKLMNOPQRSTUVWXYZ_", b"ABCDEFGHIJKLMNOPQRSTUVWXYZ0123456789_"
 
@@ -54,14 +58,15 @@ def table_of(terms):
     return bytes(table)
 
 
-def main():
-    kind, size, terms_file, table_file = sys.argv[1], int(sys.argv[2]), *map(pathlib.Path, sys.argv[3:])
+def main(kind, size, terms_file, table_file):
     value = VALUES[kind]
-    count = size // (5 + len(value))
+    count = number_of(size, "BYTES") // (5 + len(value))
     terms = b"".join(name_of(segment, value) for segment in itertools.islice(segments(), count))
-    terms_file.write_bytes(terms)
-    table_file.write_bytes(table_of(terms))
+    pathlib.Path(terms_file).write_bytes(terms)
+    pathlib.Path(table_file).write_bytes(table_of(terms))
 
 
 if __name__ == "__main__":
-    main()
+    if len(sys.argv) != 5 or sys.argv[1] not in VALUES:
+        sys.exit(f"usage: aml.py {'|'.join(VALUES)} BYTES TERMS TABLE")
+    sys.exit(ended(main, sys.argv[1:]))

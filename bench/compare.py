@@ -19,6 +19,10 @@ import subprocess
 import sys
 import time
 
+sys.path.append(str(pathlib.Path(__file__).resolve().parent.parent / "tools"))  # whose modules the benchmark shares
+
+from endings import Refused, ended, number_of
+
 GNU_TIME = "/usr/bin/time"
 
 Program = collections.namedtuple("Program", "group what input words")
@@ -33,7 +37,7 @@ def run(words, program, output):
         _, status, used = os.wait4(process.pid, 0)
         elapsed = time.perf_counter() - begun
     if status != 0:
-        sys.exit(f"compare.py: {program.what} ended with status {os.waitstatus_to_exitcode(status)}")
+        raise Refused(f"{program.what} ended with status {os.waitstatus_to_exitcode(status)}")
     return Taken(elapsed, used.ru_utime + used.ru_stime)
 
 
@@ -48,6 +52,8 @@ def peak_memory(program, output):
 
 def read_programs(file):
     rows = [line.split("\t") for line in pathlib.Path(file).read_text().splitlines()]
+    if not rows or any(len(row) != 4 for row in rows):
+        raise Refused(f"{file}: it isn't lines of four parts with tabs between them")
     return [Program(group, what, source, words.split(" ")) for group, what, source, words in rows]
 
 
@@ -66,8 +72,10 @@ def ratio(one, other):
 
 
 def main(rounds, programs, output):
-    programs = read_programs(programs)
-    figures = measure(programs, int(rounds), output)
+    rounds, programs = number_of(rounds, "ROUNDS"), read_programs(programs)
+    if rounds < 1:
+        raise Refused("ROUNDS isn't 1 or more")
+    figures = measure(programs, rounds, output)
     print(f"medians of {rounds} rounds over the other program's, on {os.cpu_count()} processors")
     print(f"{'program':19} {'against':42} {'elapsed':>9} {'processor':>9} {'memory':>9}")
     first = None
@@ -82,4 +90,4 @@ def main(rounds, programs, output):
 if __name__ == "__main__":
     if len(sys.argv) != 4:
         sys.exit("usage: compare.py ROUNDS PROGRAMS OUTPUT")
-    main(*sys.argv[1:])
+    sys.exit(ended(main, sys.argv[1:]))

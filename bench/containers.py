@@ -5,10 +5,11 @@ usage: containers.py FOLDER
 
 `large.container` has one file of 16 MiB, all of high memory, which its script places and sums up. `random.container` has one of as many
 bytes at random, whose dump has a line for each 16 of them. `many.container` has 1,000 files of 4 KiB and a script of 8,192 commands, the
-most that one may have: each file is placed, and then pointers and sums follow, of one file after the other. `writes.container` has as many
-commands, all of which but the first, which places a file, write its place to another file of fw_cfg, and `pointers.container` as many that
-add its place to a number in memory. `full.container` has as many bytes as an input may have, most of them in a file that no command names.
-`alone.container` has a script of no commands and no other file. All are spelled as docs/FORMATS.md says.
+most that one may have: each file is placed, and then pointers and sums follow, of one file after the other; `few.container` has a sixteenth of
+these files and commands. `writes.container` has as many commands as `many`, all of which but the first, which places a file, write its place
+to another file of fw_cfg, and `pointers.container` as many that add its place to a number in memory. `full.container` has as many bytes as an
+input may have, most of them in a file that no command names. `alone.container` has a script of no commands and no other file. All are spelled
+as docs/FORMATS.md says.
 """
 
 import pathlib
@@ -16,9 +17,14 @@ import random
 import struct
 import sys
 
+sys.path.append(str(pathlib.Path(__file__).resolve().parent.parent / "tools"))  # whose modules the benchmark shares
+
+from endings import ended, folder_of
+
 SCRIPT = "etc/table-loader"
 FIRST_SELECTOR = 0x20
 MOST_COMMANDS = 8192
+MANY_FILES = 1000
 MOST_BYTES = 64 << 20  # of an input
 
 
@@ -68,11 +74,12 @@ def full():
     return container([("unnamed", bytes(rest)), script])
 
 
-def many():
-    names = [f"file-{at:04}" for at in range(1000)]
+def many(files, most):
+    """A container of so many files of 4 KiB, and of at most so many commands."""
+    names = [f"file-{at:04}" for at in range(files)]
     commands = [allocate(name) for name in names]
     at = 0
-    while len(commands) < MOST_COMMANDS - 1:
+    while len(commands) < most - 1:
         name = names[at % len(names)]
         commands += [add_pointer(name, names[(at + 1) % len(names)]), add_checksum(name, 4096)]
         at += 1
@@ -89,12 +96,19 @@ def pointers():
     return container([("source", bytes(4096)), (SCRIPT, script)])
 
 
-if __name__ == "__main__":
-    folder = pathlib.Path(sys.argv[1])
+def main(folder):
+    folder = folder_of(folder)
     (folder / "large.container").write_bytes(large())
     (folder / "random.container").write_bytes(at_random())
-    (folder / "many.container").write_bytes(many())
+    (folder / "many.container").write_bytes(many(MANY_FILES, MOST_COMMANDS))
+    (folder / "few.container").write_bytes(many(MANY_FILES // 16, MOST_COMMANDS // 16))
     (folder / "writes.container").write_bytes(writes())
     (folder / "pointers.container").write_bytes(pointers())
     (folder / "full.container").write_bytes(full())
     (folder / "alone.container").write_bytes(container([(SCRIPT, b"")]))
+
+
+if __name__ == "__main__":
+    if len(sys.argv) != 2:
+        sys.exit("usage: containers.py FOLDER")
+    sys.exit(ended(main, sys.argv[1:]))

@@ -16,6 +16,10 @@ may be; neither has a text.
 import pathlib
 import sys
 
+sys.path.append(str(pathlib.Path(__file__).resolve().parent.parent / "tools"))  # whose modules the benchmark shares
+
+from endings import ended, folder_of
+
 MOST = {
     "oem_strings": 32,
     "socket": 256,
@@ -112,9 +116,15 @@ def devices(processors):
     return "".join(line + "\n" for line in lines)
 
 
-if __name__ == "__main__":
-    folder = pathlib.Path(sys.argv[1])
+def main(folder):
+    folder = folder_of(folder)
     (folder / "greatest.toml").write_text(description(1))
     (folder / "half.toml").write_text(description(2))
     (folder / "bridge.toml").write_text(devices(0))
     (folder / "processors.toml").write_text(devices(MOST["cpu"]))
+
+
+if __name__ == "__main__":
+    if len(sys.argv) != 2:
+        sys.exit("usage: descriptions.py FOLDER")
+    sys.exit(ended(main, sys.argv[1:]))

@@ -20,12 +20,14 @@ sys.path.append(str(pathlib.Path(__file__).resolve().parent.parent / "tools"))  
 
 from aml import LEVELS, VALUES, length_of, name_of, segments
 from dumps import HIGH, with_xsdt
+from endings import Refused, ended, number_of
 from made_roots import HEADER, table_of
-from memory_dump import dump_text
+from memory_dump import UPPER_WINDOW_SIZE, dump_text
 
 FADT = 0x2000
 FADT_LENGTH, X_DSDT = 276, 140  # the least length of an FADT, and where the address of its DSDT stands (ACPI 6.5, 5.2.9)
 MOST_VALUES = 255  # of a package
+LEAST_BYTES = 1 << 10  # of which each kind can be made
 
 
 def names(size):
@@ -74,8 +76,14 @@ def dump(terms):
     return dump_text(memory)
 
 
+def main(kind, size, file):
+    size = number_of(size, "BYTES")
+    if not LEAST_BYTES <= size <= UPPER_WINDOW_SIZE:
+        raise Refused(f"BYTES is {size}, and not {LEAST_BYTES} to {UPPER_WINDOW_SIZE}")
+    pathlib.Path(file).write_bytes(dump(KINDS[kind](size - HEADER.size)))
+
+
 if __name__ == "__main__":
     if len(sys.argv) != 4 or sys.argv[1] not in KINDS:
         sys.exit(f"usage: dsdts.py {'|'.join(KINDS)} BYTES FILE")
-    terms = KINDS[sys.argv[1]](int(sys.argv[2]) - HEADER.size)
-    pathlib.Path(sys.argv[3]).write_bytes(dump(terms))
+    sys.exit(ended(main, sys.argv[1:]))

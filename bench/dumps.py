@@ -23,10 +23,12 @@ import sys
 
 sys.path.append(str(pathlib.Path(__file__).resolve().parent.parent / "tools"))  # whose modules the benchmark shares
 
+from endings import Refused, ended, number_of
 from made_roots import HEADER, anchor_of, pointer_to, summed, table_of, xsdt_of
 from memory_dump import LOWER_WINDOW, UPPER_WINDOW_SIZE, Memory, dump_text
 
 MOST_BYTES = 64 << 20  # of an input
+LEAST_BYTES = 1 << 16  # of which each kind can be made
 MOST_TABLES = 256  # of an XSDT
 TOP = 64 << 20
 HIGH = TOP - UPPER_WINDOW_SIZE
@@ -131,7 +133,14 @@ KINDS = {
 }
 
 
+def main(kind, size, file):
+    size = number_of(size, "BYTES")
+    if not LEAST_BYTES <= size <= MOST_BYTES:
+        raise Refused(f"BYTES is {size}, and not {LEAST_BYTES} to {MOST_BYTES}")
+    pathlib.Path(file).write_bytes(KINDS[kind](size))
+
+
 if __name__ == "__main__":
     if len(sys.argv) != 4 or sys.argv[1] not in KINDS:
         sys.exit(f"usage: dumps.py {'|'.join(KINDS)} BYTES FILE")
-    pathlib.Path(sys.argv[3]).write_bytes(KINDS[sys.argv[1]](int(sys.argv[2])))
+    sys.exit(ended(main, sys.argv[1:]))

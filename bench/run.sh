@@ -8,11 +8,12 @@
 #
 # usage: bench/run.sh [ROUNDS]     each program is run ROUNDS times, 11 if nothing is said; medians are compared
 #
-# A program that isn't there is named as skipped.
+# A program that isn't there is named as skipped. Status 0: all was run; 2: ROUNDS is no number; any other: something can't be run or made.
 set -u
 shopt -s nullglob
 root=$(dirname "$(dirname "$(readlink -f "$0")")")
 rounds=${1:-11}
+[[ $# -le 1 && $rounds =~ ^[1-9][0-9]*$ ]] || { echo "usage: bench/run.sh [ROUNDS]" >&2; exit 2; }
 PATH=$PATH:/usr/sbin # where Debian has dmidecode
 work=$(mktemp -d)
 trap 'rm -rf "$work"' EXIT
@@ -69,11 +70,12 @@ add_description() {
     against_compiler "$folder"
 }
 
-# against_compiler FOLDER: where the tables there have a DSDT, iasl, which makes one again of the text that it made of it.
+# against_compiler FOLDER: where the tables there have a DSDT, iasl, which makes one again of the text that it made of it. It is told to take an id
+# that doesn't end in hexadecimal digits, as the one that QEMU's device has.
 against_compiler() {
     [ -e "$1/DSDT.aml" ] && command -v iasl >/dev/null || return 0
     [ -e "$1/text.dsl" ] || iasl -d -p "$1/text" "$1/DSDT.aml" >/dev/null 2>&1 </dev/null || exit 1
-    against "iasl on the text of its DSDT" /dev/null iasl -p "$1/made" "$1/text.dsl"
+    against "iasl on the text of its DSDT" /dev/null iasl -vw 6035 -p "$1/made" "$1/text.dsl"
 }
 
 # make_script FILE LINE: makes a program of a line of shell.
@@ -199,6 +201,12 @@ add_writes() {
     against "the program's --version" /dev/null "$program" --version
 }
 
+# What is compared beside that for the container of many files and commands.
+add_many() {
+    local name="load many"
+    against "load of a sixteenth of its files and commands" "$work/few.container" "$program" load
+}
+
 # What is compared beside that for the container whose dump is long.
 add_long_dump() {
     local name="load random"
@@ -252,8 +260,19 @@ compare_memory() {
         "$work/peak"
 }
 
+# compare_pages INPUT WORD..: how many pages the program touches, beside those that it touches to begin and to end.
+compare_pages() {
+    local input=$1 least
+    shift
+    /usr/bin/time -f %R -o "$work/peak" "$program" --version </dev/null >"$work/output" || return
+    least=$(<"$work/peak")
+    /usr/bin/time -f %R -o "$work/peak" "$program" "$@" <"$input" >"$work/output" || return
+    echo "page faults of $* $(basename "$input"): $(<"$work/peak"), of --version $least"
+}
+
 compare_all_memory() {
     local input
+    compare_pages "$root/examples/minimal.toml" boot
     for input in "$root/examples/server.toml" "$work/greatest.toml" "$work/processors.toml"; do
         compare_memory "$input" boot
         compare_memory "$input" build
@@ -332,11 +351,13 @@ add_decode
 add_gen
 add_long_list
 python3 "$root/bench/containers.py" "$work" || exit 1
-# random is the last, since add_long_dump goes on with its group
-for container in large many full random; do
+for container in large full many random; do
     add_container "$work/$container.container"
+    case $container in
+    many) add_many ;;
+    random) add_long_dump ;;
+    esac
 done
-add_long_dump
 add_writes
 add_machine
 for kind in "${terms[@]}"; do

@@ -10,6 +10,8 @@ SLIT.expected, where its bridge has an ecam MCFG.expected, and where it has the 
 this order, without what stands before them in the line. A text that the description leaves out gives no line. Of an FADT the addresses of
 the FACS and of the DSDT give none either, since they aren't described: there is such a table for iasl only where dump_tables.py finds one at
 the address. Nor does in a DSDT the address of the id of the machine's generation.
+
+Status 0: done; 2: DESCRIPTION is none, or a file can't be read or written.
 """
 
 import pathlib
@@ -17,7 +19,10 @@ import sys
 import tomllib
 import uuid
 
+sys.path.append(str(pathlib.Path(__file__).resolve().parent.parent / "tools"))  # whose modules the judges share
+
 from devices import device_lines, devices_of
+from endings import Refused, ended, folder_of
 
 # dmidecode's words for types of chassis and slots and widths of slots: those of the examples, the defaults, and a few more (DSP0134 7.4.1,
 # 7.10.1, 7.10.2).
@@ -534,8 +539,19 @@ def dsdt_lines(machine, id_address=None):
     ]
 
 
-def main(description, folder):
-    machine = tomllib.loads(pathlib.Path(description).read_text())
+def read_description(name):
+    """The tables of a description in a file, which has to have the table `system`, as each machine has it."""
+    try:
+        machine = tomllib.loads(pathlib.Path(name).read_bytes().decode())
+    except (UnicodeDecodeError, tomllib.TOMLDecodeError) as refusal:
+        raise Refused(f"{name} is no description: {refusal}") from refusal
+    if not isinstance(machine.get("system"), dict):
+        raise Refused(f"{name} is no description: it has no table system")
+    return machine
+
+
+def expected_lines(machine):
+    """The lines of each file."""
     expected = {"smbios": smbios_lines(machine)}
     if "acpi" in machine:
         expected["XSDT"] = header_lines(machine["acpi"])
@@ -552,11 +568,20 @@ def main(description, folder):
         expected["MCFG"] = header_lines(machine["acpi"]) + mcfg_lines(machine["bridge"])
     if "hpet" in machine:
         expected["HPET"] = header_lines(machine["acpi"]) + hpet_lines(machine["hpet"])
+    return expected
+
+
+def main(description, folder):
+    folder, machine = folder_of(folder), read_description(description)
+    try:
+        expected = expected_lines(machine)
+    except LookupError as refusal:
+        raise Refused(f"{description} is no description that is accepted, or one with a value that has no word here: {refusal}") from refusal
     for name, lines in expected.items():
-        pathlib.Path(folder, f"{name}.expected").write_text("".join(f"{line}\n" for line in lines))
+        (folder / f"{name}.expected").write_text("".join(f"{line}\n" for line in lines))
 
 
 if __name__ == "__main__":
     if len(sys.argv) != 3:
         sys.exit("usage: described.py DESCRIPTION FOLDER")
-    main(*sys.argv[1:])
+    sys.exit(ended(main, sys.argv[1:]))

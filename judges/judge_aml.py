@@ -9,7 +9,7 @@ of an integer and each form of a path, packages, buffers and devices on both sid
 16 deep. iasl writes the shortest spelling, and so does the program: what it writes again must be the same bytes. Of what iasl writes the
 program must refuse 17 levels, each front that is cut within a term, and a longer spelling must come back as the shortest.
 
-Status 0: all of this holds; 1: something doesn't, each with a line; 3: a program isn't there.
+Status 0: all of this holds; 1: something doesn't, each with a line; 2: PROGRAM can't be run; 3: iasl isn't there.
 """
 
 import pathlib
@@ -17,6 +17,10 @@ import shutil
 import subprocess
 import sys
 import tempfile
+
+sys.path.append(str(pathlib.Path(__file__).resolve().parent.parent / "tools"))  # whose modules the judges share
+
+from endings import ended
 
 HEADER = 36  # bytes in front of a table's terms
 LEVELS = 16
@@ -115,11 +119,11 @@ LONGER = [
 ]
 
 
-def main():
+def main(program):
     if shutil.which("iasl") is None:
         print("iasl isn't there")
         return 3
-    judge = Judge(sys.argv[1])
+    judge = Judge(program)
     with tempfile.TemporaryDirectory() as work:
         folder = pathlib.Path(work)
         all_kinds = compiled(folder, names())
@@ -141,4 +145,6 @@ def main():
 
 
 if __name__ == "__main__":
-    sys.exit(main())
+    if len(sys.argv) != 2:
+        sys.exit("usage: judge_aml.py PROGRAM")
+    sys.exit(ended(main, sys.argv[1:]))

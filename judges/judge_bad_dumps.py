@@ -20,10 +20,11 @@ import tempfile
 
 sys.path.append(str(pathlib.Path(__file__).resolve().parent.parent / "tools"))  # whose modules the judges share
 
+from endings import ended, refused
 from listed import Listed, NoTool, end_faults, list_of
 from dump_tables import smbios_files
 from made_roots import anchor_of, pointer_to, put_root, table_of
-from memory_dump import NotADump, NotFound, acpi_table, read_dump
+from memory_dump import NotADump, NotFound, acpi_table, read_dump, read_dump_file
 
 # Where `boot` has what is changed, in MINIMAL and in WITH_HPET.
 ANCHOR, STRUCTURES, END_OF_TABLE = 0xF0000, 0x03000000, 36
@@ -228,18 +229,24 @@ def judge(program, minimal, with_hpet):
     return 1 if faults else 0
 
 
+def made_dump(name, anchor):
+    """The bytes of a dump whose anchor stands where `boot` has it."""
+    if read_dump_file(name).find(b"_SM3_", ANCHOR, 0x100000) != anchor:
+        raise NotADump(f"{name} isn't the dump that is asked for: no anchor is at {anchor:#x}, or one is below")
+    return pathlib.Path(name).read_bytes()
+
+
 def main(program, *dumps):
     try:
-        return judge(program, *(pathlib.Path(dump).read_bytes() for dump in dumps))
+        return judge(program, *(made_dump(*made) for made in zip(dumps, (ANCHOR, HPET_ANCHOR))))
     except NoTool as refusal:
         print(f"judge_bad_dumps.py: {refusal}", file=sys.stderr)
         return 3
     except (OSError, NotADump, NotFound) as refusal:
-        print(f"judge_bad_dumps.py: {refusal}", file=sys.stderr)
-        return 2
+        return refused(refusal)
 
 
 if __name__ == "__main__":
     if len(sys.argv) != 4:
         sys.exit("usage: judge_bad_dumps.py PROGRAM MINIMAL WITH_HPET")
-    sys.exit(main(*sys.argv[1:]))
+    sys.exit(ended(main, sys.argv[1:]))

@@ -21,7 +21,7 @@ device's name and of the address of the id, as far as there are such. `iasl -d` 
 all of them but the last, which it doesn't print. The id mustn't be found at its address with a bit flipped. And where the table's first package
 length has a byte more than it needs, the text compiled again must not be the same table.
 
-Status 0: all of this holds; 1: something doesn't, each with a line; 2: a file isn't there; 3: a program isn't there.
+Status 0: all of this holds; 1: something doesn't, each with a line; 2: a file isn't there, or isn't what it should be; 3: a program isn't there.
 """
 
 import difflib
@@ -31,15 +31,15 @@ import shutil
 import subprocess
 import sys
 import tempfile
-import tomllib
 import uuid
 
 sys.path.append(str(pathlib.Path(__file__).resolve().parent.parent / "tools"))  # whose modules the judges share
 
-from described import dsdt_lines
+from described import dsdt_lines, read_description
 from devices import decoded_lines, devices_of, namespace_lines
+from endings import Refused, ended, refused
 from made_roots import summed
-from memory_dump import NotADump, NotFound, number_at, read_dump
+from memory_dump import NotADump, NotFound, number_at, read_dump_file
 
 TOOLS = ["iasl", "acpiexec"]
 SHOWN = 5  # of the faults
@@ -253,12 +253,13 @@ def main(description, folder):
         print("; ".join(f"{tool} isn't there" for tool in missing))
         return 3
     try:
-        machine = tomllib.loads(pathlib.Path(description).read_text())
-        table, fadt, dump = (pathlib.Path(folder, name).read_bytes() for name in ("DSDT.aml", "FACP.aml", "dump"))
-        memory = read_dump(dump)
+        machine = read_description(description)
+        table, fadt = (pathlib.Path(folder, name).read_bytes() for name in ("DSDT.aml", "FACP.aml"))
+        memory = read_dump_file(pathlib.Path(folder, "dump"))
     except (OSError, NotADump) as refusal:
-        print(f"judge_dsdt.py: {refusal}", file=sys.stderr)
-        return 2
+        return refused(refusal)
+    if len(table) <= SCOPE + 1 or "power" not in machine:
+        raise Refused(f"{folder}/DSDT.aml has no term" if "power" in machine else f"{description} has no power management")
     judge = Judge(machine, memory, id_address_in(table))
     try:
         faults = judge.all_faults(table, fadt)
@@ -277,4 +278,4 @@ def main(description, folder):
 if __name__ == "__main__":
     if len(sys.argv) != 3:
         sys.exit("usage: judge_dsdt.py DESCRIPTION FOLDER")
-    sys.exit(main(*sys.argv[1:]))
+    sys.exit(ended(main, sys.argv[1:]))

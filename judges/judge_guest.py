@@ -23,6 +23,7 @@ import sys
 sys.path.append(str(pathlib.Path(__file__).resolve().parent.parent / "tools"))  # whose modules the judges share
 
 from judge_load import F_SEGMENT, HIGH, Image, head_faults, other_faults, places_of, spans_of, zone_of
+from endings import ended, number_of
 from fw_cfg_files import NotAContainer, read_container
 from memory_dump import Memory, NotADump, NotFound, read_dump
 from qemu_files import settled_container
@@ -110,9 +111,10 @@ def judge(image, loaded, guest):
 
 
 def main(machine_name, top_mib, program):
+    top_mib = number_of(top_mib, "TOP_MIB")
     try:
-        content, guest = guest_of(machine_name, int(top_mib))
-        return judge(Image(read_container(content)), loaded_by(program, content, int(top_mib)), guest)
+        content, guest = guest_of(machine_name, top_mib)
+        return judge(Image(read_container(content)), loaded_by(program, content, top_mib), guest)
     except (OSError, NoAnswer) as refusal:
         print(f"judge_guest.py: the machine {machine_name} of QEMU: {refusal}", file=sys.stderr)
         return 3
@@ -124,4 +126,4 @@ def main(machine_name, top_mib, program):
 if __name__ == "__main__":
     if len(sys.argv) != 4 or sys.argv[1] not in MACHINES:
         sys.exit("usage: judge_guest.py pc|q35 TOP_MIB PROGRAM")
-    sys.exit(main(*sys.argv[1:]))
+    sys.exit(ended(main, sys.argv[1:]))

@@ -1,6 +1,6 @@
 #!/usr/bin/env python3
-"""Judges the item that `vmtables decode` tells of memories whose tables have no fault and are no machine's (docs/FORMATS.md, "What can be described").
-It is no part of the product: it serves the checks of judges/run.sh alone.
+"""Judges the item that `vmtables decode` tells of memories whose tables have no fault and are no machine's (docs/FORMATS.md, "What can be
+described"). It is no part of the product: it serves the checks of judges/run.sh alone.
 
 usage: judge_items.py PROGRAM DUMP
 
@@ -16,9 +16,10 @@ import sys
 
 sys.path.append(str(pathlib.Path(__file__).resolve().parent.parent / "tools"))  # whose modules the judges share
 
+from endings import ended, refused
 from listed import Listed, end_faults, list_of
 from made_roots import ANCHOR, free_place, summed, table_of
-from memory_dump import UPPER_WINDOW_SIZE, Memory, NotADump, NotFound, acpi_table, led_addresses, number_at, read_dump, root_pointer
+from memory_dump import UPPER_WINDOW_SIZE, Memory, NotADump, NotFound, acpi_table, led_addresses, number_at, read_dump_file, root_pointer
 
 CHECKSUM, CREATORS_REVISION = 9, 32  # offsets in a table (ACPI 6.5, 5.2.6)
 POINTERS_LENGTH, POINTERS_XSDT = 36, 24  # the size of an RSDP, and where it leads to the XSDT (5.2.5.3)
@@ -126,13 +127,12 @@ def judge(program, memory):
 
 def main(program, dump):
     try:
-        return judge(program, read_dump(pathlib.Path(dump).read_bytes()))
+        return judge(program, read_dump_file(dump))
     except (OSError, NotADump, NotFound) as refusal:
-        print(f"judge_items.py: {refusal}", file=sys.stderr)
-        return 2
+        return refused(refusal)
 
 
 if __name__ == "__main__":
     if len(sys.argv) != 3:
         sys.exit("usage: judge_items.py PROGRAM DUMP")
-    sys.exit(main(*sys.argv[1:]))
+    sys.exit(ended(main, sys.argv[1:]))

@@ -35,11 +35,12 @@ import tempfile
 sys.path.append(str(pathlib.Path(__file__).resolve().parent.parent / "tools"))  # whose modules the judges share
 
 from judge_aml import compiled, names
+from endings import ended, refused
 from listed import SHOWN, NoTool, NotTold, end_faults, judged, list_of, told_by
-from fw_cfg_files import NotAContainer, read_container
+from fw_cfg_files import NotAContainer, read_container_file
 from made_roots import free_place, put_root, summed, table_of
 from memory_dump import UPPER_WINDOW_SIZE, Memory, NotADump, NotFound, acpi_table, led_addresses, listed_tables
-from memory_dump import number_at, read_dump, root_pointer, root_table
+from memory_dump import number_at, read_dump, read_dump_file, root_pointer, root_table
 from qemu_machine import MACHINES, Machine, NoAnswer
 
 MAKE_DUMP = pathlib.Path(__file__).resolve().parent.parent / "tools" / "make_dump.py"
@@ -62,6 +63,8 @@ LEFT_OUT = [b"RSD ", b"FACS", b"S3PT", b"FACP"]
 FADT_TEMPLATE_FAULT = "tables: acpi fault 5 at 0000000000000001"
 
 FADT_LENGTH = 276  # the least length of an FADT that is read
+
+TABLES = "etc/acpi/tables"  # the file of a machine that has them
 
 # How a device begins, and a thermal zone, of which all else is spelled alike (ACPI 6.5, 20.2.5.2).
 DEVICE, THERMAL_ZONE = b"\x5b\x82", b"\x5b\x85"
@@ -124,7 +127,7 @@ def with_thermal_zone(memory, address):
 
 
 def judge_dump(program, dump):
-    memory = read_dump(pathlib.Path(dump).read_bytes())
+    memory = read_dump_file(dump)
     yield judge_memory(program, "the dump", memory)
     address = dsdt_address(memory)
     if address is not None and DEVICE in acpi_table(memory, address):
@@ -215,8 +218,10 @@ def tables_in(content):
 
 
 def judge_files(program, container):
-    files = read_container(pathlib.Path(container).read_bytes())
-    made = {table[:4]: table for table in tables_in(files["etc/acpi/tables"])}
+    files = read_container_file(container)
+    if TABLES not in files:
+        raise NotAContainer(f"{container} has no file {TABLES}")
+    made = {table[:4]: table for table in tables_in(files[TABLES])}
     memory = Memory(64 << 20, 0)
     addresses = placed(memory, [summed(table, 9) for signature, table in made.items() if signature not in LEFT_OUT])
     yield judge_memory(program, "the tables of its files", rooted(memory, addresses))
@@ -247,8 +252,7 @@ def main(program, kind, *words):
         print(f"judge_list.py: {refusal}", file=sys.stderr)
         return 3
     except (OSError, NotADump, NotAContainer, NotFound, NotTold) as refusal:
-        print(f"judge_list.py: {refusal}", file=sys.stderr)
-        return 2
+        return refused(refusal)
 
 
 def is_lawful(words):
@@ -263,4 +267,4 @@ def is_lawful(words):
 if __name__ == "__main__":
     if not is_lawful(sys.argv[1:]):
         sys.exit("usage: judge_list.py PROGRAM dump DUMP|machine MACHINE|templates|files CONTAINER")
-    sys.exit(main(*sys.argv[1:]))
+    sys.exit(ended(main, sys.argv[1:]))

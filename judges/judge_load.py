@@ -4,7 +4,8 @@ checks of judges/run.sh alone.
 
 usage: judge_load.py CONTAINER DUMP TOP_MIB FILL [MACHINE]
 
-MACHINE is pc or q35, where the container has the files of that machine of QEMU (tools/qemu_machine.py). What must hold is what a firmware has to make of the files by QEMU's docs/specs/fw_cfg and hw/acpi/bios-linker-loader.c:
+MACHINE is pc or q35, where the container has the files of that machine of QEMU (tools/qemu_machine.py). What must hold is what a firmware has to
+make of the files by QEMU's docs/specs/fw_cfg and hw/acpi/bios-linker-loader.c:
 
 - each file that a command allocates stands at one place of its zone, aligned and apart from the others, with its bytes but for
   its pointers and its sums, and all other memory holds FILL;
@@ -26,8 +27,9 @@ import uuid
 
 sys.path.append(str(pathlib.Path(__file__).resolve().parent.parent / "tools"))  # whose modules the judges share
 
-from fw_cfg_files import SCRIPT, AddChecksum, AddPointer, Allocate, NotAContainer, read_container, read_script
-from memory_dump import NotADump, NotFound, byte_sum, number_at, reachable_tables, read_dump, root_pointer, root_table
+from endings import ended, number_of, refused
+from fw_cfg_files import SCRIPT, AddChecksum, AddPointer, Allocate, NotAContainer, read_container_file, read_script
+from memory_dump import NotADump, NotFound, byte_sum, number_at, reachable_tables, read_dump_file, root_pointer, root_table
 from qemu_machine import MACHINES
 
 RSDP = "etc/acpi/rsdp"
@@ -274,12 +276,11 @@ def judge(image, memory):
 
 def main(container, dump, top_mib, fill, machine=None):
     try:
-        image = Image(read_container(pathlib.Path(container).read_bytes()), None if machine is None else id_asked(machine))
-        memory = read_dump(pathlib.Path(dump).read_bytes())
+        image = Image(read_container_file(container), None if machine is None else id_asked(machine))
+        memory = read_dump_file(dump)
     except (OSError, NotAContainer, NotADump) as refusal:
-        print(f"judge_load.py: {refusal}", file=sys.stderr)
-        return 2
-    wrong_head = [*head_faults(memory, int(top_mib), int(fill, 16))]
+        return refused(refusal)
+    wrong_head = [*head_faults(memory, number_of(top_mib, "TOP_MIB"), number_of(fill, "FILL", base=16))]
     for line in wrong_head:
         print(line)
     return judge(image, memory) or len(wrong_head)
@@ -288,4 +289,4 @@ def main(container, dump, top_mib, fill, machine=None):
 if __name__ == "__main__":
     if len(sys.argv) not in (5, 6) or not {*sys.argv[5:]} <= MACHINES.keys():
         sys.exit("usage: judge_load.py CONTAINER DUMP TOP_MIB FILL [pc|q35]")
-    sys.exit(main(*sys.argv[1:]))
+    sys.exit(ended(main, sys.argv[1:]))

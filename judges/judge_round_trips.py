@@ -17,7 +17,8 @@ descriptions here (judges/machines.py), and a thousand machines that a seed draw
 Last, a program turned wrong has to be found: one whose printed description has another value at a key, lacks the key or has one more, for
 each key of the descriptions that aren't long; a dump with another digit; and another count of `gen`.
 
-Status 0: all of this holds; 1: something doesn't, each with a line; 2: a description is none.
+Status 0: all of this holds; 1: something doesn't, each with a line; 2: a description is none, or PROGRAM can't be
+run.
 """
 
 import copy
@@ -31,6 +32,8 @@ import tomllib
 
 sys.path.append(str(pathlib.Path(__file__).resolve().parent.parent / "tools"))  # whose modules the judges share
 
+from described import read_description
+from endings import ended
 from fw_cfg_files import COMMAND_SIZE, SCRIPT, NotAContainer, read_container
 from machines import Drawing, description, generated, is_table, printed, told
 
@@ -193,7 +196,7 @@ def add_one(inner, key):
 def described_faults(program, name):
     """The faults of a description in a file, each with its name."""
     text = pathlib.Path(name).read_bytes()
-    machine = tomllib.loads(text.decode())
+    machine = read_description(name)
     found = [*trip_faults(program, machine, text), *other_boot_faults(program, text), *missed_changes(machine)]
     return [f"{name}: {fault}" for fault in found]
 
@@ -224,14 +227,10 @@ def judge(program, names):
 
 
 def main(program, *names):
-    try:
-        return judge(program, names)
-    except (OSError, UnicodeDecodeError, tomllib.TOMLDecodeError) as refusal:
-        print(f"judge_round_trips.py: {refusal}", file=sys.stderr)
-        return 2
+    return judge(program, names)
 
 
 if __name__ == "__main__":
     if len(sys.argv) < 2:
         sys.exit("usage: judge_round_trips.py PROGRAM [DESCRIPTION..]")
-    sys.exit(main(*sys.argv[1:]))
+    sys.exit(ended(main, sys.argv[1:]))

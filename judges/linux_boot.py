@@ -15,7 +15,10 @@ import selectors
 import shutil
 import struct
 import subprocess
+import sys
 import time
+
+sys.path.append(str(pathlib.Path(__file__).resolve().parent.parent / "tools"))  # whose modules the judges share
 
 from memory_dump import UPPER_WINDOW_SIZE, number_at
 

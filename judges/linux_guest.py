@@ -38,12 +38,13 @@ import subprocess
 import sys
 import tempfile
 import time
-import tomllib
 from collections import Counter
 
 sys.path.append(str(pathlib.Path(__file__).resolve().parent.parent / "tools"))  # whose modules the judges share
 
+from described import read_description
 from devices import Buses, EisaId, Interrupt, Ports, Window, devices_of
+from endings import ended
 from judge_dsdt import FLIPS
 from linux_boot import CantBoot, NoBoot, booted, missing_tools, version_of
 from made_roots import summed
@@ -366,7 +367,7 @@ class Judge:
     def __init__(self, kernel, program, description, words):
         text = pathlib.Path(description).read_bytes()
         self.kernel = kernel
-        self.machine = tomllib.loads(text.decode())
+        self.machine = read_description(description)
         self.memory = memory_of(program, text, words)
 
     def faults_with(self, memory):
@@ -460,4 +461,4 @@ if __name__ == "__main__":
     given = sys.argv[2:] if turned else sys.argv[1:]
     if len(given) < 3:
         sys.exit("usage: linux_guest.py [--turn] KERNEL PROGRAM DESCRIPTION [WORD..]")
-    sys.exit(main(turned, *given[:3], given[3:]))
+    sys.exit(ended(main, [turned, *given[:3], given[3:]]))

@@ -12,25 +12,31 @@
 # the dumps of descriptions, of drawn ones too, must be what is described, and boot to the same dump; `vmtables gen` must count what the
 # machine has that it generates (judge_round_trips.py); and of memories that are no machine's `decode` must tell the first item that fails
 # (judge_items.py). AML terms that iasl compiles must come back as they are from `aml_again`, which reads terms and writes them again. Debian's
-# kernel of Linux boots on the memory of two descriptions, and what it finds there must be what is described (linux_guest.py). Last, the
-# commands that README.md shows must print what it says. Nothing is proved here.
+# kernel of Linux boots on the memory of two descriptions, and what it finds there must be what is described (linux_guest.py). Containers must
+# come back as they are from the folders that tools/container.py makes of them (judge_container.py). Last, the commands that README.md and
+# docs/USES.md show must print what these say. Beside these stand two judges of what the program says of itself: tools/explain.py has to say
+# each line that docs/FORMATS.md lists (judge_explain.py), and docs/vmtables.1, which mandoc reads, what `--help` says (judge_help.py). Nothing
+# is proved here.
+#
+# And each allocation of some commands is refused, and each of their reads and writes fails, one at a time, which they must say (judge_memory.py).
 #
 # usage: judges/run.sh [PROGRAM]     PROGRAM stands for ./vmtables
 #
-# Status 0: no fault was found; 1: one was. A judge that isn't there and can't be installed is skipped. The last lines say how many
-# faults were found, and which judges were asked and which were skipped.
+# Status 0: no fault was found; 1: one was; 2: PROGRAM can't be run. A judge that isn't there and can't be installed is skipped. The last
+# lines say how many faults were found, and which judges were asked and which were skipped.
 set -u
 shopt -s nullglob
 here=$(dirname "$(readlink -f "$0")")
 root=$(dirname "$here")
 tools=$root/tools
 program=$(readlink -f "${1:-$root/vmtables}")
+[ -f "$program" ] && [ -x "$program" ] || { echo "judges/run.sh: ${1:-$root/vmtables}: there is no such program" >&2; exit 2; }
 PATH=$PATH:/usr/sbin # where Debian has dmidecode
 export PYTHONDONTWRITEBYTECODE=1
 work=$(mktemp -d)
 trap 'rm -rf "$work"' EXIT
-judges=(dmidecode iasl acpiexec qemu-system-x86_64)
-packages=(dmidecode acpica-tools acpica-tools qemu-system-x86) # the package of each judge in Debian
+judges=(dmidecode iasl acpiexec qemu-system-x86_64 mandoc)
+packages=(dmidecode acpica-tools acpica-tools qemu-system-x86 mandoc) # the package of each judge in Debian
 firmware=SeaBIOS                                               # a judge that comes with QEMU
 guest=Linux                                                    # a judge whose kernel is unpacked, and not installed
 kernels=(linux-image-cloud-amd64 linux-image-amd64)            # the packages that depend on one with a kernel, the smaller one first
@@ -57,10 +63,16 @@ install_packages() {
         has "${judges[at]}" || install_package "${packages[at]}"
     done
     has busybox || install_package busybox-static
+    has_ovmf || install_package ovmf
 }
 
 install_package() {
     DEBIAN_FRONTEND=noninteractive timeout 300 apt-get install -y -qq --no-install-recommends "$1" >/dev/null 2>&1 </dev/null
+}
+
+# Whether OVMF is there, the firmware of a guest that docs/USES.md shows.
+has_ovmf() {
+    [ -e /usr/share/ovmf/OVMF.fd ]
 }
 
 has_all_judges() {
@@ -68,6 +80,7 @@ has_all_judges() {
     for judge in "${judges[@]}" busybox; do
         has "$judge" || return 1
     done
+    has_ovmf
 }
 
 install_missing_judges() {
@@ -348,6 +361,19 @@ judge_terms() {
     esac
 }
 
+# Has each allocation of some commands refused, and each read and write fail, one at a time.
+judge_memory() {
+    local said
+    description="refused memory and failing streams"
+    echo "$description"
+    said=$(python3 "$here/judge_memory.py" "$program" examples/server.toml examples/every-key.toml 2>&1)
+    case $? in
+    0) sed 's/^/  /' <<<"$said" ;;
+    3) echo "  skipped: $said" ;;
+    *) fault judge_memory.py "the runs" "$said" ;;
+    esac
+}
+
 # make_wrong_program LINE: makes a program that is as ours, but changes the last digit of a line of what it writes.
 make_wrong_program() {
     cat >"$folder/wrong" <<END
@@ -537,6 +563,40 @@ judge_linux() {
     linux_says "$work/kernel" "$program" "$description"
 }
 
+# Has tools/explain.py and docs/FORMATS.md say the same of each line, and of those that the program ends with.
+judge_lines() {
+    local said
+    description=docs/FORMATS.md
+    echo "$description"
+    said=$(python3 "$here/judge_explain.py" "$program" 2>&1) || { fault judge_explain.py "the lines" "$said"; return; }
+    echo "  $said"
+}
+
+# Has the manual page say what `--help` says, and mandoc find nothing wrong with it, and with a wrong one something.
+judge_manual() {
+    local said
+    description=docs/vmtables.1
+    echo "$description"
+    said=$(python3 "$here/judge_help.py" "$program" 2>&1) || { fault judge_help.py "the page" "$said"; return; }
+    echo "  $said"
+    has mandoc || { echo "  skipped: mandoc isn't there"; return; }
+    note_asked mandoc
+    said=$(mandoc -T lint "$description" 2>&1)
+    [ -z "$said" ] || { fault mandoc "the page" "$said"; return; }
+    sed 's/^\.Sh EXAMPLES/.SH EXAMPLES/' "$description" >"$work/wrong.1"
+    [ -n "$(mandoc -T lint "$work/wrong.1" 2>&1)" ] || { fault mandoc "the page" "no judge: it finds nothing wrong with a wrong macro"; return; }
+    echo "  mandoc: no fault; a wrong macro is found"
+}
+
+# Has containers made folders, and folders containers.
+judge_folders() {
+    local said
+    description="containers as folders"
+    echo "$description"
+    said=$(python3 "$here/judge_container.py" 2>&1) || { fault judge_container.py "the folders" "$said"; return; }
+    echo "  container.py: $said"
+}
+
 # Has each command that a document shows print what the document says.
 judge_document() {
     local said
@@ -549,6 +609,8 @@ judge_document() {
 judge_all() {
     "$program" --version || exit 1 # builds ./vmtables where it isn't built, in sight
     cd "$root" || exit 1
+    judge_lines
+    judge_manual
     judge_examples
     judge_greatest
     judge_few_devices
@@ -556,12 +618,15 @@ judge_all() {
     judge_items
     judge_templates
     judge_bad_dumps
+    judge_memory
     judge_terms
     if has qemu-system-x86_64; then
         judge_machines
         judge_linux
     fi
+    judge_folders
     judge_document README.md
+    judge_document docs/USES.md
 }
 
 # listed NAME..: the names with commas between them, after how many they are.

@@ -1,12 +1,12 @@
 #!/usr/bin/env python3
 """Runs the commands that a document shows, and compares what they print with what it says.
 
-A command is a line of a fenced block that begins with `$ `. The lines behind it, up to the next command or the end of the block, are
-what it prints, on standard output and standard error; a last line `status N` is its exit status, which is 0 where none is told. The
-commands run one after the other in a folder of their own, with links to what stands in the current one, so that one may read what another
-wrote.
+A command is a line of a fenced block that begins with `$ `, and with it those right behind it that begin with `> `, as a shell shows a command of
+several lines. The lines behind it, up to the next command or the end of the block, are what it prints, on standard output and standard error; a
+last line `status N` is its exit status, which is 0 where none is told. The commands run one after the other in a folder of their own, with links to
+what stands in the current one, so that one may read what another wrote.
 
-A command that needs a program that isn't there is skipped, and its line says so.
+A command that needs a program or a file that isn't there is skipped, and its line says so.
 
 usage: shown_commands.py DOCUMENT PROGRAM     PROGRAM is what ./vmtables is to be
 
@@ -21,7 +21,8 @@ import sys
 import tempfile
 
 LONGEST = 600  # seconds that a command may take
-NEEDED = {"q35": "qemu-system-x86_64"}  # the program that a command needs which has this in it
+QEMU, OVMF = "qemu-system-x86_64", "/usr/share/ovmf/OVMF.fd"
+NEEDED = {"q35": [QEMU], "i440fx": [QEMU], "isapc": [QEMU], "ovmf": [QEMU, OVMF]}  # what a command needs which has this in it
 OF_TRIES = ("checked: ended", "run=ended")  # how lines begin by which `rt try` says that nothing is proved
 
 
@@ -37,6 +38,8 @@ def shown_commands(document):
             inside = not inside
         elif starts:
             command, lines = line[2:], []
+        elif command is not None and not lines and line.startswith("> "):
+            command += "\n" + line[2:]
         elif command is not None:
             lines.append(line)
 
@@ -66,8 +69,9 @@ def printed(command, folder):
 
 
 def missing(command):
-    """Returns the program that a command needs, where it isn't there."""
-    return next((tool for part, tool in NEEDED.items() if part in command and shutil.which(tool) is None), None)
+    """Returns a program or a file that a command needs, where it isn't there."""
+    needed = [tool for part, tools in NEEDED.items() if part in command for tool in tools]
+    return next((tool for tool in needed if shutil.which(tool) is None and not os.path.exists(tool)), None)
 
 
 def make_folder(folder, root, program):
@@ -84,16 +88,17 @@ def main(document, program):
         folder = pathlib.Path(name)
         make_folder(folder, pathlib.Path.cwd(), pathlib.Path(program).resolve())
         for command, lines in shown_commands(pathlib.Path(document).read_text()):
+            shown = command.split("\n")[0]
             if (tool := missing(command)) is not None:
-                print(f"  $ {command}: skipped, since {tool} isn't there")
+                print(f"  $ {shown}: skipped, since {tool} isn't there")
                 continue
             text, status = expected(lines)
             got, ended = printed(command, folder)
             if (got, ended) == (text, status):
-                print(f"  $ {command}: prints what {document} says")
+                print(f"  $ {shown}: prints what {document} says")
             else:
                 wrong += 1
-                print(f"  $ {command}: status {ended}, and printed\n{got}  in place of status {status} and\n{text}", end="")
+                print(f"  $ {shown}: status {ended}, and printed\n{got}  in place of status {status} and\n{text}", end="")
     return 1 if wrong else 0
 
 

@@ -13,15 +13,19 @@ Writes into FOLDER what the memory holds of these:
                   FADT that it lists leads, as FACS.aml and DSDT.aml, named by the signature; a second table of a signature is
                   SIGNATURE-2.aml
 
-Status 0: done; 1: the SMBIOS anchor or the root pointer leads to no table; 2: the file is no dump. A memory without an anchor of 24
-bytes has no structures, and one without a root pointer no ACPI tables, which is no fault.
+Where a table can't be cut, a line says which and why, and the others are written all the same.
+
+Status 0: done; 1: a table can't be cut; 2: DUMP is no dump, or a file can't be read or written. A memory without an anchor of 24 bytes has no
+structures, and one without a root pointer no ACPI tables, which is no fault.
 """
 
-import pathlib
 import re
 import sys
 
-from memory_dump import NotADump, NotFound, reachable_tables, read_dump, root_pointer, root_table
+from endings import ended, folder_of, refused
+from memory_dump import NotADump, NotFound, acpi_table, led_addresses, listed_addresses, read_dump_file, root_pointer, root_table
+
+SHOWN = 12  # of the tables that can't be cut
 
 
 def smbios_files(memory):
@@ -39,17 +43,56 @@ def smbios_files(memory):
     return {"smbios.bin": bytes(anchor).ljust(0x20, b"\0") + table}
 
 
-def acpi_files(memory):
-    """The tables that the root pointer leads to (ACPI 6.5, 5.2.5, 5.2.8 and 5.2.9)."""
-    pointer = root_pointer(memory)
-    if pointer is None:
-        return {}
-    files = {"RSDP.bin": pointer}
-    if pointer[15] >= 2:
-        files["RSDP.asl"] = pointer_source(pointer[9:15], int.from_bytes(pointer[24:32], "little"))
-    for table in reachable_tables(memory, root_table(memory, pointer)):
-        files[name_of(table, files)] = table
-    return files
+class Cut:
+    """The files that are cut out of a memory, and why others can't be."""
+
+    def __init__(self, memory):
+        self.memory = memory
+        self.files = {}
+        self.faults = []
+
+    def attempt(self, read, *given):
+        """What a function reads, or None where that isn't there."""
+        try:
+            return read(*given)
+        except NotFound as refusal:
+            self.faults.append(str(refusal))
+            return None
+
+    def cut_structures(self):
+        self.files.update(self.attempt(smbios_files, self.memory) or {})
+
+    def cut_pointer(self):
+        """The root pointer of the ACPI tables (ACPI 6.5, 5.2.5), and the tables that it leads to."""
+        pointer = self.attempt(root_pointer, self.memory)
+        if pointer is None:
+            return
+        self.files["RSDP.bin"] = pointer
+        if pointer[15] >= 2:
+            self.files["RSDP.asl"] = pointer_source(pointer[9:15], int.from_bytes(pointer[24:32], "little"))
+        root = self.attempt(root_table, self.memory, pointer)
+        if root is not None:
+            self.put(root)
+            self.cut_listed(root)
+
+    def cut_listed(self, root):
+        """The tables that an XSDT or an RSDT lists (5.2.8), and behind an FADT those that it leads to (5.2.9)."""
+        for address in listed_addresses(root):
+            table = self.cut_table(address)
+            if table is not None and table[:4] == b"FACP":
+                for led in led_addresses(table):
+                    self.cut_table(led)
+
+    def cut_table(self, address):
+        table = self.attempt(acpi_table, self.memory, address)
+        if table is not None:
+            self.put(table, address)
+        return table
+
+    def put(self, table, address=None):
+        name = self.attempt(name_of, table, address, self.files)
+        if name is not None:
+            self.files[name] = table
 
 
 def pointer_source(oem_id, xsdt_address):
@@ -68,33 +111,32 @@ def pointer_source(oem_id, xsdt_address):
     return "\n".join([*lines, ""]).encode("latin-1")
 
 
-def name_of(table, files):
+def name_of(table, address, files):
     signature = table[:4].decode("latin-1")
     if re.fullmatch("[A-Z0-9_]{4}", signature) is None:
-        raise NotFound(f"{table[:4].hex()} is no signature of an ACPI table")
+        raise NotFound(f"the ACPI table at {address:#x}: {table[:4].hex()} is no signature")
     names = [f"{signature}.aml", *(f"{signature}-{count}.aml" for count in range(2, len(files) + 3))]
     return next(name for name in names if name not in files)
 
 
 def main(dump, folder):
+    folder = folder_of(folder)
     try:
-        memory = read_dump(pathlib.Path(dump).read_bytes())
-        files = {**smbios_files(memory), **acpi_files(memory)}
-    except OSError as refusal:
-        print(f"dump_tables.py: {refusal}", file=sys.stderr)
-        return 2
+        cut = Cut(read_dump_file(dump))
     except NotADump as refusal:
-        print(f"dump_tables.py: {dump} is no dump: {refusal}", file=sys.stderr)
-        return 2
-    except NotFound as refusal:
-        print(f"dump_tables.py: {dump}: {refusal}", file=sys.stderr)
-        return 1
-    for name, content in files.items():
-        pathlib.Path(folder, name).write_bytes(content)
-    return 0
+        return refused(refusal)
+    cut.cut_structures()
+    cut.cut_pointer()
+    for name, content in cut.files.items():
+        (folder / name).write_bytes(content)
+    for fault in cut.faults[:SHOWN]:
+        print(f"dump_tables.py: {dump}: not cut: {fault}", file=sys.stderr)
+    if cut.faults[SHOWN:]:
+        print(f"dump_tables.py: {dump}: not cut: {len(cut.faults) - SHOWN} more", file=sys.stderr)
+    return 1 if cut.faults else 0
 
 
 if __name__ == "__main__":
     if len(sys.argv) != 3:
         sys.exit("usage: dump_tables.py DUMP FOLDER")
-    sys.exit(main(*sys.argv[1:]))
+    sys.exit(ended(main, sys.argv[1:]))

@@ -3,6 +3,7 @@ the judges of the program's `build` and `load` share. The directory is that of Q
 hw/acpi/bios-linker-loader.c.
 """
 
+import pathlib
 import struct
 from typing import NamedTuple
 
@@ -15,6 +16,7 @@ COMMAND_SIZE = 128
 ALLOCATE = struct.Struct("<4x56sIB")
 ADD_POINTER = struct.Struct("<4x56s56sIB")
 ADD_CHECKSUM = struct.Struct("<4x56sIII")
+WRITE_POINTER = struct.Struct("<4x56s56sIIB")
 
 
 class NotAContainer(Exception):
@@ -58,11 +60,15 @@ def read_directory(content):
     size = directory_size(COUNT.unpack_from(content)[0])
     if len(content) < size:
         raise NotAContainer(f"the directory takes {size} bytes, and {len(content)} are there")
-    return [read_entry(*fields) for fields in DIRECTORY_ENTRY.iter_unpack(content[COUNT.size : size])], size
+    parts = DIRECTORY_ENTRY.iter_unpack(content[COUNT.size : size])
+    return [read_entry(number, *fields) for number, fields in enumerate(parts, start=1)], size
 
 
-def read_entry(size, selector, reserved, field):
-    name = read_name(field)
+def read_entry(number, size, selector, reserved, field):
+    try:
+        name = read_name(field)
+    except NotAContainer as refusal:
+        raise NotAContainer(f"file {number}: {refusal}") from refusal
     if reserved != 0:
         raise NotAContainer(f"{name}: the reserved bytes of its entry are {reserved:#x}")
     if field[len(name) :].strip(b"\0"):
@@ -73,7 +79,7 @@ def read_entry(size, selector, reserved, field):
 def read_name(field):
     name, nul, _ = field.partition(b"\0")
     if not name or not nul or not all(0x20 <= byte <= 0x7E for byte in name):
-        raise NotAContainer(f"{field!r} is no name")
+        raise NotAContainer(f"{name!r} is no name of 1 to 55 characters, each 0x20 to 0x7E, and a NUL behind it")
     return name.decode()
 
 
@@ -82,16 +88,36 @@ def read_container(content):
     entries, at = read_directory(content)
     flags = content[at : at + len(entries)]
     at += len(entries)
-    if len({entry.name for entry in entries}) < len(entries) or len({entry.selector for entry in entries}) < len(entries):
-        raise NotAContainer("two files have the same name or the same selector")
-    if any(not 0x20 <= entry.selector <= 0x3FFF for entry in entries):
-        raise NotAContainer("a selector isn't 0x20 to 0x3FFF")
-    if flags.strip(b"\0\1"):
-        raise NotAContainer("a flag is neither 0 nor 1")
+    names, selectors = set(), set()
+    for entry in entries:
+        check_entry(entry, names, selectors)
+        names.add(entry.name)
+        selectors.add(entry.selector)
+    for entry, flag in zip(entries, flags):
+        if flag > 1:
+            raise NotAContainer(f"{entry.name}: its flag {flag} is neither 0 nor 1")
     size = at + sum(entry.size for entry in entries)
     if size != len(content):
         raise NotAContainer(f"its files end at {size}, and it has {len(content)} bytes")
     return cut_files(entries, content[at:])
+
+
+def read_container_file(name):
+    """The content of each file of a container in a file."""
+    try:
+        return read_container(pathlib.Path(name).read_bytes())
+    except NotAContainer as refusal:
+        raise NotAContainer(f"{name} is no container: {refusal}") from refusal
+
+
+def check_entry(entry, names, selectors):
+    """Refuses an entry that can't stand behind those with these names and selectors."""
+    if entry.name in names:
+        raise NotAContainer(f"{entry.name}: a file before it has this name")
+    if entry.selector in selectors:
+        raise NotAContainer(f"{entry.name}: a file before it has its selector {entry.selector:#x}")
+    if not 0x20 <= entry.selector <= 0x3FFF:
+        raise NotAContainer(f"{entry.name}: its selector {entry.selector:#x} isn't 0x20 to 0x3FFF")
 
 
 def cut_files(entries, content):

@@ -12,36 +12,34 @@ the fill byte 00. By hand, at QEMU's monitor (`-monitor stdio` among its words, 
   pmemsave 0x7e000000 0x2000000 high.bin
   cont
 
-and then `make_dump.py low.bin high.bin 2048 > guest.dump`. The address 0x7e000000 is the top less 32 MiB. Where a guest has at most
-2048 MiB the top is all that it has. Of more memory a part stands above 4 GiB, and `info mtree` tells what is below the top in its first
-line with `ram-below-4g`: 0000000000000000-000000007fffffff for a top of 2048 MiB.
+and then `make_dump.py low.bin high.bin 2048 > guest.dump`. A file's name that has a slash stands in quotes at the monitor, as in
+"/tmp/low.bin". The address 0x7e000000 is the top less 32 MiB. Where a guest has at most 2048 MiB the top is all that it has. Of more memory a
+part stands above 4 GiB, and `info mtree` tells what is below the top in its first line with `ram-below-4g`: 0000000000000000-000000007fffffff
+for a top of 2048 MiB.
 
-Status 0: done; 2: a file isn't there or has another size, or the top is none.
+Status 0: done; 2: a file isn't there or has another size, the top is none, or the dump can't be written.
 """
 
 import pathlib
 import sys
 
+from endings import Refused, ended
 from memory_dump import LEAST_TOP_MIB, LOWER_WINDOW, MOST_TOP_MIB, UPPER_WINDOW_SIZE, Memory, dump_text
 
 LOW_SIZE = 1 << 20
 
 
-class NotSaved(Exception):
-    pass
-
-
 def saved(file, size):
     content = pathlib.Path(file).read_bytes()
     if len(content) != size:
-        raise NotSaved(f"{file} has {len(content)} bytes in place of {size}")
+        raise Refused(f"{file} has {len(content)} bytes in place of {size}")
     return content
 
 
 def top_of(word):
     """The top of memory that a word of so many MiB tells."""
     if not (word.isascii() and word.isdecimal() and LEAST_TOP_MIB <= int(word) <= MOST_TOP_MIB):
-        raise NotSaved(f"the top {word} isn't {LEAST_TOP_MIB} to {MOST_TOP_MIB}")
+        raise Refused(f"the top {word} isn't {LEAST_TOP_MIB} to {MOST_TOP_MIB}")
     return int(word) << 20
 
 
@@ -54,16 +52,11 @@ def memory_of(low, high, top):
 
 
 def main(low, high, top_mib):
-    try:
-        memory = memory_of(saved(low, LOW_SIZE), saved(high, UPPER_WINDOW_SIZE), top_of(top_mib))
-    except (OSError, NotSaved) as refusal:
-        print(f"make_dump.py: {refusal}", file=sys.stderr)
-        return 2
-    sys.stdout.buffer.write(dump_text(memory))
-    return 0
+    sys.stdout.buffer.write(dump_text(memory_of(saved(low, LOW_SIZE), saved(high, UPPER_WINDOW_SIZE), top_of(top_mib))))
+    sys.stdout.buffer.flush()
 
 
 if __name__ == "__main__":
     if len(sys.argv) != 4:
         sys.exit("usage: make_dump.py LOW HIGH TOP_MIB > DUMP")
-    sys.exit(main(*sys.argv[1:]))
+    sys.exit(ended(main, sys.argv[1:]))

@@ -1,6 +1,7 @@
 """The memory of a guest as a dump spells it, and the ACPI tables in it: what the tools and the judges that read dumps share."""
 
 import copy
+import pathlib
 import re
 
 HEADER = re.compile(rb"top ([0-9a-f]{8}) fill ([0-9a-f]{2})")
@@ -108,6 +109,14 @@ def read_row(memory, before, number, line):
     return address
 
 
+def read_dump_file(name):
+    """The memory of a dump in a file."""
+    try:
+        return read_dump(pathlib.Path(name).read_bytes())
+    except NotADump as refusal:
+        raise NotADump(f"{name} is no dump: {refusal}") from refusal
+
+
 def dump_text(memory):
     """The dump of a memory."""
     rows = "".join(f"{address:08x} {content.hex()}\n" for address, content in sorted(memory.rows.items()))
@@ -148,10 +157,16 @@ def root_table(memory, pointer):
     return table
 
 
+def listed_addresses(root):
+    """The addresses of the tables that an XSDT or an RSDT lists. An entry that is zero lists none."""
+    width = 8 if root[:4] == b"XSDT" else 4
+    addresses = (number_at(root, entry, width) for entry in range(36, len(root) - width + 1, width))
+    return [address for address in addresses if address != 0]
+
+
 def listed_tables(memory, root):
     """The tables that an XSDT or an RSDT lists."""
-    width = 8 if root[:4] == b"XSDT" else 4
-    return [acpi_table(memory, number_at(root, entry, width)) for entry in range(36, len(root) - width + 1, width)]
+    return [acpi_table(memory, address) for address in listed_addresses(root)]
 
 
 def led_addresses(fadt):

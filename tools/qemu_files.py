@@ -11,13 +11,14 @@ the firmware has set up until then, as of PCI: a machine that never ran has othe
 placed its tables and two readings, with a run of the machine between, give the same. A file that the firmware writes, as by a
 WRITE_POINTER, holds what it wrote.
 
-Status 0: done; 2: what the machine answers makes no container; 3: QEMU isn't there or doesn't start the machine, or the machine doesn't
-answer, or its firmware isn't through in time.
+Status 0: done; 2: what the machine answers makes no container, or CONTAINER can't be written; 3: QEMU isn't there or doesn't start the
+machine, or the machine doesn't answer, or its firmware isn't through in time.
 """
 
 import pathlib
 import sys
 
+from endings import ended, folder_of
 from fw_cfg_files import NotAContainer, read_container, read_directory
 from qemu_machine import MACHINES, Machine, NoAnswer
 
@@ -47,6 +48,7 @@ def settled_container(machine):
 
 
 def main(machine_name, container, *options):
+    folder_of(pathlib.Path(container).parent)
     try:
         with Machine(machine_name, options) as machine:
             content = settled_container(machine)
@@ -63,4 +65,4 @@ def main(machine_name, container, *options):
 if __name__ == "__main__":
     if len(sys.argv) < 3 or sys.argv[1] not in MACHINES:
         sys.exit("usage: qemu_files.py pc|q35 CONTAINER [OPTION..]")
-    sys.exit(main(*sys.argv[1:]))
+    sys.exit(ended(main, sys.argv[1:]))

@@ -40,7 +40,8 @@ table_fits signature h body four few fits are no_sum =
 -- so can those of a table that can be put into a file
 pub put_fits : (table : Table) → CanBePut table → AreRows (rows_of table)
 put_fits table can =
-    table_fits (signature_of table) (layout_of table).head (rows_behind (layout_of table)) (length-signature table) (omega (arith, can.writable.lawful.few)) can.head
+    table_fits (signature_of table) (layout_of table).head (rows_behind (layout_of table)) (length-signature table)
+    (omega (arith, can.writable.lawful.few)) can.head
     can.fit (body_unsummed (rows_behind (layout_of table)) can.writable.lawful.rows)
 
 module _ (file : BlobState) (blob : IsBlob file) where

@@ -81,7 +81,8 @@ reached_more view xsdt begun now next index address is some taken reached =
     ∙ ap (λ those. given (numbers_at view (xsdt + 36) index) ++ those) (given_one address some []) in
     record {
       told = λ begun_told.
-          subst (λ those. AreTold view those next.tables next.generation) (sym more) (taken.told (given (numbers_at view (xsdt + 36) index)) (reached.told begun_told));
+          subst (λ those. AreTold view those next.tables next.generation) (sym more)
+          (taken.told (given (numbers_at view (xsdt + 36) index)) (reached.told begun_told));
       oem_id = taken.oem_id ∙ reached.oem_id;
       header = taken.xsdt ∙ reached.header;
     }

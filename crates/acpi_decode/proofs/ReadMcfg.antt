@@ -174,7 +174,8 @@ mcfg_read view address bytes front allocations filled ram there is behind =
     let sizes : 36 + size (whole_shape count) ≡ 44 + 16 * count = omega (arith, size-allocations count) in
     let within : 36 + size (whole_shape count) ≤ total_at view address = omega (arith, sizes, filled.long) in
     let all : List ℕ = bytes_from view address (36 + size (whole_shape count)) in
-    let whole = ram_bytes view address (36 + size (whole_shape count)) (front_ram view address (total_at view address) (36 + size (whole_shape count)) ram within) in
+    let whole = ram_bytes view address (36 + size (whole_shape count)) (front_ram view address (total_at view address) (36 + size (whole_shape count))
+    ram within) in
     let last = among_rows view address count all (subst (λ n. bytes_in view address n ≡ Some all) sizes whole) in
     ap (λ f. McfgVariant (mcfg_of f allocations)) (is ∙ same_front view address (36 + size (whole_shape count)) bytes all there (omega (arith, sizes)) whole)
     ∙ ap (λ those. McfgVariant (mcfg_of (front_from all) those)) (behind ∙ sym last) ∙ sym (of_rows count all)

@@ -1,5 +1,6 @@
 -- What the rules say of an accepted machine's ACPI tables.
-use Rattle.std.proofs.Common.{◌≡◌, ℕ, ◌≤◌, ◌%◌, ◌==◌, Bool, true, false, List, [], ◌∷◌, get_or, is_some, Option, Some, None, IsSome, IfSome, ◌&&◌, nat_le, length, not}
+use Rattle.std.proofs.Common.{◌≡◌, ℕ, ◌≤◌, ◌%◌, ◌==◌, Bool, true, false, List, [], ◌∷◌, get_or, is_some, Option, Some, None, IsSome, IfSome, ◌&&◌}
+use Rattle.std.proofs.Common.{nat_le, length, not}
 use Rattle.std.proofs.Common.{if◌then◌else◌, refl, ap, sym, ◌∙◌}
 use Rattle.std.proofs.lemmas.Bool.{and_parts, leb-true}
 use Rattle.std.specs.Option.{option_map_or}

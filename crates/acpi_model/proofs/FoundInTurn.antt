@@ -20,7 +20,8 @@ use Rattle.acpi_model.specs.HpetKind.{hpet_kind, as_hpet}
 use Rattle.acpi_model.specs.Acpi.{signature_of, IsAt, IsOther, Walks, AreDistinct, first_links, gathered, no_targets, AreFound, AreTold, is_first, TableLeadsTo}
 use Rattle.acpi_model.specs.Acpi.{IsFoundBehind, with_table, id_with, with_other}
 use Rattle.acpi_model.proofs.SameTold.{told_with, told_same}
-use Rattle.acpi_model.proofs.FirstOfKind.{fadt_tells, links_tell, madt_tells, srat_tells, slit_tells, mcfg_tells, hpet_tells, told_apart, first_of-append, first_of-more}
+use Rattle.acpi_model.proofs.FirstOfKind.{fadt_tells, links_tell, madt_tells, srat_tells, slit_tells, mcfg_tells, hpet_tells, told_apart}
+use Rattle.acpi_model.proofs.FirstOfKind.{first_of-append, first_of-more}
 use Rattle.acpi_model.proofs.DistinctInTurn.{distinct_more, distinct_front, first_behind}
 
 -- no tables stand at no addresses
@@ -114,7 +115,8 @@ module _ (view : View) (before : List ℕ) (all : AcpiTables) (id : Option (List
             (leads_on view t targets is.targets (first_links is.tables) lead is.found.lead);
       };
       told = ap (λ those. told_with (option_or (as_fadt t) all.fadt) (option_or (as_madt t) all.madt) (option_or (as_srat t) all.srat)
-          (option_or (as_slit t) all.slit) (option_or (as_mcfg t) all.mcfg) (option_or (as_hpet t) all.hpet) all.oem_id all.xsdt (led_with t targets those) all.others)
+          (option_or (as_slit t) all.slit) (option_or (as_mcfg t) all.mcfg) (option_or (as_hpet t) all.hpet) all.oem_id all.xsdt
+          (led_with t targets those) all.others)
           (ap (λ (a : AcpiTables). targets_told a id) is.told ∙ ap (λ its. record is.targets { generation = its }) is.its_id)
           ∙ told_same all.oem_id all.xsdt (led_with t targets is.targets) all.others
           (ap (λ (a : AcpiTables). option_or (as_fadt t) a.fadt) is.told ∙ sym (first_of-more fadt_kind as_fadt fadt_tells is.tables t first))

@@ -134,7 +134,8 @@ leads_to_targets view place_of facs dsdt its id placed (Some power) facs_stands 
     let links : FadtLinks = linked_links place_of (fadt_links facs dsdt) in
     let place : ℕ = place_of tables_name in (
       found_there (IsFacs view) initial_facs (facs_address links) facs place (wide_at facs place 0 placed) placed (facs_stands refl),
-      found_there (λ address d. IsKeptAt view address d id) its (dsdt_address links) dsdt place (wide_at dsdt place (dsdt + place) placed) placed (dsdt_stands refl),
+      found_there (λ address d. IsKeptAt view address d id) its (dsdt_address links) dsdt place (wide_at dsdt place (dsdt + place) placed) placed
+          (dsdt_stands refl),
     )
 
 -- the part that an FADT tells, whatever its ports are, with a clock or none

@@ -20,7 +20,8 @@ use Rattle.machine_desc.specs.Rules.{is_new, irq_of, is_lawful_override, is_lawf
 use Rattle.machine_desc.specs.Fields.{IsFittingApic, IsFittingCpu, IsFittingIoApic, IsFittingOverride, IsFittingNmi, HasFittingFields}
 use Rattle.machine_desc.proofs.Accepted.{each_kept, few_at}
 use Rattle.acpi_records.specs.declared.madt_entry.MadtEntry.{MadtEntry}
-use Rattle.acpi_records.specs.declared.madt_entry.MadtEntry.TheVariants.{LocalApic, LocalNmi, X2Apic, X2ApicNmi, Other, IoApic as IoApicVariant, Override as OverrideVariant}
+use Rattle.acpi_records.specs.declared.madt_entry.MadtEntry.TheVariants.{LocalApic, LocalNmi, X2Apic, X2ApicNmi, Other, IoApic as IoApicVariant}
+use Rattle.acpi_records.specs.declared.madt_entry.MadtEntry.TheVariants.{Override as OverrideVariant}
 use Rattle.acpi_records.specs.Header.{FitsHead, body_rows}
 use Rattle.acpi_records.specs.Madt.{madt_front_fields, madt_front_of}
 use Rattle.acpi_records.specs.MadtEntries.{madt_entry_of, IsMadtEntry, IsFittingMadtEntry}
@@ -29,7 +30,8 @@ use Rattle.acpi_records.proofs.EachMadtEntry.{madt_entry_fits}
 use Rattle.acpi_model.specs.declared.acpi.Table.TheVariants.{Madt}
 use Rattle.acpi_model.specs.Kinds.{rows_behind}
 use Rattle.acpi_model.specs.MadtKind.{madt_layout}
-use Rattle.acpi_model.specs.MachineMadt.{cpu_flags, cpu_entry, cpu_entries, io_apic_entry, override_entry, nmi_entry_for, nmi_entry, entries_of, apic_flags, madt_of_machine}
+use Rattle.acpi_model.specs.MachineMadt.{cpu_flags, cpu_entry, cpu_entries, io_apic_entry, override_entry, nmi_entry_for, nmi_entry, entries_of}
+use Rattle.acpi_model.specs.MachineMadt.{apic_flags, madt_of_machine}
 use Rattle.acpi_model.specs.Acpi.{IsWritable, CanBePut}
 use Rattle.acpi_model.proofs.Headers.{head_fits}
 use Rattle.acpi_model.proofs.Madts.{size-madt, madt_writable}

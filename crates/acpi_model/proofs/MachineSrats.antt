@@ -133,8 +133,10 @@ cpu_back cpu small = at (nat_le cpu.apic 254)
   where
     at : (is : Bool)
         → (if is
-        then apic_node (if is then Apic (record { node = cpu.node; apic = cpu.apic; flags = 1 }) else X2Apic (record { node = cpu.node; apic = cpu.apic; flags = 1 }))
-        else x2apic_node (if is then Apic (record { node = cpu.node; apic = cpu.apic; flags = 1 }) else X2Apic (record { node = cpu.node; apic = cpu.apic; flags = 1 })))
+        then apic_node (if is then Apic (record { node = cpu.node; apic = cpu.apic; flags = 1 }) else X2Apic
+        (record { node = cpu.node; apic = cpu.apic; flags = 1 }))
+        else x2apic_node (if is then Apic (record { node = cpu.node; apic = cpu.apic; flags = 1 }) else X2Apic
+        (record { node = cpu.node; apic = cpu.apic; flags = 1 })))
         ≡ cpu.node
     at true = fitted-node cpu.node small
     at false = fitted-node cpu.node small

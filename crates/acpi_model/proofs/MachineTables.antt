@@ -1,5 +1,6 @@
 -- The tables that a machine's XSDT names. What is known of each kind stands here once, and in one list.
-use Rattle.std.proofs.Common.{◌≡◌, ℕ, ◌+◌, ◌*◌, ◌^◌, ◌<◌, ◌≤◌, List, [], ◌∷◌, length, map, Option, Some, None, option_map, option_and_then, true, arith, rules, refl, ap, ◌∙◌}
+use Rattle.std.proofs.Common.{◌≡◌, ℕ, ◌+◌, ◌*◌, ◌^◌, ◌<◌, ◌≤◌, List, [], ◌∷◌, length, map, Option, Some, None, option_map, option_and_then, true}
+use Rattle.std.proofs.Common.{arith, rules, refl, ap, ◌∙◌}
 use Rattle.std.specs.Prelude.{IfSome}
 use Rattle.std.specs.List.{AllByRecursion}
 use Rattle.machine_desc.specs.declared.machine.Machine.{Machine}
@@ -27,7 +28,8 @@ use Rattle.acpi_model.specs.MachineSlit.{slit_of_machine}
 use Rattle.acpi_model.specs.McfgKind.{mcfg_kind}
 use Rattle.acpi_model.specs.MachineMcfg.{mapped, mcfg_of_bridge}
 use Rattle.acpi_model.specs.HpetKind.{hpet_kind}
-use Rattle.acpi_model.specs.Acpi.{kinds, layout_of, signature_of, linked_table, IsWritable, CanBePut, AreDistinct, bytes_behind, first_with, first_of, facs_place, dsdt_place, parts_of, present, tables_of}
+use Rattle.acpi_model.specs.Acpi.{kinds, layout_of, signature_of, linked_table, IsWritable, CanBePut, AreDistinct, bytes_behind, first_with, first_of}
+use Rattle.acpi_model.specs.Acpi.{facs_place, dsdt_place, parts_of, present, tables_of}
 use Rattle.acpi_model.proofs.Headers.{head_fits}
 use Rattle.acpi_model.proofs.Fadts.{size-fadt, fadt_writable}
 use Rattle.acpi_model.proofs.Srats.{size-srat, srat_writable}
@@ -38,7 +40,8 @@ use Rattle.acpi_model.proofs.AcceptedNodes.{most_cpus, most_ranges, HasFewNodes,
 use Rattle.acpi_model.proofs.MachineFadts.{fadt_rows_fit}
 use Rattle.acpi_model.proofs.MachineMadts.{few_madt_bytes, madt_written, madt_can}
 use Rattle.acpi_model.proofs.Mcfgs.{IsLawfulBridge, mcfg_written, mcfg_can, size-mcfg, lawful_bridge}
-use Rattle.acpi_model.proofs.Parts.{AreParts, length-present, AreSigned, all_differ, parts_weaker, each_present, part_of, first-present, distinct-present, distinct-linked}
+use Rattle.acpi_model.proofs.Parts.{AreParts, length-present, AreSigned, all_differ, parts_weaker, each_present, part_of, first-present}
+use Rattle.acpi_model.proofs.Parts.{distinct-present, distinct-linked}
 
 -- the signatures of the known kinds, which differ
 abbrev pub signatures : List (List ℕ)
@@ -133,7 +136,8 @@ FitsAll m acpi = FitsHead acpi × HasFittingFields m × IsAccepted m
 
 are_parts : (m : Machine) (acpi : Acpi) → AreParts (IsPart (IsAccepted m) (FitsAll m acpi)) signatures (parts_of m acpi)
 are_parts m acpi =
-    let fadt = is_part (IsAccepted m) (FitsAll m acpi) fadt_kind.signature (λ power. Fadt (fadt_of acpi power) (fadt_links facs_place dsdt_place)) Always FitsPower
+    let fadt = is_part (IsAccepted m) (FitsAll m acpi) fadt_kind.signature (λ power. Fadt (fadt_of acpi power) (fadt_links facs_place dsdt_place))
+    Always FitsPower
     (λ power. refl) (λ power keeps. fadt_written acpi power) (λ fit. fadt_can acpi fit.0) m.power (λ accepted. always m.power)
     (λ fit. fits_power m fit.1 fit.2) in
     let madt = is_part (IsAccepted m) (FitsAll m acpi) madt_kind.signature (λ apic. Madt (madt_of_machine m acpi apic)) (λ apic. IsAccepted m) IsFittingApic
@@ -202,7 +206,8 @@ machine_bytes m acpi accepted =
     (whichever (IsAccepted m) m.apic accepted) in
     let srat = part_short (λ numa. Srat (srat_of_machine m acpi)) (λ numa. HasFewNodes m) most_srat (λ numa. size-srat-few m acpi) m.numa
     (few_nodes m m.numa accepted) in
-    let slit = part_short (λ numa. Slit (slit_of_machine acpi numa)) IsSquare (8 + most_numa * most_numa) (size-slit-few acpi) m.numa (accepted_numa m accepted) in
+    let slit = part_short (λ numa. Slit (slit_of_machine acpi numa)) IsSquare (8 + most_numa * most_numa) (size-slit-few acpi) m.numa
+    (accepted_numa m accepted) in
     let mcfg = part_short (λ bridge. Mcfg (mcfg_of_bridge acpi bridge)) Always 24 (λ bridge keeps. omega (arith, size-mcfg acpi bridge)) (mapped m.bridge)
     (always (mapped m.bridge)) in
     let hpet = part_short (λ hpet. Hpet (hpet_of acpi hpet)) Always 20 (λ hpet keeps. omega arith) m.hpet (always m.hpet) in

@@ -46,7 +46,8 @@ madt_writable t kept few = record {
         subst (AllByRecursion (IsOfType madt_types)) (sym (list_linked madt_entry_of place_of (madt_entry_linked place_of) t.entries))
         (list_typed madt_types madt_entry_of IsMadtEntry madt_entry_typed t.entries kept);
     few = few;
-    rows = each_append IsBodyRow (body_rows (madt_front_fields (madt_front_of t))) (entries_rows (map madt_entry_of t.entries)) (readable_body (madt_front_fields (madt_front_of t)) refl)
+    rows = each_append IsBodyRow (body_rows (madt_front_fields (madt_front_of t))) (entries_rows (map madt_entry_of t.entries))
+        (readable_body (madt_front_fields (madt_front_of t)) refl)
         (entries_body t.entries);
   };
   lead = tt;

@@ -15,7 +15,8 @@ use Rattle.acpi_records.specs.declared.madt_entry.X2ApicEntry.{X2ApicEntry}
 use Rattle.acpi_records.specs.declared.madt_entry.X2ApicNmiEntry.{X2ApicNmiEntry}
 use Rattle.acpi_records.specs.declared.madt_entry.MadtEntry.{MadtEntry}
 use Rattle.acpi_records.specs.declared.madt_entry.MadtEntry.TheVariants.{LocalApic, LocalNmi, X2Apic, X2ApicNmi}
-use Rattle.acpi_model.specs.MachineMadt.{cpu_flags, cpu_entry, cpu_entries, io_apic_entry, override_entry, nmi_entry_for, nmi_entry, entries_of, madt_of_machine}
+use Rattle.acpi_model.specs.MachineMadt.{cpu_flags, cpu_entry, cpu_entries, io_apic_entry, override_entry, nmi_entry_for, nmi_entry, entries_of}
+use Rattle.acpi_model.specs.MachineMadt.{madt_of_machine}
 use Rattle.acpi_model.specs.MachineMadt.{apic_in, cpu_in, io_apic_in, override_in, nmi_in, cpus_in, io_apics_in, overrides_in, nmis_in, without_node}
 
 -- the entries that parts have are those that tell the parts
@@ -143,7 +144,8 @@ module _ (m : Machine) (acpi : Acpi) (apic : Apic) where
   unfolding overrides_and_nmis
   io_apics_back =
       ap (filter_map io_apic_in) (in_turn m)
-      ∙ none_back io_apic_in cpu_entry (no_cpu io_apic_in (λ e. refl) (λ e. refl)) (enumerate_from 0 m.cpus) (map io_apic_entry m.io_apics ++ overrides_and_nmis)
+      ∙ none_back io_apic_in cpu_entry (no_cpu io_apic_in (λ e. refl) (λ e. refl)) (enumerate_from 0 m.cpus)
+      (map io_apic_entry m.io_apics ++ overrides_and_nmis)
       ∙ all_back io_apic_in io_apic_entry (λ a. a) (λ a. refl) m.io_apics overrides_and_nmis
       ∙ ap (λ more. map (λ a. a) m.io_apics ++ more) (none_back io_apic_in override_entry (λ o. refl) m.overrides (map nmi_entry m.nmis ++ [])
       ∙ none_back io_apic_in nmi_entry (no_nmi io_apic_in (λ e. refl) (λ e. refl)) m.nmis [])
@@ -153,7 +155,8 @@ module _ (m : Machine) (acpi : Acpi) (apic : Apic) where
   unfolding overrides_and_nmis
   overrides_back =
       ap (filter_map override_in) (in_turn m)
-      ∙ none_back override_in cpu_entry (no_cpu override_in (λ e. refl) (λ e. refl)) (enumerate_from 0 m.cpus) (map io_apic_entry m.io_apics ++ overrides_and_nmis)
+      ∙ none_back override_in cpu_entry (no_cpu override_in (λ e. refl) (λ e. refl)) (enumerate_from 0 m.cpus)
+      (map io_apic_entry m.io_apics ++ overrides_and_nmis)
       ∙ none_back override_in io_apic_entry (λ a. refl) m.io_apics overrides_and_nmis
       ∙ all_back override_in override_entry (λ o. o) (λ o. refl) m.overrides (map nmi_entry m.nmis ++ [])
       ∙ ap (λ more. map (λ o. o) m.overrides ++ more) (none_back override_in nmi_entry (no_nmi override_in (λ e. refl) (λ e. refl)) m.nmis [])

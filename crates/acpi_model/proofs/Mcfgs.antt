@@ -1,5 +1,6 @@
 -- MCFGs: as many allocations as fill them, each got back from its rows.
-use Rattle.std.proofs.Common.{◌≡◌, ℕ, zero, suc, ◌+◌, ◌-◌, ◌*◌, ◌/◌, ◌<◌, ◌^◌, List, [], ◌∷◌, ◌++◌, length, Bool, true, false, ◌%◌, nat_lt, Option, Some, None, IfSome, option_map, cond, ◌==◌, arith, rules, refl, ap, sym, ◌∙◌, subst}
+use Rattle.std.proofs.Common.{◌≡◌, ℕ, zero, suc, ◌+◌, ◌-◌, ◌*◌, ◌/◌, ◌<◌, ◌^◌, List, [], ◌∷◌, ◌++◌, length, Bool, true, false, ◌%◌, nat_lt, Option}
+use Rattle.std.proofs.Common.{Some, None, IfSome, option_map, cond, ◌==◌, arith, rules, refl, ap, sym, ◌∙◌, subst}
 use Rattle.std.proofs.lemmas.Bool.{and_parts, ltb-true}
 use Rattle.std.specs.Option.{option_map_or}
 use Rattle.vt_layout.specs.declared.row.Row.{Row}
@@ -85,7 +86,11 @@ lawful_part : (part : Option Bridge) → option_map_or has_lawful_ecam part true
     → IfSome (mapped part) IsLawfulBridge
 lawful_part None lawful fit = tt
 lawful_part (Some b) lawful fit =
-    lawful_if_mapped b (record { ecam = ltb-true b.ecam (2 ^ 52) (and_parts (b.ecam % 0x100000 == 0) (nat_lt b.ecam (2 ^ 52)) lawful).1; last_bus = fit.last_bus })
+    lawful_if_mapped b (record {
+      ecam = ltb-true b.ecam (2 ^ 52) (and_parts (b.ecam % 0x100000 == 0) (nat_lt b.ecam (2 ^ 52)) lawful).1;
+      last_bus
+          = fit.last_bus;
+    })
 
 pub lawful_bridge : (m : Machine) → HasFittingFields m → IsAccepted m → IfSome (mapped m.bridge) IsLawfulBridge
 lawful_bridge m fit accepted =

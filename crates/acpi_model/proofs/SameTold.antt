@@ -51,7 +51,8 @@ first_of-linked place_of kind as_kind same tables =
     ∙ same_record place_of as_kind same (first_with kind.signature tables)
 
 -- what is told, with these records of the kinds
-unfoldable pub told_with : Option FadtRecord → Option MadtRecord → Option SratRecord → Option SlitRecord → Option McfgRecord → Option HpetTable → List ℕ → Head → FadtTargets
+unfoldable pub told_with : Option FadtRecord → Option MadtRecord → Option SratRecord → Option SlitRecord → Option McfgRecord → Option HpetTable
+    → List ℕ → Head → FadtTargets
     → List OtherTable → AcpiTables
 told_with fadt madt srat slit mcfg hpet oem_id xsdt targets others = record {
   oem_id = oem_id;

@@ -1,5 +1,6 @@
 -- SLITs: their count, and the distances behind it.
-use Rattle.std.proofs.Common.{◌≡◌, ℕ, ◌+◌, ◌*◌, ◌≤◌, List, [], ◌∷◌, length, cond, nat_le, Option, Some, None, ◌&&◌, option_map, unwrap_or, arith, refl, ap, sym, ◌∙◌}
+use Rattle.std.proofs.Common.{◌≡◌, ℕ, ◌+◌, ◌*◌, ◌≤◌, List, [], ◌∷◌, length, cond, nat_le, Option, Some, None, ◌&&◌, option_map, unwrap_or, arith}
+use Rattle.std.proofs.Common.{refl, ap, sym, ◌∙◌}
 use Rattle.std.proofs.lemmas.Bool.{le-leb}
 use Rattle.std.proofs.lemmas.Nat.{mul-le}
 use Rattle.vt_bytes.specs.Numbers.{le}

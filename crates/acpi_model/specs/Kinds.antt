@@ -9,10 +9,10 @@ use Rattle.vt_layout.specs.Rows.{size, shape, linked}
 use Rattle.vt_layout.specs.Shown.{LayoutHeld}
 use Rattle.vt_layout.specs.Entries.{Entry, Types, EntriesShown, IsOfType, entries_rows, linked_entries}
 use Rattle.vt_layout.specs.Values.{values_of}
-use Rattle.vt_layout.specs.Fields.{Field, field_rows}
+use Rattle.vt_layout.specs.Fields.{Field}
 use Rattle.acpi_records.specs.declared.header.Head.{Head}
 use Rattle.acpi_model.specs.declared.acpi.Table.{Table}
-use Rattle.acpi_records.specs.Header.{IsTable, head_fields, header_rows, table_rows, body_rows}
+use Rattle.acpi_records.specs.Header.{IsTable, header_rows, table_rows, body_rows}
 
 -- A kind of table: its signature; the shape of the rows behind its header, in a table of so many bytes at an address of a view, or none
 -- where so many bytes aren't of the kind's form; the types of the entries that fill it behind them, where it has entries; and the table
@@ -51,10 +51,6 @@ table_of l = l.kind.table l.head l.body l.entries
 -- its rows behind its header, as they are written
 abbrev pub rows_behind : TableLayout → List Row
 rows_behind l = l.body ++ entries_rows l.entries
-
--- all of them, with zeros for the signature, the length and the checksum
-abbrev pub record_rows : TableLayout → List Row
-record_rows l = field_rows (head_fields l.head) ++ rows_behind l
 
 -- and as they are written
 abbrev pub layout_rows : TableLayout → List Row

@@ -10,7 +10,8 @@ use Rattle.machine_desc.specs.declared.acpi_parts.Override.{Override}
 use Rattle.machine_desc.specs.declared.acpi_parts.Nmi.{Nmi}
 use Rattle.acpi_records.specs.declared.madt.Madt.{Madt}
 use Rattle.acpi_records.specs.declared.madt_entry.MadtEntry.{MadtEntry}
-use Rattle.acpi_records.specs.declared.madt_entry.MadtEntry.TheVariants.{LocalApic, LocalNmi, X2Apic, X2ApicNmi, IoApic as IoApicVariant, Override as OverrideVariant}
+use Rattle.acpi_records.specs.declared.madt_entry.MadtEntry.TheVariants.{LocalApic, LocalNmi, X2Apic, X2ApicNmi, IoApic as IoApicVariant}
+use Rattle.acpi_records.specs.declared.madt_entry.MadtEntry.TheVariants.{Override as OverrideVariant}
 use Rattle.acpi_records.specs.Header.{head_of}
 
 -- A processor's UID is its position. It has a local APIC where its UID and its APIC id are at most 254, since 255 means all processors

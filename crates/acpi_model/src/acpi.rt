@@ -7,7 +7,8 @@ ghost use Rattle.acpi_model.specs.MachineMadt.{madt_of_machine};
 ghost use Rattle.acpi_records.specs.Hpet.{hpet_of};
 ghost use Rattle.acpi_model.specs.MachineSrat.{srat_of_machine};
 ghost use Rattle.acpi_model.specs.MachineSlit.{slit_of_machine};
-ghost use Rattle.acpi_model.specs.declared.acpi.Table.TheVariants.{Fadt as FadtVariant, Madt as MadtVariant, Srat as SratVariant, Slit as SlitVariant, Mcfg as McfgVariant, Hpet as HpetVariant};
+ghost use Rattle.acpi_model.specs.declared.acpi.Table.TheVariants.{Fadt as FadtVariant, Madt as MadtVariant, Srat as SratVariant};
+ghost use Rattle.acpi_model.specs.declared.acpi.Table.TheVariants.{Slit as SlitVariant, Mcfg as McfgVariant, Hpet as HpetVariant};
 ghost use Rattle.acpi_model.specs.MachineMcfg.{mapped, mcfg_of_bridge};
 ghost use Rattle.acpi_model.specs.Acpi.{facs_place, dsdt_place, dsdt_of, tables_of, acpi_of};
 

@@ -20,8 +20,10 @@ ghost use Rattle.acpi_model.specs.declared.acpi.OtherTable.{OtherTable};
 ghost use Rattle.acpi_model.specs.declared.acpi.Table.{Table};
 ghost use Rattle.acpi_records.specs.Header.{head_of, padded, FitsHead};
 ghost use Rattle.acpi_model.specs.Maker.{acpi_in};
-ghost use Rattle.acpi_model.specs.Acpi.{IsAt, IsOther, IsWritable, CanBePut, rows_of, linked_table, signature_of, Walks, AreAt, AreDistinct, bytes_behind, first_with, first_links, gathered, facs_place, tables_of, targets_of, acpi_of};
-ghost use Rattle.acpi_model.specs.Acpi.{dsdt_place, dsdt_at, HasIdAt, no_targets, AreFound, AreTold, is_first, TableLeadsTo, IsFoundBehind, with_table, id_with, with_other};
+ghost use Rattle.acpi_model.specs.Acpi.{IsAt, IsOther, IsWritable, CanBePut, rows_of, linked_table, signature_of, Walks, AreAt, AreDistinct};
+ghost use Rattle.acpi_model.specs.Acpi.{bytes_behind, first_with, first_links, gathered, facs_place, tables_of, targets_of, acpi_of};
+ghost use Rattle.acpi_model.specs.Acpi.{dsdt_place, dsdt_at, HasIdAt, no_targets, AreFound, AreTold, is_first, TableLeadsTo, IsFoundBehind};
+ghost use Rattle.acpi_model.specs.Acpi.{with_table, id_with, with_other};
 ghost use Rattle.acpi_model.specs.Kinds.{tables_name};
 ghost use Rattle.acpi_records.specs.Facs.{IsFacs};
 ghost use Rattle.acpi_model.specs.declared.dsdt.Dsdt.{Dsdt};
@@ -57,8 +59,8 @@ pub fn nothing_is_found_at_no_addresses()
 /// States that a table at one address more is added to what is told of those before: one of a known kind, where it is the first of its kind
 /// and with what its pointers lead to, and another. It is found last.
 pub fn found_tables_grow()
-    ensures table { (view : View) (before : List ℕ) (all : AcpiTables) (id : Option (List ℕ)) (is : AreTold view before all id) (address : ℕ) (t : Table) (targets : FadtTargets)
-        → IsAt view address t → is_first (signature_of t) is.tables ≡ true → TableLeadsTo view t targets
+    ensures table { (view : View) (before : List ℕ) (all : AcpiTables) (id : Option (List ℕ)) (is : AreTold view before all id)
+        (address : ℕ) (t : Table) (targets : FadtTargets) → IsAt view address t → is_first (signature_of t) is.tables ≡ true → TableLeadsTo view t targets
         → (told : AreTold view (before ++ address ∷ []) (with_table t targets all) (id_with t targets id)) × (told.tables ≡ is.tables ++ t ∷ []) }
     ensures other { (view : View) (before : List ℕ) (all : AcpiTables) (id : Option (List ℕ)) (is : AreTold view before all id) (address : ℕ) (t : OtherTable)
         → IsOther view address t

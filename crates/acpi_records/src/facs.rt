@@ -14,19 +14,19 @@ pub const FACS_SIZE: u32 = 64;
 /// Its signature and its length are among its rows, so a memory that shows these has both.
 #[derive(Clone, Copy, Debug, PartialEq, Eq)]
 pub struct Facs {
-    /// What the firmware found of the hardware at the last boot, as one number.
+    /// What the firmware found of the hardware at the last boot, as one number. Offset 8, dword.
     pub hardware_signature: u32,
-    /// The 32-bit address at which the firmware goes on after sleep, or 0.
+    /// The 32-bit address at which the firmware goes on after sleep, or 0. Offset 12, dword.
     pub waking: u32,
-    /// The global lock: bit 0 tells that someone waits for it, bit 1 that it is owned (5.2.10.1).
+    /// The global lock: bit 0 tells that someone waits for it, bit 1 that it is owned (5.2.10.1). Offset 16, dword.
     pub lock: u32,
-    /// What the firmware supports, a bit each.
+    /// What the firmware supports, a bit each. Offset 20, dword.
     pub flags: u32,
-    /// The 64-bit address at which the firmware goes on after sleep, or 0.
+    /// The 64-bit address at which the firmware goes on after sleep, or 0. Offset 24, qword.
     pub x_waking: u64,
-    /// The structure's version.
+    /// The structure's version. Offset 32, byte.
     pub version: u8,
-    /// What the operating system wants of the firmware, a bit each.
+    /// What the operating system wants of the firmware, a bit each. Offset 36, dword.
     pub ospm_flags: u32,
 }
 

@@ -25,103 +25,103 @@ pub const FADT_X_DSDT_ROW: usize = 56;
 pub struct Fadt {
     /// The table's header.
     pub head: Head,
-    /// The preferred power management profile, as 1 for a desktop and 4 for an enterprise server.
+    /// The preferred power management profile, as 1 for a desktop and 4 for an enterprise server. Offset 45, byte.
     pub profile: u8,
-    /// The interrupt that tells of system control events (SCI_INT).
+    /// The interrupt that tells of system control events (SCI_INT). Offset 46, word.
     pub sci: u16,
-    /// The port of the SMI commands (SMI_CMD), or 0 where there are none.
+    /// The port of the SMI commands (SMI_CMD), or 0 where there are none. Offset 48, dword.
     pub smi_cmd: u32,
-    /// The SMI command by which the firmware gives up the ACPI registers, or 0.
+    /// The SMI command by which the firmware gives up the ACPI registers, or 0. Offset 52, byte.
     pub acpi_enable: u8,
-    /// The SMI command by which it takes them back, or 0.
+    /// The SMI command by which it takes them back, or 0. Offset 53, byte.
     pub acpi_disable: u8,
-    /// The SMI command by which the firmware saves the machine to disk, or 0.
+    /// The SMI command by which the firmware saves the machine to disk, or 0. Offset 54, byte.
     pub s4bios_req: u8,
-    /// The SMI command by which it gives up control of the processors' performance states, or 0.
+    /// The SMI command by which it gives up control of the processors' performance states, or 0. Offset 55, byte.
     pub pstate_cnt: u8,
-    /// The port of the PM1a event registers (PM1a_EVT_BLK).
+    /// The port of the PM1a event registers (PM1a_EVT_BLK). Offset 56, dword.
     pub pm1a_evt: u32,
-    /// The port of the PM1b event registers (PM1b_EVT_BLK), or 0 where there are none.
+    /// The port of the PM1b event registers (PM1b_EVT_BLK), or 0 where there are none. Offset 60, dword.
     pub pm1b_evt: u32,
-    /// The port of the PM1a control register (PM1a_CNT_BLK).
+    /// The port of the PM1a control register (PM1a_CNT_BLK). Offset 64, dword.
     pub pm1a_cnt: u32,
-    /// The port of the PM1b control register (PM1b_CNT_BLK), or 0 where there is none.
+    /// The port of the PM1b control register (PM1b_CNT_BLK), or 0 where there is none. Offset 68, dword.
     pub pm1b_cnt: u32,
-    /// The port of the PM2 control register (PM2_CNT_BLK), or 0 where there is none.
+    /// The port of the PM2 control register (PM2_CNT_BLK), or 0 where there is none. Offset 72, dword.
     pub pm2_cnt: u32,
-    /// The port of the power management timer (PM_TMR_BLK), or 0 where there is none.
+    /// The port of the power management timer (PM_TMR_BLK), or 0 where there is none. Offset 76, dword.
     pub pm_tmr: u32,
-    /// The port of the first block of general purpose events (GPE0_BLK), or 0 where there is none.
+    /// The port of the first block of general purpose events (GPE0_BLK), or 0 where there is none. Offset 80, dword.
     pub gpe0: u32,
-    /// The port of the second block of general purpose events (GPE1_BLK), or 0 where there is none.
+    /// The port of the second block of general purpose events (GPE1_BLK), or 0 where there is none. Offset 84, dword.
     pub gpe1: u32,
-    /// How many bytes the PM1a event registers have, and the PM1b ones.
+    /// How many bytes the PM1a event registers have, and the PM1b ones. Offset 88, byte.
     pub pm1_evt_len: u8,
-    /// How many bytes the PM1a control register has, and the PM1b one.
+    /// How many bytes the PM1a control register has, and the PM1b one. Offset 89, byte.
     pub pm1_cnt_len: u8,
-    /// How many bytes the PM2 control register has.
+    /// How many bytes the PM2 control register has. Offset 90, byte.
     pub pm2_cnt_len: u8,
-    /// How many bytes the power management timer has.
+    /// How many bytes the power management timer has. Offset 91, byte.
     pub pm_tmr_len: u8,
-    /// How many bytes the first block of general purpose events has.
+    /// How many bytes the first block of general purpose events has. Offset 92, byte.
     pub gpe0_len: u8,
-    /// How many bytes the second block of general purpose events has.
+    /// How many bytes the second block of general purpose events has. Offset 93, byte.
     pub gpe1_len: u8,
-    /// The number of the first event of the second block.
+    /// The number of the first event of the second block. Offset 94, byte.
     pub gpe1_base: u8,
-    /// The SMI command that tells of support of the processors' power states, or 0.
+    /// The SMI command that tells of support of the processors' power states, or 0. Offset 95, byte.
     pub cst_cnt: u8,
-    /// The microseconds that a processor takes to leave the state C2; above 100 it has none.
+    /// The microseconds that a processor takes to leave the state C2; above 100 it has none. Offset 96, word.
     pub p_lvl2_lat: u16,
-    /// The microseconds that a processor takes to leave the state C3; above 1,000 it has none.
+    /// The microseconds that a processor takes to leave the state C3; above 1,000 it has none. Offset 98, word.
     pub p_lvl3_lat: u16,
-    /// How many strides of cache are read to flush it, where WBINVD doesn't.
+    /// How many strides of cache are read to flush it, where WBINVD doesn't. Offset 100, word.
     pub flush_size: u16,
-    /// How many bytes such a stride has.
+    /// How many bytes such a stride has. Offset 102, word.
     pub flush_stride: u16,
-    /// The first bit of the duty cycle in a processor's control register.
+    /// The first bit of the duty cycle in a processor's control register. Offset 104, byte.
     pub duty_offset: u8,
-    /// How many bits the duty cycle has.
+    /// How many bits the duty cycle has. Offset 105, byte.
     pub duty_width: u8,
-    /// The index of the day of the alarm in the CMOS memory, or 0 where there is none.
+    /// The index of the day of the alarm in the CMOS memory, or 0 where there is none. Offset 106, byte.
     pub day_alrm: u8,
-    /// The index of the month of the alarm in the CMOS memory, or 0 where there is none.
+    /// The index of the month of the alarm in the CMOS memory, or 0 where there is none. Offset 107, byte.
     pub mon_alrm: u8,
-    /// The index of the century in the CMOS memory, or 0 where there is none.
+    /// The index of the century in the CMOS memory, or 0 where there is none. Offset 108, byte.
     pub century: u8,
-    /// What an operating system may find of a PC's old devices, a bit each (5.2.9.3).
+    /// What an operating system may find of a PC's old devices, a bit each (5.2.9.3). Offset 109, word.
     pub iapc_boot_arch: u16,
-    /// Fixed features, a bit each (5.2.9).
+    /// Fixed features, a bit each (5.2.9). Offset 112, dword.
     pub flags: u32,
-    /// The register that resets the machine.
+    /// The register that resets the machine. Offset 116, 12 bytes.
     pub reset_reg: GenericAddress,
-    /// The value that is written to it to do so.
+    /// The value that is written to it to do so. Offset 128, byte.
     pub reset_value: u8,
-    /// How an Arm machine boots, a bit each (5.2.9.4).
+    /// How an Arm machine boots, a bit each (5.2.9.4). Offset 129, word.
     pub arm_boot_arch: u16,
-    /// The minor version of the standard in its low four bits, and the errata in the others.
+    /// The minor version of the standard in its low four bits, and the errata in the others. Offset 131, byte.
     pub minor: u8,
-    /// The PM1a event registers (X_PM1a_EVT_BLK).
+    /// The PM1a event registers (X_PM1a_EVT_BLK). Offset 148, 12 bytes.
     pub x_pm1a_evt: GenericAddress,
-    /// The PM1b event registers (X_PM1b_EVT_BLK).
+    /// The PM1b event registers (X_PM1b_EVT_BLK). Offset 160, 12 bytes.
     pub x_pm1b_evt: GenericAddress,
-    /// The PM1a control register (X_PM1a_CNT_BLK).
+    /// The PM1a control register (X_PM1a_CNT_BLK). Offset 172, 12 bytes.
     pub x_pm1a_cnt: GenericAddress,
-    /// The PM1b control register (X_PM1b_CNT_BLK).
+    /// The PM1b control register (X_PM1b_CNT_BLK). Offset 184, 12 bytes.
     pub x_pm1b_cnt: GenericAddress,
-    /// The PM2 control register (X_PM2_CNT_BLK).
+    /// The PM2 control register (X_PM2_CNT_BLK). Offset 196, 12 bytes.
     pub x_pm2_cnt: GenericAddress,
-    /// The power management timer (X_PM_TMR_BLK).
+    /// The power management timer (X_PM_TMR_BLK). Offset 208, 12 bytes.
     pub x_pm_tmr: GenericAddress,
-    /// The first block of general purpose events (X_GPE0_BLK).
+    /// The first block of general purpose events (X_GPE0_BLK). Offset 220, 12 bytes.
     pub x_gpe0: GenericAddress,
-    /// The second block of general purpose events (X_GPE1_BLK).
+    /// The second block of general purpose events (X_GPE1_BLK). Offset 232, 12 bytes.
     pub x_gpe1: GenericAddress,
-    /// The sleep control register (SLEEP_CONTROL_REG).
+    /// The sleep control register (SLEEP_CONTROL_REG). Offset 244, 12 bytes.
     pub sleep_control: GenericAddress,
-    /// The sleep status register (SLEEP_STATUS_REG).
+    /// The sleep status register (SLEEP_STATUS_REG). Offset 256, 12 bytes.
     pub sleep_status: GenericAddress,
-    /// The hypervisor's vendor, or 0 where none is told.
+    /// The hypervisor's vendor, or 0 where none is told. Offset 268, qword.
     pub hypervisor: u64,
 }
 

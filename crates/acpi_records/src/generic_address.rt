@@ -6,15 +6,15 @@ use vt_layout::{Laid, RowList, Values};
 /// A register's address (Generic Address Structure, ACPI 6.5, 5.2.3.2).
 #[derive(Clone, Copy, Debug, PartialEq, Eq)]
 pub struct GenericAddress {
-    /// The address space: 0 is memory, 1 is I/O.
+    /// The address space: 0 is memory, 1 is I/O. Offset 0, byte.
     pub space: u8,
-    /// The register's width in bits.
+    /// The register's width in bits. Offset 1, byte.
     pub width: u8,
-    /// The offset of its first bit.
+    /// The offset of its first bit. Offset 2, byte.
     pub offset: u8,
-    /// The size of an access: 1 to 4 are 1, 2, 4 and 8 bytes, and 0 leaves it open.
+    /// The size of an access: 1 to 4 are 1, 2, 4 and 8 bytes, and 0 leaves it open. Offset 3, byte.
     pub access: u8,
-    /// Where it is.
+    /// Where it is. Offset 4, qword.
     pub address: u64,
 }
 

@@ -10,17 +10,17 @@ pub const HEADER_SIZE: u32 = 36;
 /// The header of a table without its signature, length and checksum (ACPI 6.5, 5.2.6).
 #[derive(Clone, Copy, Debug, PartialEq, Eq)]
 pub struct Head {
-    /// The table's revision.
+    /// The table's revision. Offset 8, byte.
     pub revision: u8,
-    /// The maker's id.
+    /// The maker's id. Offset 10, 6 bytes.
     pub oem_id: [u8; 6],
-    /// The maker's id of the table.
+    /// The maker's id of the table. Offset 16, 8 bytes.
     pub oem_table_id: [u8; 8],
-    /// The maker's revision.
+    /// The maker's revision. Offset 24, dword.
     pub oem_revision: u32,
-    /// The id of the program that made the table.
+    /// The id of the program that made the table. Offset 28, 4 bytes.
     pub creator_id: [u8; 4],
-    /// That program's revision.
+    /// That program's revision. Offset 32, dword.
     pub creator_revision: u32,
 }
 

@@ -12,13 +12,13 @@ use vt_layout::{Laid, RowList, Values};
 pub struct HpetTable {
     /// The table's header.
     pub head: Head,
-    /// The identifier of the event timer block.
+    /// The identifier of the event timer block. Offset 36, dword.
     pub block_id: u32,
-    /// Where its registers are.
+    /// Where its registers are. Offset 40, 12 bytes.
     pub address: GenericAddress,
-    /// Its number among the HPETs.
+    /// Its number among the HPETs. Offset 52, byte.
     pub number: u8,
-    /// The least number of clock ticks between interrupts in periodic mode.
+    /// The least number of clock ticks between interrupts in periodic mode. Offset 53, word.
     pub min_tick: u16,
 }
 

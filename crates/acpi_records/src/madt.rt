@@ -11,9 +11,9 @@ use vt_outside::List;
 pub struct Madt {
     /// The table's header.
     pub head: Head,
-    /// The address of each processor's local APIC.
+    /// The address of each processor's local APIC. Offset 36, dword.
     pub address: u32,
-    /// Bit 0: the machine also has two 8259 interrupt controllers.
+    /// Bit 0: the machine also has two 8259 interrupt controllers. Offset 40, dword.
     pub flags: u32,
     /// The entries, in order.
     pub entries: List<MadtEntry>,
@@ -24,9 +24,9 @@ pub struct Madt {
 pub struct MadtFront {
     /// The table's header.
     pub head: Head,
-    /// The address of each processor's local APIC.
+    /// The address of each processor's local APIC. Offset 36, dword.
     pub address: u32,
-    /// Bit 0: the machine also has two 8259 interrupt controllers.
+    /// Bit 0: the machine also has two 8259 interrupt controllers. Offset 40, dword.
     pub flags: u32,
 }
 

@@ -54,68 +54,68 @@ pub enum MadtEntry {
 /// A processor with a local APIC (Processor Local APIC Structure, ACPI 6.5, 5.2.12.2).
 #[derive(Clone, Copy, Debug, PartialEq, Eq)]
 pub struct LocalApicEntry {
-    /// The processor's UID.
+    /// The processor's UID. Offset 2, byte.
     pub uid: u8,
-    /// The id of its local APIC.
+    /// The id of its local APIC. Offset 3, byte.
     pub apic: u8,
-    /// Bit 0: it is enabled. Bit 1: it can be enabled while the machine runs.
+    /// Bit 0: it is enabled. Bit 1: it can be enabled while the machine runs. Offset 4, dword.
     pub flags: u32,
 }
 
 /// An I/O APIC (I/O APIC Structure, ACPI 6.5, 5.2.12.3).
 #[derive(Clone, Copy, Debug, PartialEq, Eq)]
 pub struct IoApicEntry {
-    /// Its id.
+    /// Its id. Offset 2, byte.
     pub id: u8,
-    /// The address of its registers.
+    /// The address of its registers. Offset 4, dword.
     pub address: u32,
-    /// The number of the global system interrupt of its first input.
+    /// The number of the global system interrupt of its first input. Offset 8, dword.
     pub gsi: u32,
 }
 
 /// An interrupt that isn't the global system interrupt of its own number (Interrupt Source Override Structure, ACPI 6.5, 5.2.12.5).
 #[derive(Clone, Copy, Debug, PartialEq, Eq)]
 pub struct OverrideEntry {
-    /// The bus that the interrupt is of: 0 is ISA.
+    /// The bus that the interrupt is of: 0 is ISA. Offset 2, byte.
     pub bus: u8,
-    /// The interrupt's number on the bus.
+    /// The interrupt's number on the bus. Offset 3, byte.
     pub irq: u8,
-    /// The number of the global system interrupt that it raises.
+    /// The number of the global system interrupt that it raises. Offset 4, dword.
     pub gsi: u32,
-    /// Its polarity in bits 0 and 1, and its trigger mode in bits 2 and 3.
+    /// Its polarity in bits 0 and 1, and its trigger mode in bits 2 and 3. Offset 8, word.
     pub flags: u16,
 }
 
 /// A local APIC's input of non-maskable interrupts (Local APIC NMI Structure, ACPI 6.5, 5.2.12.7).
 #[derive(Clone, Copy, Debug, PartialEq, Eq)]
 pub struct LocalNmiEntry {
-    /// The processor's UID, or 0xFF for all processors.
+    /// The processor's UID, or 0xFF for all processors. Offset 2, byte.
     pub uid: u8,
-    /// Its polarity in bits 0 and 1, and its trigger mode in bits 2 and 3.
+    /// Its polarity in bits 0 and 1, and its trigger mode in bits 2 and 3. Offset 3, word.
     pub flags: u16,
-    /// The number of the input, LINT0 or LINT1.
+    /// The number of the input, LINT0 or LINT1. Offset 5, byte.
     pub lint: u8,
 }
 
 /// A processor with a local x2APIC (Processor Local x2APIC Structure, ACPI 6.5, 5.2.12.12).
 #[derive(Clone, Copy, Debug, PartialEq, Eq)]
 pub struct X2ApicEntry {
-    /// The id of its local x2APIC.
+    /// The id of its local x2APIC. Offset 4, dword.
     pub apic: u32,
-    /// Bit 0: it is enabled. Bit 1: it can be enabled while the machine runs.
+    /// Bit 0: it is enabled. Bit 1: it can be enabled while the machine runs. Offset 8, dword.
     pub flags: u32,
-    /// The processor's UID.
+    /// The processor's UID. Offset 12, dword.
     pub uid: u32,
 }
 
 /// A local x2APIC's input of non-maskable interrupts (Local x2APIC NMI Structure, ACPI 6.5, 5.2.12.13).
 #[derive(Clone, Copy, Debug, PartialEq, Eq)]
 pub struct X2ApicNmiEntry {
-    /// Its polarity in bits 0 and 1, and its trigger mode in bits 2 and 3.
+    /// Its polarity in bits 0 and 1, and its trigger mode in bits 2 and 3. Offset 2, word.
     pub flags: u16,
-    /// The processor's UID, or 0xFFFFFFFF for all processors.
+    /// The processor's UID, or 0xFFFFFFFF for all processors. Offset 4, dword.
     pub uid: u32,
-    /// The number of the input, LINT0 or LINT1.
+    /// The number of the input, LINT0 or LINT1. Offset 8, byte.
     pub lint: u8,
 }
 

@@ -24,11 +24,11 @@ pub struct McfgFront {
 /// Where the configuration space of a group of buses is in memory (PCI Firmware Specification 3.3, table 4-3).
 #[derive(Clone, Copy, Debug, PartialEq, Eq)]
 pub struct McfgAllocation {
-    /// The guest address of that of bus 0.
+    /// The guest address of that of bus 0. Offset 0, qword.
     pub base: u64,
-    /// The number of the buses' PCI segment group.
+    /// The number of the buses' PCI segment group. Offset 8, word.
     pub segment: u16,
-    /// The number of the last bus.
+    /// The number of the last bus. Offset 11, byte.
     pub last_bus: u8,
 }
 

@@ -10,7 +10,7 @@ use vt_outside::Bytes;
 pub struct Slit {
     /// The table's header.
     pub head: Head,
-    /// How many nodes there are.
+    /// How many nodes there are. Offset 36, qword.
     pub count: u64,
     /// For each node its distances to all of them, in order: `count` times `count` bytes. 10 is a node's distance to itself, and 255
     /// tells that there is no way.
@@ -22,7 +22,7 @@ pub struct Slit {
 pub struct SlitFront {
     /// The table's header.
     pub head: Head,
-    /// How many nodes there are.
+    /// How many nodes there are. Offset 36, qword.
     pub count: u64,
 }
 

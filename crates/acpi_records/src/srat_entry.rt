@@ -41,35 +41,36 @@ pub enum SratEntry {
 /// The node stands in two places: its low byte in front, and its other three bytes behind the flags.
 #[derive(Clone, Copy, Debug, PartialEq, Eq)]
 pub struct ApicAffinity {
-    /// The node.
+    /// The node. Its low byte stands at offset 2, and the others at 9 to 11.
     pub node: u32,
-    /// The id of the processor's local APIC.
+    /// The id of the processor's local APIC. Offset 3, byte.
     pub apic: u8,
-    /// Bit 0: the entry counts.
+    /// Bit 0: the entry counts. Offset 4, dword.
     pub flags: u32,
 }
 
 /// The node of a range of memory (Memory Affinity Structure, ACPI 6.5, 5.2.16.2).
 #[derive(Clone, Copy, Debug, PartialEq, Eq)]
 pub struct MemoryAffinity {
-    /// The node.
+    /// The node. Offset 2, dword.
     pub node: u32,
-    /// The address of the range.
+    /// The address of the range. Offset 8, qword.
     pub base: u64,
-    /// How many bytes it has.
+    /// How many bytes it has. Offset 16, qword.
     pub length: u64,
     /// Bit 0: the entry counts. Bit 1: memory may be plugged in and out there. Bit 2: it keeps what it holds without power.
+    /// Offset 28, dword.
     pub flags: u32,
 }
 
 /// The node of a processor with a local x2APIC (Processor Local x2APIC Affinity Structure, ACPI 6.5, 5.2.16.3).
 #[derive(Clone, Copy, Debug, PartialEq, Eq)]
 pub struct X2ApicAffinity {
-    /// The node.
+    /// The node. Offset 4, dword.
     pub node: u32,
-    /// The id of the processor's local x2APIC.
+    /// The id of the processor's local x2APIC. Offset 8, dword.
     pub apic: u32,
-    /// Bit 0: the entry counts.
+    /// Bit 0: the entry counts. Offset 12, dword.
     pub flags: u32,
 }
 

@@ -16,5 +16,6 @@ pub one_more : {A Part : Type 0} (told : A → Option Part) (all : List A) (plac
     → filter_map told (take (place + 1) all) ≡ filter_map told (take place all) ++ option_to_list (told (get_or all place none))
 one_more told all place none within =
     let next = get_or all place none in
-    ap (λ n. filter_map told (take n all)) (next_number place) ∙ ap (filter_map told) (take-suc all place none within) ∙ filter_map-append told (take place all) (next ∷ [])
+    ap (λ n. filter_map told (take n all)) (next_number place) ∙ ap (filter_map told) (take-suc all place none within)
+    ∙ filter_map-append told (take place all) (next ∷ [])
     ∙ ap (λ last. filter_map told (take place all) ++ last) (one_told told next (told next) refl)

@@ -1,12 +1,12 @@
 -- The parts of an accepted machine are got back from its tables.
-use Rattle.std.proofs.Common.{◌≡◌, ℕ, ◌^◌, cond, List, [], length, drop, map, Option, Some, None, IfSome, option_map, option_and_then, arith, refl, sym, ap, ap₂, ◌∙◌}
+use Rattle.std.proofs.Common.{◌≡◌, ℕ, ◌^◌, cond, [], length, drop, map, Option, Some, None, IfSome, option_map, option_and_then, arith, refl}
+use Rattle.std.proofs.Common.{sym, ap, ap₂, ◌∙◌}
 use Rattle.std.proofs.lemmas.Bool.{lt-ltb}
 use Rattle.std.proofs.lemmas.List.{drop_all}
 use Rattle.machine_desc.specs.declared.machine.Machine.{Machine}
 use Rattle.machine_desc.specs.declared.machine.Acpi.{Acpi}
 use Rattle.machine_desc.specs.declared.machine.Hpet.{Hpet as HpetPart}
 use Rattle.machine_desc.specs.declared.acpi_parts.Apic.{Apic as ApicPart}
-use Rattle.machine_desc.specs.declared.acpi_parts.Cpu.{Cpu}
 use Rattle.machine_desc.specs.declared.acpi_parts.Numa.{Numa}
 use Rattle.machine_desc.specs.declared.acpi_parts.Power.{Power}
 use Rattle.machine_desc.specs.declared.device_parts.Bridge.{Bridge}
@@ -41,7 +41,8 @@ use Rattle.dsdt_terms.specs.Dsdt.{has_clock, has_keyboard, without_ecam}
 use Rattle.acpi_told.specs.declared.controllers.Controllers.{Controllers}
 use Rattle.acpi_told.specs.declared.parts.AcpiParts.{AcpiParts}
 use Rattle.acpi_told.specs.Nodes.{on_nodes, on_told_nodes, node_of_cpu, cpu_on, node_of_range, range_on}
-use Rattle.acpi_told.specs.Parts.{power_told, bridge_told, affinities_of, controllers_told, parts_in, affinities_in, fadt_of as fadt_among, mcfg_of as mcfg_among}
+use Rattle.acpi_told.specs.Parts.{power_told, bridge_told, affinities_of, controllers_told, parts_in, affinities_in, fadt_of as fadt_among}
+use Rattle.acpi_told.specs.Parts.{mcfg_of as mcfg_among}
 use Rattle.acpi_told.proofs.NodesBack.{on_own, told_alike, none_told}
 
 -- a part is got back from its record
@@ -61,10 +62,6 @@ hpet_with address h = record h { address = address }
 hpet_back : (acpi : Acpi) (h : HpetPart) → IsFittingHpet h → hpet_in (hpet_of acpi h) ≡ h
 unfolding hpet_with
 hpet_back acpi h fits = ap (λ low. hpet_with (cond low h.address 0) h) (lt-ltb h.address (2 ^ 32) fits.address)
-
--- the controllers of these parts
-controllers_with : Option ApicPart → List Cpu → Controllers → Controllers
-controllers_with apic cpus others = record others { apic = apic; cpus = cpus }
 
 bare_range : MemRange → MemRange
 bare_range r = record r { node = 0 }
@@ -107,7 +104,8 @@ controllers_back : (m : Machine) (acpi : Acpi) (apic : Option ApicPart) → m.ap
 controllers_back m acpi None has accepted =
     let cpus : m.cpus ≡ [] = no_list m m.cpus 0 accepted has refl in
     let told : on_told_nodes node_of_cpu cpu_on (affinities_of (option_map (λ (n : Numa). srat_of_machine m acpi) m.numa)) [] ≡ m.cpus =
-    ap (λ those. on_told_nodes node_of_cpu cpu_on (affinities_of (option_map (λ (n : Numa). srat_of_machine m acpi) m.numa)) (map without_node those)) (sym cpus)
+    ap (λ those. on_told_nodes node_of_cpu cpu_on (affinities_of (option_map (λ (n : Numa). srat_of_machine m acpi) m.numa)) (map without_node those))
+    (sym cpus)
     ∙ cpus_on m acpi m.numa refl accepted in
     rw (
       told,

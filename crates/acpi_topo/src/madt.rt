@@ -12,8 +12,8 @@ use machine_desc::Machine;
 use vt_outside::OutOfMemory;
 
 /// Appends the MADT of `machine`, which is accepted and has interrupt controllers, to `blob` at the next multiple of 16, and returns its offset in
-/// bytes. It names the processors, the I/O APICs, the overrides and the NMIs. `blob` has less than 2 GiB before. Returns `OutOfMemory` when memory runs out; what `blob` then holds is
-/// unspecified.
+/// bytes. It names the processors, the I/O APICs, the overrides and the NMIs. `blob` has less than 2 GiB before. Returns
+/// `OutOfMemory` when memory runs out; what `blob` then holds is unspecified.
 pub fn append_madt(blob: &mut Blob, machine: &Machine) -> Result<u32, OutOfMemory>
     requires accepted { IsAccepted machine.now }
     requires wanted { IsSome machine.now.apic }

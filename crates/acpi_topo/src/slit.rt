@@ -12,8 +12,8 @@ use machine_desc::Machine;
 use vt_outside::OutOfMemory;
 
 /// Appends the SLIT of `machine`, which is accepted and has nodes, to `blob` at the next multiple of 16, and returns its offset in
-/// bytes. It gives the distance between each two nodes. `blob` has less than 2 GiB before. Returns `OutOfMemory` when memory runs out; what `blob` then holds is
-/// unspecified.
+/// bytes. It gives the distance between each two nodes. `blob` has less than 2 GiB before. Returns
+/// `OutOfMemory` when memory runs out; what `blob` then holds is unspecified.
 pub fn append_slit(blob: &mut Blob, machine: &Machine) -> Result<u32, OutOfMemory>
     requires accepted { IsAccepted machine.now }
     requires wanted { IsSome machine.now.numa }

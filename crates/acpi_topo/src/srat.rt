@@ -12,8 +12,8 @@ use machine_desc::Machine;
 use vt_outside::OutOfMemory;
 
 /// Appends the SRAT of `machine`, which is accepted and has nodes, to `blob` at the next multiple of 16, and returns its offset in
-/// bytes. It says on which node each processor and each range of memory is. `blob` has less than 2 GiB before. Returns `OutOfMemory` when memory runs out; what `blob` then holds is
-/// unspecified.
+/// bytes. It says on which node each processor and each range of memory is. `blob` has less than 2 GiB before. Returns
+/// `OutOfMemory` when memory runs out; what `blob` then holds is unspecified.
 pub fn append_srat(blob: &mut Blob, machine: &Machine) -> Result<u32, OutOfMemory>
     requires accepted { IsAccepted machine.now }
     requires wanted { IsSome machine.now.numa }

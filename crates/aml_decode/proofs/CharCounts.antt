@@ -1,5 +1,6 @@
 -- The characters of a text are those that it begins with, where a NUL follows them.
-use Rattle.std.proofs.Common.{◌≡◌, ℕ, zero, suc, ◌+◌, ◌<◌, ◌≤◌, List, [], ◌∷◌, length, get_or, take, true, false, cond, ltb, refl, sym, ap, ◌∙◌, arith, Result, Ok, Err}
+use Rattle.std.proofs.Common.{◌≡◌, ℕ, zero, suc, ◌+◌, ◌<◌, ◌≤◌, List, [], ◌∷◌, length, get_or, take, true, false, cond, ltb, refl, sym, ap, ◌∙◌}
+use Rattle.std.proofs.Common.{arith, Result, Ok, Err}
 use Rattle.std.specs.List.{prefix_len}
 use Rattle.std.proofs.lemmas.Bool.Decides.{nat_tests}
 use borrow.Author.Tests.{ltb-true, ltb-false, eq-eqb, ne_eqb, lt-ltb, le-ltb}
@@ -73,7 +74,8 @@ chars_bad place (c ∷ cs) more other =
           let one : count (c ∷ cs) ≡ suc (count cs) = count_on c cs is in
           let there : get_or (c ∷ cs) (count (c ∷ cs)) 0 ≡ get_or cs (count cs) 0 = ap (λ n. get_or (c ∷ cs) n 0) one in
           let end : place + 1 + count cs ≡ place + count (c ∷ cs) = omega arith in
-          char_on place c cs some low ∙ ap (with_char c) (chars_bad (place + 1) cs (omega arith) (λ e. other (there ∙ e))) ∙ ap (λ p. Err (OutsideGrammar p)) end
+          char_on place c cs some low ∙ ap (with_char c) (chars_bad (place + 1) cs (omega arith) (λ e. other (there ∙ e)))
+          ∙ ap (λ p. Err (OutsideGrammar p)) end
       | nul none isnt ↦ absurd (other (ap (λ n. get_or (c ∷ cs) n 0) (count_off c cs isnt) ∙ none))
       | neither high isnt ↦
           let end : place ≡ place + count (c ∷ cs) = omega (arith, count_off c cs isnt) in

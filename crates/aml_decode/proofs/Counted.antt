@@ -1,5 +1,6 @@
 -- The values of a package that are kept, and the count that tells how many they are.
-use Rattle.std.proofs.Common.{◌≡◌, ℕ, ◌+◌, ◌-◌, ◌≤◌, ◌<◌, List, [], ◌∷◌, ◌++◌, length, map, take, drop, refl, sym, ap, ◌∙◌, arith, length-append, append-nil, Bool, true, false, cond, ltb, Ok, Err}
+use Rattle.std.proofs.Common.{◌≡◌, ℕ, ◌+◌, ◌-◌, ◌≤◌, ◌<◌, List, [], ◌∷◌, ◌++◌, length, map, take, drop, refl, sym, ap, ◌∙◌, arith, length-append}
+use Rattle.std.proofs.Common.{append-nil, Bool, true, false, cond, ltb, Ok, Err}
 use Rattle.std.proofs.lemmas.List.{take_rest, take_all, take-append-le, map-append}
 use borrow.Author.Tests.{ltb-true, ltb-false, eq-eqb, ne_eqb}
 use Rattle.aml_terms.specs.declared.fault.AmlFault.TheVariants.{OutsideGrammar}

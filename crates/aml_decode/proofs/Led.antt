@@ -41,7 +41,8 @@ module _ (next : ℕ → Opcode → Reader Tree) where
       → Gives {X = Found Term} (λ found. (view found.value, found.size)) (Err fault) (led place text)
   led_bad fault place byte text opcode e is read =
       fault_of_all {X = Found Term} {Y = Found Term} (λ found. (view found.value, found.size)) (λ found. (view found.value, found.size)) fault
-      (next byte opcode (place + 1) (take (length text - 1) (drop 1 text))) (λ x. Ok (x.0, 1 + x.1)) (led place text) read (sym (all_behind place byte text opcode e is))
+      (next byte opcode (place + 1) (take (length text - 1) (drop 1 text))) (λ x. Ok (x.0, 1 + x.1)) (led place text) read
+      (sym (all_behind place byte text opcode e is))
 
   pub led_none : (fault : AmlFault) (place : ℕ) (text : List ℕ) → Gives {X = ℕ} (λ byte. (byte, 1)) (Err fault) (byte_at place text)
       → Gives {X = Found Term} (λ found. (view found.value, found.size)) (Err fault) (led place text)

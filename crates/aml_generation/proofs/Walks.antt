@@ -7,7 +7,8 @@ use Rattle.std.proofs.lemmas.Option.{none-some, same_Some}
 use Rattle.aml_terms.specs.declared.term.Term.{Term}
 use Rattle.aml_terms.specs.Trees.{Tree, Trees, no_trees, tree, view, views}
 use Rattle.aml_terms.proofs.FromTrees.{from_trees}
-use Rattle.aml_generation.specs.Generation.{behind, or_behind, is_address, taken_of_name, taken_of_names, taken_of_device, taken_of_devices, taken_inside, taken}
+use Rattle.aml_generation.specs.Generation.{behind, or_behind, is_address, taken_of_name, taken_of_names, taken_of_device, taken_of_devices}
+use Rattle.aml_generation.specs.Generation.{taken_inside, taken}
 use Rattle.aml_generation.proofs.Kept.{Keeps, none_from, keeps_device, keeps_inside}
 
 -- a walk: of the first term at which it stops it tells what is told of that one, and it passes those before it

@@ -1,6 +1,7 @@
 ghost use Rattle.std.specs.Prelude.{◌≡◌};
 ghost use Rattle.aml_terms.specs.Trees.{view, views};
-ghost use Rattle.aml_generation.specs.Generation.{is_address, taken_of_name, taken_of_names, taken_of_device, taken_of_devices, taken_of_bus, taken_inside, taken};
+ghost use Rattle.aml_generation.specs.Generation.{is_address, taken_of_name, taken_of_names, taken_of_device, taken_of_devices, taken_of_bus};
+ghost use Rattle.aml_generation.specs.Generation.{taken_inside, taken};
 
 use crate::address::take_address;
 use aml_terms::{Path, Term};

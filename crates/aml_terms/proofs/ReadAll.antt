@@ -1,5 +1,6 @@
 -- Terms or values, one after the other to the end of a text, are read exactly where they are spelled.
-use Rattle.std.proofs.Common.{◌≡◌, ℕ, zero, suc, ◌+◌, ◌≤◌, ◌<◌, List, [], ◌∷◌, length, take, drop, refl, sym, ap, ◌∙◌, subst, inl, inr, arith, length-append, length-take-le, length-drop, take-append-drop, Result, Ok, Err}
+use Rattle.std.proofs.Common.{◌≡◌, ℕ, zero, suc, ◌+◌, ◌≤◌, ◌<◌, List, [], ◌∷◌, length, take, drop, refl, sym, ap, ◌∙◌, subst, inl, inr, arith}
+use Rattle.std.proofs.Common.{length-append, length-take-le, length-drop, take-append-drop, Result, Ok, Err}
 use Rattle.std.proofs.Math.Seq.{drop-append_seam}
 use Rattle.aml_terms.specs.declared.fault.AmlFault.{AmlFault}
 use Rattle.aml_terms.specs.Trees.{Tree, Trees, no_trees, tree}
@@ -41,7 +42,8 @@ module _ (read : Reader Tree) (Is : Tree → Spelling) (All : Trees → Spelling
       let r : Went (read place (b ∷ bs)) (others steps place (b ∷ bs)) (Ok ts) = bind_ok (read place (b ∷ bs)) (others steps place (b ∷ bs)) ts e in
       let f : Front Is (b ∷ bs) r.x.0 r.x.1 = (l place).found (b ∷ bs) r.x.0 r.x.1 r.is in
       let left : List ℕ = drop r.x.1 (b ∷ bs) in
-      let s : Went (all_from read steps (place + r.x.1) left) (with_first r.x.0) (Ok ts) = bind_ok (all_from read steps (place + r.x.1) left) (with_first r.x.0) ts r.on in
+      let s : Went (all_from read steps (place + r.x.1) left) (with_first r.x.0) (Ok ts) =
+      bind_ok (all_from read steps (place + r.x.1) left) (with_first r.x.0) ts r.on in
       subst (λ ts. All ts (b ∷ bs)) (ok_same (tree r.x.0 s.x) ts s.on)
       (o.one r.x.0 s.x (b ∷ bs) (record {
         first = take r.x.1 (b ∷ bs);

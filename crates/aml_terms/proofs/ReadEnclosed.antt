@@ -1,5 +1,6 @@
 -- Package lengths, and what they enclose, are read exactly where they are spelled.
-use Rattle.std.proofs.Common.{◌≡◌, ℕ, ◌+◌, ◌-◌, ◌*◌, ◌/◌, ◌%◌, ◌<◌, ◌≤◌, List, [], ◌∷◌, ◌++◌, length, take, drop, refl, sym, ap, ◌∙◌, subst, inl, inr, append_assoc, arith, length-append, length-take-le, length-drop, take-add, false, cond, Result, Ok, Err}
+use Rattle.std.proofs.Common.{◌≡◌, ℕ, ◌+◌, ◌-◌, ◌*◌, ◌/◌, ◌%◌, ◌<◌, ◌≤◌, List, [], ◌∷◌, ◌++◌, length, take, drop, refl, sym, ap, ◌∙◌, subst, inl, inr}
+use Rattle.std.proofs.Common.{append_assoc, arith, length-append, length-take-le, length-drop, take-add, false, cond, Result, Ok, Err}
 use Rattle.std.specs.Prelude.{nat_lt, nat_le, ◌||◌}
 use Rattle.std.proofs.lemmas.Bool.{ltb-true, ltb-false, lt-ltb, le-ltb, leb-false, lt-leb}
 use Rattle.std.proofs.Math.Seq.{drop-append_seam, take-append_seam}
@@ -68,7 +69,8 @@ behind_laws lead place = record {
     behind_again lead place text first rest total e (short small f) =
         let same : lead ≡ total = cc in
         let none : first ≡ [] = cc in
-        when_held (nat_lt lead 0x40) (Ok (lead, 0)) _ (lt-ltb lead 0x40 (omega arith)) ∙ ap (λ n. Ok (n, 0)) same ∙ ap (λ first. Ok (total, length first)) (sym none)
+        when_held (nat_lt lead 0x40) (Ok (lead, 0)) _ (lt-ltb lead 0x40 (omega arith)) ∙ ap (λ n. Ok (n, 0)) same
+        ∙ ap (λ first. Ok (total, length first)) (sym none)
     behind_again lead place text first rest total e (long low more small some told f) =
         let lead_is : lead ≡ 64 * length more + low = cc in
         let same : first ≡ more = cc in
@@ -87,7 +89,13 @@ total_laws place = alike (led_laws total_behind LengthBehind place (λ lead coun
   where
     led : (total : ℕ) (bytes : List ℕ) → IsLength total bytes → Led (λ byte. LengthBehind byte total) bytes
     led total bytes (short small e) = record { byte = total; rest = []; spelled = e; is = short small refl }
-    led total bytes (long low more small some told e) = record { byte = 64 * length more + low; rest = more; spelled = e; is = long low more small some told refl }
+    led total bytes (long low more small some told e) = record {
+      byte = 64 * length more + low;
+      rest = more;
+      spelled = e;
+      is = long low more small
+          some told refl;
+    }
 
 -- a package length that encloses so many bytes
 record Encloses (text : List ℕ) (body count : ℕ) : Type 0 where
@@ -122,7 +130,8 @@ enclosing_again : (place : ℕ) (text size body rest : List ℕ) → text ≡ si
 unfolding enclosing_at
 enclosing_again place text size body rest e h =
     let total : ℕ = length size + length body in
-    let sized : length text ≡ length size + (length body + length rest) = omega (arith, ap length e, length-append size (body ++ rest), length-append body rest) in
+    let sized : length text ≡ length size + (length body + length rest) =
+    omega (arith, ap length e, length-append size (body ++ rest), length-append body rest) in
     let least : nat_lt (length size + length body) (length size) ≡ false = le-ltb (length size + length body) (length size) (omega arith) in
     let most : nat_lt (length text) (length size + length body) ≡ false = le-ltb (length text) (length size + length body) (omega arith) in
     let left : (length size + length body) - length size ≡ length body = omega arith in
@@ -162,7 +171,8 @@ module _ {A : Type 0} (inner : Whole A) (Is : A → Spelling) (place : ℕ) wher
         let body : ℕ = b.x.0 in
         let count : ℕ = b.x.1 in
         let n : Encloses text body count = enclosing_found place text body count b.is in
-        let c : Went (inner (place + count) (body_of text b.x)) (counted b.x) (Ok (x, total)) = bind_ok (inner (place + count) (body_of text b.x)) (counted b.x) (x, total) b.on in
+        let c : Went (inner (place + count) (body_of text b.x)) (counted b.x) (Ok (x, total)) =
+        bind_ok (inner (place + count) (body_of text b.x)) (counted b.x) (x, total) b.on in
         let same : c.x ≡ x = value_same c.x x (count + body) total c.on in
         let all : count + body ≡ total = count_same c.x x (count + body) total c.on in
         let size_is : length (take count text) ≡ count = length-take-le count text (omega (arith, n.within)) in
@@ -183,7 +193,8 @@ module _ {A : Type 0} (inner : Whole A) (Is : A → Spelling) (place : ℕ) wher
         let front : take (length h.body) (drop (length h.size) text) ≡ h.body = ap (take (length h.body)) left ∙ take-append_seam h.body rest in
         bind_on (enclosing_at place text) (inside_of text) (length h.body, length h.size) (Ok (x, length bytes))
         (enclosing_again place text h.size h.body rest split h.told)
-        (bind_on (inner (place + length h.size) (take (length h.body) (drop (length h.size) text))) (counted (length h.body, length h.size)) x (Ok (x, length bytes))
+        (bind_on (inner (place + length h.size) (take (length h.body) (drop (length h.size) text))) (counted (length h.body, length h.size)) x
+        (Ok (x, length bytes))
         ((l (length h.size)).again (take (length h.body) (drop (length h.size) text)) x (subst (Is x) (sym front) h.is))
         (ap (λ n. Ok (x, n)) (sym (ap length h.spelled ∙ length-append h.size h.body))));
     placed = λ text fault e.

@@ -13,7 +13,8 @@ use Rattle.aml_terms.specs.Grammar.{Spelling}
 use Rattle.aml_terms.specs.Lengths.{IsInteger, constant, wide}
 use Rattle.aml_terms.specs.Reading.{Reader, then_at, byte_at, number_at, integer_behind, integer_at, IsPlacedIn}
 use Rattle.aml_terms.proofs.Choices.{held, failed, chosen, when_failed}
-use Rattle.aml_terms.proofs.FirstBytes.{Told, is_constant, is_integer, is_ones, is_chars, is_buffer, is_package, is_name, is_scope, is_extended, is_other, told, constant_told}
+use Rattle.aml_terms.proofs.FirstBytes.{Told, is_constant, is_integer, is_ones, is_chars, is_buffer, is_package, is_name, is_scope, is_extended}
+use Rattle.aml_terms.proofs.FirstBytes.{is_other, told, constant_told}
 use Rattle.aml_terms.proofs.ReadSteps.{err_same, no_fault, value_same, count_same}
 use Rattle.aml_terms.proofs.Readers.{Front, Laws, then_laws, alike, outside_laws, nothing_laws}
 

@@ -1,5 +1,6 @@
 -- Paths are read exactly where they are spelled.
-use Rattle.std.proofs.Common.{◌≡◌, ℕ, zero, suc, ◌+◌, ◌≤◌, ◌<◌, Bool, true, false, cond, List, [], ◌∷◌, ◌++◌, length, take, drop, replicate, refl, sym, ap, ◌∙◌, subst, arith, append_assoc, length-append, length-drop, take-add, Result, Ok, Err}
+use Rattle.std.proofs.Common.{◌≡◌, ℕ, zero, suc, ◌+◌, ◌≤◌, ◌<◌, Bool, true, false, cond, List, [], ◌∷◌, ◌++◌, length, take, drop, replicate, refl}
+use Rattle.std.proofs.Common.{sym, ap, ◌∙◌, subst, arith, append_assoc, length-append, length-drop, take-add, Result, Ok, Err}
 use Rattle.std.specs.Prelude.{◌==◌}
 use Rattle.std.specs.List.{AllByRecursion, prefix_len}
 use Rattle.std.proofs.lemmas.Bool.{eqb-true, ne_eqb}
@@ -146,7 +147,8 @@ level_again place text first rest path e h root =
     let text_is : text ≡ ups_are ++ (h.names ++ rest) = e ∙ ap (λ first. first ++ rest) first_is ∙ append_assoc ups_are h.names rest in
     let text_begins : text ≡ ups_are ++ (begins.byte ∷ (begins.rest ++ rest)) = text_is ∙ ap (λ names. ups_are ++ (names ++ rest)) begins.spelled in
     let no_root : is_rooted text ≡ false = ap is_rooted text_begins ∙ no_root_in path.parents begins.byte (begins.rest ++ rest) begins.no_root in
-    let counted : prefix_len is_up text ≡ path.parents = ap (prefix_len is_up) text_begins ∙ ups path.parents begins.byte (begins.rest ++ rest) begins.no_parent in
+    let counted : prefix_len is_up text ≡ path.parents = ap (prefix_len is_up) text_begins
+    ∙ ups path.parents begins.byte (begins.rest ++ rest) begins.no_parent in
     let up : levels_up text ≡ path.parents = omega (arith, counted, h.placed.near) in
     let left : drop path.parents text ≡ h.names ++ rest =
     ap (drop path.parents) text_is ∙ drop_at ups_are (h.names ++ rest) path.parents (length-replicate path.parents 0x5E) in

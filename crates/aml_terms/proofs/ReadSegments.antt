@@ -1,5 +1,6 @@
 -- Segments, and those of a path in each of their three forms, are read exactly where they are spelled.
-use Rattle.std.proofs.Common.{◌≡◌, ℕ, zero, suc, ◌+◌, ◌-◌, ◌≤◌, ◌⊎◌, Bool, true, false, List, [], ◌∷◌, ◌++◌, length, take, refl, sym, ap, ◌∙◌, subst, inl, inr, arith, append-nil, take-add, Result, Ok, Err}
+use Rattle.std.proofs.Common.{◌≡◌, ℕ, zero, suc, ◌+◌, ◌-◌, ◌≤◌, ◌⊎◌, Bool, true, false, List, [], ◌∷◌, ◌++◌, length, take, refl, sym, ap, ◌∙◌, subst}
+use Rattle.std.proofs.Common.{inl, inr, arith, append-nil, take-add, Result, Ok, Err}
 use Rattle.std.specs.Prelude.{◌==◌, ◌&&◌, ◌||◌, nat_le}
 use Rattle.std.specs.List.{AllByRecursion}
 use Rattle.std.proofs.lemmas.Bool.{eqb-true, eqb-false, ne_eqb, leb-true}
@@ -9,7 +10,8 @@ use Rattle.aml_terms.specs.Grammar.{Spelling, Then}
 use Rattle.aml_terms.specs.Paths.{HasShape, IsSegment, is_lead_char, segment_shape, joined, AreSegments, one, two, many}
 use Rattle.aml_terms.specs.Reading.{◌>>=◌, behind, then_at, made_at, byte_at, shape_at, segment_at, segments_at, counted_at, names_at, IsPlacedIn}
 use Rattle.aml_terms.proofs.Choices.{held, failed, chosen, when_held, when_failed}
-use Rattle.aml_terms.proofs.ReadSteps.{Went, bind_ok, bind_err, bind_on, err_same, no_fault, value_same, count_same, ReadBehind, behind_ok, behind_err, behind_on}
+use Rattle.aml_terms.proofs.ReadSteps.{Went, bind_ok, bind_err, bind_on, err_same, no_fault, value_same, count_same, ReadBehind, behind_ok}
+use Rattle.aml_terms.proofs.ReadSteps.{behind_err, behind_on}
 use Rattle.aml_terms.proofs.Readers.{farther, Front, Laws, Both, then_laws, Made, made_laws, alike, nothing_laws}
 use Rattle.aml_terms.proofs.ReadNumbers.{Led, led_laws}
 
@@ -176,7 +178,8 @@ names_found place (c ∷ cs) ss count e =
       | failed t h ↦
           elim (chosen (c == 0x2F) (behind 1 (then_at byte_at counted_at (place + 1) cs)) (segments_at 1 place (c ∷ cs)) (Ok (ss, count)) h) [
             | held u k ↦
-                let b : ReadBehind 1 (then_at byte_at counted_at (place + 1) cs) ss count = behind_ok 1 (then_at byte_at counted_at (place + 1) cs) ss count k in
+                let b : ReadBehind 1 (then_at byte_at counted_at (place + 1) cs) ss count =
+                behind_ok 1 (then_at byte_at counted_at (place + 1) cs) ss count k in
                 let f : Front LedSegments cs ss b.more = (many_laws (place + 1)).found cs ss b.more b.is in
                 let m : Led (λ count. IsCounted count ss) (take b.more cs) = f.is in
                 let front : 0x2F ∷ take b.more cs ≡ take count (c ∷ cs) =
@@ -211,7 +214,8 @@ one_names place (c ∷ cs) rest h =
     let lead : ((0x41 ≤ c) × (c ≤ 0x5A)) ⊎ (c ≡ 0x5F) = lead_char c h.0 in
     when_failed (c == 0x2E) _ _ (ne_eqb c 0x2E (λ z. omega arith)) ∙ when_failed (c == 0x2F) _ _ (ne_eqb c 0x2F (λ z. omega arith))
 
-names_again : (place : ℕ) (text first rest : List ℕ) (ss : List (List ℕ)) → text ≡ first ++ rest → IsNames ss first → names_at place text ≡ Ok (ss, length first)
+names_again : (place : ℕ) (text first rest : List ℕ) (ss : List (List ℕ)) → text ≡ first ++ rest → IsNames ss first
+    → names_at place text ≡ Ok (ss, length first)
 unfolding names_at
 names_again place text first rest ss e (all, some, one s f g) =
     let is : IsSegment s = (subst (AllByRecursion IsSegment) f all).0 in

@@ -10,7 +10,8 @@ use Rattle.aml_terms.specs.Opcodes.{opcode_of}
 use Rattle.aml_terms.specs.Trees.{Tree, Trees, int, fixed, ones, chars, buffer, pack, named, scope, device}
 use Rattle.aml_terms.specs.Paths.{IsPath}
 use Rattle.aml_terms.specs.Grammar.{Spelling, Then, Enclosed, Deeper, SpellsValue, Spells, SpellAll, levels, Aml}
-use Rattle.aml_terms.specs.Reading.{◌>>=◌, Reader, Whole, made_at, path_at, all_in, enclosed_at, outside, value_at, inside, named_at, extended_at, term_behind, term_with, term_at, read_terms, IsPlacedIn}
+use Rattle.aml_terms.specs.Reading.{◌>>=◌, Reader, Whole, made_at, path_at, all_in, enclosed_at, outside, value_at, inside, named_at, extended_at}
+use Rattle.aml_terms.specs.Reading.{term_behind, term_with, term_at, read_terms, IsPlacedIn}
 use Rattle.aml_terms.proofs.Choices.{held, failed, chosen, when_held}
 use Rattle.aml_terms.proofs.FirstBytes.{Told, is_constant, is_integer, is_ones, is_chars, is_buffer, is_package, is_name, is_scope, is_extended, is_other, told}
 use Rattle.aml_terms.proofs.ReadSteps.{Went, bind_ok, bind_err, bind_on, ok_same, no_fault}

@@ -9,7 +9,8 @@ use Rattle.aml_terms.specs.declared.opcode.Opcode.TheVariants.{Constant, Integer
 use Rattle.aml_terms.specs.Opcodes.{opcode_of}
 use Rattle.aml_terms.specs.Trees.{Tree, Trees, int, fixed, ones, chars, buffer, pack, named, scope, device, count_of}
 use Rattle.aml_terms.specs.Grammar.{Spelling, Behind, Enclosed, Deeper, IsBuffer, SpellsValue, SpellValues}
-use Rattle.aml_terms.specs.Reading.{Reader, byte_at, all_in, enclosed_at, outside, chars_at, buffer_in, counted_in, package_in, value_behind, value_with, value_at, IsPlacedIn}
+use Rattle.aml_terms.specs.Reading.{Reader, byte_at, all_in, enclosed_at, outside, chars_at, buffer_in, counted_in, package_in, value_behind}
+use Rattle.aml_terms.specs.Reading.{value_with, value_at, IsPlacedIn}
 use Rattle.aml_terms.proofs.Choices.{held, failed, chosen, when_held}
 use Rattle.aml_terms.proofs.FirstBytes.{Told, is_constant, is_integer, is_ones, is_chars, is_buffer, is_package, is_name, is_scope, is_extended, is_other, told}
 use Rattle.aml_terms.proofs.ReadSteps.{Went, bind_ok, bind_err, bind_on, ok_same, err_same, no_fault}

@@ -1,12 +1,14 @@
 -- The laws of a reader at a place: what it reads is spelled there, what is spelled there it reads, and a fault's place is in the text or at its
 -- end. The laws of a reader that is made of others follow from theirs.
-use Rattle.std.proofs.Common.{◌≡◌, ℕ, ◌+◌, ◌-◌, ◌≤◌, List, [], ◌++◌, length, take, drop, refl, sym, ap, ◌∙◌, subst, inl, inr, append_assoc, arith, length-append, length-drop, take-add, take-append-drop, Result, Ok, Err}
+use Rattle.std.proofs.Common.{◌≡◌, ℕ, ◌+◌, ◌-◌, ◌≤◌, List, [], ◌++◌, length, take, drop, refl, sym, ap, ◌∙◌, subst, inl, inr, append_assoc, arith}
+use Rattle.std.proofs.Common.{length-append, length-drop, take-add, take-append-drop, Result, Ok, Err}
 use Rattle.std.proofs.Math.Seq.{drop-append_seam, take-append_seam}
 use Rattle.aml_terms.specs.declared.fault.AmlFault.{AmlFault}
 use Rattle.aml_terms.specs.declared.fault.AmlFault.TheVariants.{Truncated, BadLength, BadName, OutsideGrammar, OutOfMemory}
 use Rattle.aml_terms.specs.Grammar.{Spelling, Then}
 use Rattle.aml_terms.specs.Reading.{Reader, Whole, behind, then_at, then_whole, made_at, outside, IsPlacedIn}
-use Rattle.aml_terms.proofs.ReadSteps.{Went, bind_ok, bind_err, bind_on, err_same, no_fault, value_same, count_same, ReadBehind, behind_ok, behind_err, behind_on}
+use Rattle.aml_terms.proofs.ReadSteps.{Went, bind_ok, bind_err, bind_on, err_same, no_fault, value_same, count_same, ReadBehind, behind_ok}
+use Rattle.aml_terms.proofs.ReadSteps.{behind_err, behind_on}
 
 -- a place in the front of a text is a place in it
 pub farther : (fault : AmlFault) (m n : ℕ) → m ≤ n → IsPlacedIn m fault → IsPlacedIn n fault
@@ -138,7 +140,8 @@ module _ {A B : Type 0} (make : A → B) (read : Reader A) (Is : A → Spelling)
           is = (b.x.0, sym (value_same (make b.x.0) y b.x.1 total b.on), subst (λ n. Is b.x.0 (take n text)) (sym same) f.is);
         };
     again = λ text first rest y e h.
-        bind_on (read place text) made (h.0, length first) (Ok (y, length first)) (l.again text first rest h.0 e h.2) (ap (λ y. Ok (y, length first)) (sym h.1));
+        bind_on (read place text) made (h.0, length first) (Ok (y, length first)) (l.again text first rest h.0 e h.2)
+        (ap (λ y. Ok (y, length first)) (sym h.1));
     placed = λ text fault e.
         elim (bind_err (read place text) made fault e) [
           | inl d ↦ l.placed text fault d
@@ -157,7 +160,8 @@ alike l to from = record {
   placed = l.placed;
 }
 
-pub alike_whole : {A : Type 0} {read : Whole A} {Is Also : A → Spelling} {place : ℕ} → WholeLaws read Is place → ((x : A) (bytes : List ℕ) → Is x bytes → Also x bytes)
+pub alike_whole : {A : Type 0} {read : Whole A} {Is Also : A → Spelling} {place : ℕ} → WholeLaws read Is place
+    → ((x : A) (bytes : List ℕ) → Is x bytes → Also x bytes)
     → ((x : A) (bytes : List ℕ) → Also x bytes → Is x bytes) → WholeLaws read Also place
 alike_whole l to from = record {
   found = λ text x e. to x text (l.found text x e);

@@ -1,5 +1,6 @@
 -- No package length and no integer is shorter than the one that is written (ACPI 6.5, 20.2.3 and 20.2.4).
-use Rattle.std.proofs.Common.{◌≡◌, ℕ, zero, suc, ◌+◌, ◌*◌, ◌^◌, ◌<◌, ◌≤◌, List, ◌∷◌, length, refl, sym, ap, subst, arith, length-append, nat_lt, nat_le, ltb-false, leb-false, ◌==◌, ◌⊎◌, inl, inr}
+use Rattle.std.proofs.Common.{◌≡◌, ℕ, zero, suc, ◌+◌, ◌*◌, ◌^◌, ◌<◌, ◌≤◌, List, ◌∷◌, length, refl, sym, ap, subst, arith, length-append, nat_lt}
+use Rattle.std.proofs.Common.{nat_le, ltb-false, leb-false, ◌==◌, ◌⊎◌, inl, inr}
 use Rattle.std.specs.Prelude.{⊤}
 use Rattle.std.proofs.lemmas.Bool.{cond_both}
 use Rattle.vt_bytes.specs.Numbers.{le}

@@ -1,5 +1,6 @@
 -- Package lengths and integers that are written are spellings (ACPI 6.5, 20.2.3 and 20.2.4).
-use Rattle.std.proofs.Common.{◌≡◌, ℕ, zero, suc, ◌+◌, ◌*◌, ◌/◌, ◌%◌, ◌^◌, ◌<◌, ◌≤◌, List, ◌∷◌, ◌++◌, length, refl, sym, ap, ◌∙◌, subst, arith, nat_lt, nat_le, ltb-true, leb-true}
+use Rattle.std.proofs.Common.{◌≡◌, ℕ, zero, suc, ◌+◌, ◌*◌, ◌/◌, ◌%◌, ◌^◌, ◌<◌, ◌≤◌, List, ◌∷◌, ◌++◌, length, refl, sym, ap, ◌∙◌, subst, arith, nat_lt}
+use Rattle.std.proofs.Common.{nat_le, ltb-true, leb-true}
 use Rattle.std.proofs.lemmas.Bool.{cond_both}
 use Rattle.vt_bytes.specs.Numbers.{le, le_bytes}
 use Rattle.vt_bytes.proofs.Numbers.{le-le_bytes, length-le_bytes}

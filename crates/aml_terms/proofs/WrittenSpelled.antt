@@ -6,7 +6,8 @@ use Rattle.aml_terms.specs.Trees.{Tree, Trees, int, fixed, ones, chars, buffer, 
 use Rattle.aml_terms.specs.Lengths.{IsInteger}
 use Rattle.aml_terms.specs.Paths.{IsGoodPath, IsPath}
 use Rattle.aml_terms.specs.Grammar.{Spelling, Then, Enclosed, Behind, Deeper, IsBuffer, SpellsValue, SpellValues, Spells, SpellAll}
-use Rattle.aml_terms.specs.WellFormed.{IsGood, AreGood, IsGoodValue, AreGoodValues, HasFittingNumbers, HaveFittingNumbers, Below, NestsIn, NestIn, plain, all_plain}
+use Rattle.aml_terms.specs.WellFormed.{IsGood, AreGood, IsGoodValue, AreGoodValues, HasFittingNumbers, HaveFittingNumbers, Below, NestsIn, NestIn}
+use Rattle.aml_terms.specs.WellFormed.{plain, all_plain}
 use Rattle.aml_terms.specs.Written.{most_enclosed, package_length, integer, path_bytes, written, spelled, all_spelled, IsShort, AreShort}
 use Rattle.aml_terms.proofs.BytesOfParts.{all_spelled-tree}
 use Rattle.aml_terms.proofs.WrittenNumbers.{enclosed_is, dword_is, integer_is}

@@ -1,6 +1,7 @@
 -- What is read: for any bytes their terms, or the first fault. A reader is given the text up to the end of what encloses it, and the text's
 -- place; it gives a value and how many bytes it took. There is one for each part of the grammar, in its order (ACPI 6.5, 20.2).
-use Rattle.std.specs.Prelude.{◌≡◌, ℕ, zero, suc, ◌+◌, ◌-◌, ◌*◌, ◌/◌, ◌%◌, ◌≤◌, ⊤, Bool, true, false, ◌==◌, ◌||◌, nat_lt, nat_le, min, List, [], ◌∷◌, length, take, drop, Result, Ok, Err, if◌then◌else◌}
+use Rattle.std.specs.Prelude.{◌≡◌, ℕ, zero, suc, ◌+◌, ◌-◌, ◌*◌, ◌/◌, ◌%◌, ◌≤◌, ⊤, Bool, true, false, ◌==◌, ◌||◌, nat_lt, nat_le, min, List, [], ◌∷◌}
+use Rattle.std.specs.Prelude.{length, take, drop, Result, Ok, Err, if◌then◌else◌}
 use Rattle.std.specs.List.{prefix_len}
 use Rattle.vt_bytes.specs.Numbers.{le}
 use Rattle.aml_terms.specs.declared.term.Path.{Path}

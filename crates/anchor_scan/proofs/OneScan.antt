@@ -59,7 +59,8 @@ shown_or_refused view None id fault none refuses = none.0 refuses.rsdp (has_rsdp
 shown_or_refused view (Some t) id fault shows refuses =
     let leads = shows.leads in
     let place : shows.rsdp ≡ refuses.rsdp =
-    one_least (HasRsdp view) shows.rsdp refuses.rsdp (t.oem_id, leads.xsdt, leads.valid) (has_rsdp view refuses.rsdp fault refuses.first) shows.least refuses.least in
+    one_least (HasRsdp view) shows.rsdp refuses.rsdp (t.oem_id, leads.xsdt, leads.valid) (has_rsdp view refuses.rsdp fault refuses.first) shows.least
+    refuses.least in
     let walked : Walked = record { tables = t; generation = id } in
     let same = one_acpi_meaning view refuses.rsdp (Ok walked) (Err fault)
     (subst (λ a. LeadsToAcpi view a t id) place leads) refuses.first in

@@ -1,9 +1,10 @@
 //! What a guest's memory shows from its anchors: the anchor of SMBIOS structures (DSP0134, version 3.0.0, 5.2.2 and 6.1), and the RSDP,
 //! that of ACPI tables (ACPI 6.5, 5.2.5).
 //!
-//! An anchor stands on a multiple of 16 below 1 MiB. The contract is that the least valid one of each kind is found exactly, and that
-//! the structures that the SMBIOS anchor leads to are read exactly where the memory shows them, and else their first fault. The machine of an
-//! inventory, [`describe`], is passed on.
+//! An anchor stands on a multiple of 16 below 1 MiB. The contract is that the least valid one of each kind is found exactly, and that [`scan`]
+//! reads the inventory of a memory, which is what both lead to, exactly where the memory shows it, and else tells the first fault: that of the
+//! ACPI tables, or where these have none that of the SMBIOS structures. An anchor that isn't there is no fault. The law is that a memory is
+//! scanned in one way. The machine of an inventory, [`describe`], is passed on.
 #![tactic(auto)]
 
 mod acpi;

@@ -13,9 +13,6 @@ use Rattle.blob_holes.specs.Plain.{Spells, bytes_row}
 pub one_row : (bytes : List ℕ) → Spells (bytes_row bytes ∷ []) bytes
 one_row bytes = record { plain = (tt, tt); fit = (refl, tt); written = append-nil bytes }
 
-pub no_rows : Spells [] []
-no_rows = record { plain = tt; fit = tt; written = refl }
-
 -- rows one after the other spell what each of them spells
 pub spells-append : (rows more : List Row) (bytes others : List ℕ) → Spells rows bytes → Spells more others → Spells (rows ++ more) (bytes ++ others)
 spells-append rows more bytes others one two = record {

@@ -76,7 +76,8 @@ part_there true short long stays = λ fault late is.
     absurd (late same)
 part_there false short long stays = stays refl
 
-contents_stay : (listed : List Listed) (flags : List Bool) (bytes rest : List ℕ) → Stays (contents_so listed flags bytes) (contents_so listed flags (bytes ++ rest))
+contents_stay : (listed : List Listed) (flags : List Bool) (bytes rest : List ℕ)
+    → Stays (contents_so listed flags bytes) (contents_so listed flags (bytes ++ rest))
 unfolding contents_so
 contents_stay listed flags bytes rest =
     let total = sizes listed in

@@ -187,7 +187,17 @@ filled_whole old new item entry piece left bytes next gathers item_at entry_at b
     let same : new ≡ after = new_is
     ∙ ap₂ (λ (b : List ℕ) (n : ℕ). given old item b n) (bytes_are ∙ ap (λ (m : List ℕ). item.bytes ++ m) (sym f.more_is)) next_is in
     let size : length (contents_of after.items) ≡ sizes_of (take (suc old.next) old.listed) =
-    omega (arith, ap length f.contents, f.length_more, f.size, f.begun, ap length bytes_are, length-append item.bytes (take (entry.size - length item.bytes) piece), ap length f.more_is) in
+    omega (
+      arith,
+      ap length f.contents,
+      f.length_more,
+      f.size,
+      f.begun,
+      ap length bytes_are,
+      length-append item.bytes
+          (take (entry.size - length item.bytes) piece),
+      ap length f.more_is,
+    ) in
     subst (λ (h : Held). IsFilled old h piece left) (sym same) (record {
       gathers = record {
         flags = gathers.flags;

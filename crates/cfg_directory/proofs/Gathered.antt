@@ -1,50 +1,21 @@
 -- A piece of the files' bytes, taken file by file.
 use Rattle.std.proofs.Common.{◌≡◌, ℕ, suc, ◌<◌, ◌≤◌, false, List, [], ◌∷◌, ◌++◌, length, Ok, Err}
-use Rattle.std.proofs.Common.{arith, refl, sym, ap, ap₂, subst, ◌∙◌, inl, inr, append_assoc}
+use Rattle.std.proofs.Common.{arith, sym, ap, ◌∙◌, inl, append_assoc}
 use Rattle.std.specs.Prelude.{◌==◌}
 use Rattle.std.proofs.lemmas.List.{append-nil, take_all, length-append}
 use Rattle.cfg_directory.specs.declared.item.Item.{Item}
 use Rattle.cfg_directory.specs.declared.held.Held.{Held}
-use Rattle.cfg_directory.specs.declared.container.ImageFault.TheVariants.{Truncated, TrailingBytes, OutOfMemory}
-use Rattle.cfg_directory.specs.Container.{HasEntries, read_so}
-use Rattle.cfg_directory.specs.Held.{Gathers, LacksBytes, IsFilled, IsRefusal, bytes_of, contents_of, sizes_of}
-use Rattle.cfg_directory.proofs.Refusals.{entries_stay, judged_fault}
+use Rattle.cfg_directory.specs.declared.container.ImageFault.TheVariants.{Truncated, TrailingBytes}
+use Rattle.cfg_directory.specs.Container.{read_so}
+use Rattle.cfg_directory.specs.Held.{Gathers, LacksBytes, IsRefusal, bytes_of, contents_of, sizes_of}
+use Rattle.cfg_directory.proofs.Refusals.{judged_fault}
 use Rattle.cfg_directory.proofs.Heads.{contents_lack, contents_whole, contents_over}
 use Rattle.cfg_directory.proofs.Files.{sizes_front}
-
--- what is held and what is left of a piece stay what was fed
-pub filled_joined : (old new : Held) (piece left : List ℕ) → IsFilled old new piece left → bytes_of new ++ left ≡ bytes_of old ++ piece
-filled_joined old new piece left filled =
-    append_assoc new.head (contents_of new.items) left
-    ∙ ap₂ (λ (head rest : List ℕ). head ++ rest) filled.head filled.joined
-    ∙ sym (append_assoc old.head (contents_of old.items) piece)
-
--- memory is needed only where the entries are there
-pub filling_lacks_memory : (held : Held) (left bytes : List ℕ) → Gathers held → bytes_of held ++ left ≡ bytes → IsRefusal bytes OutOfMemory
-filling_lacks_memory held left bytes gathers joined =
-    inr (
-      refl,
-      subst HasEntries (sym (append_assoc held.head (contents_of held.items) left) ∙ joined)
-          (entries_stay held.head (contents_of held.items ++ left) gathers.opens.entries),
-    )
 
 -- where the next file isn't whole yet, nothing is left
 pub record Ends (held : Held) (left : List ℕ) : Type 0 where
   pub lacks : LacksBytes held
   pub none : left ≡ []
-
-pub filling_ends : (old new : Held) (piece left : List ℕ) → IsFilled old new piece left → new.next ≡ old.next → Ends new left
-filling_ends old new piece left filled same = elim filled.next as (λ _. Ends new left) [
-  | inl goes_on ↦ absurd (omega (arith, goes_on, same))
-  | inr (stays, none, lacks) ↦ record { lacks = lacks; none = none }
-]
-
--- else it goes on to the file behind it
-pub filling_goes_on : (old new : Held) (piece left : List ℕ) → IsFilled old new piece left → (new.next ≡ old.next → ⊥) → new.next ≡ suc old.next
-filling_goes_on old new piece left filled other = elim filled.next as (λ _. new.next ≡ suc old.next) [
-  | inl goes_on ↦ goes_on
-  | inr (stays, none, lacks) ↦ absurd (other stays)
-]
 
 -- behind the last file all are whole
 pub all_whole : (held : Held) → (gathers : Gathers held) → length held.listed ≤ held.next → length (contents_of held.items) ≡ sizes_of held.listed

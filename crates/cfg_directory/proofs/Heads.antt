@@ -147,7 +147,8 @@ opens head count listed flags after rest has size is =
     ap (flags_so 0) (sym whole.all) ∙ first_of (flags_so 0 (take count tail)) (drop count tail) flags after (sym (flags_at-long count tail whole.long) ∙ is) in
     listed_says head count listed rest has
     ∙ flagged count listed (tail ++ rest) (omega (arith, length-append tail rest))
-    ∙ ap₂ (λ (front behind : List ℕ). flags_so 0 front >>= (λ bools. contents_so listed bools behind)) (take_at tail rest count as_many) (drop_at tail rest count as_many)
+    ∙ ap₂ (λ (front behind : List ℕ). flags_so 0 front >>= (λ bools. contents_so listed bools behind)) (take_at tail rest count as_many)
+    (drop_at tail rest count as_many)
     ∙ ap (λ read. read >>= (λ bools. contents_so listed bools rest)) said
 
 pub Opens-from : (head : List ℕ) (count : ℕ) (listed : List Listed) (flags : List Bool) (after : List ℕ) → HasListed head count listed

@@ -14,7 +14,8 @@ use Rattle.cfg_directory.specs.declared.container.ImageFault.{ImageFault}
 use Rattle.cfg_directory.specs.declared.container.ImageFault.TheVariants.{Truncated, TooMany, BadName, TwiceNamed, TwiceSelected, BadSelect, BadFlag}
 use Rattle.cfg_directory.specs.declared.container.ImageFault.TheVariants.{TrailingBytes, TooLarge, OutOfMemory}
 use Rattle.cfg_directory.specs.Items.{file_limit, bytes_limit, entry_rows}
-use Rattle.cfg_directory.specs.Container.{◌>>=◌, Gives, HasEntries, listed_so, entry_so, directory_so, flags_so, items_so, contents_so, flagged_so, counted_so, read_so}
+use Rattle.cfg_directory.specs.Container.{◌>>=◌, Gives, HasEntries, listed_so, entry_so, directory_so, flags_so, items_so, contents_so, flagged_so}
+use Rattle.cfg_directory.specs.Container.{counted_so, read_so}
 use Rattle.cfg_directory.specs.Fed.{Refuses, judged_by, judged}
 use Rattle.cfg_directory.specs.Held.{IsRefusal, sizes_of}
 use Rattle.cfg_directory.proofs.Faults.{fault_stays}

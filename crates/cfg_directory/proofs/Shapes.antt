@@ -1,6 +1,6 @@
 -- Items of one shape, which differ in their bytes at most.
 use Rattle.std.proofs.Common.{◌≡◌, ℕ, ◌+◌, ◌≤◌, Bool, true, false, cond, List, [], ◌∷◌, length, map, find, Option, Some, None}
-use Rattle.std.proofs.Common.{◌==◌, option_map, inl, inr, sym, refl, ap, ap₂, subst, ◌∙◌}
+use Rattle.std.proofs.Common.{option_map, inl, inr, sym, refl, ap, ap₂, subst, ◌∙◌}
 use Rattle.std.specs.Prelude.{IsSomeAnd}
 use Rattle.std.specs.Str.{bytes_eq}
 use Rattle.std.proofs.lemmas.Bool.{eqb-true, cond-true, cond-false, cases_Bool}
@@ -84,8 +84,3 @@ same_found test before after item same found =
 pub same_named : (before after : List Item) (name : List ℕ) (item : Item) → HaveOneShape before after → named before name ≡ Some item
     → (now : Item) × (named after name ≡ Some now) × (shape_of now ≡ shape_of item)
 same_named before after name item same found = same_found (λ (shape : Shape). bytes_eq shape.listed.name name) before after item same found
-
--- the item of a selector has one shape in both
-pub same_selected : (before after : List Item) (select : ℕ) (item : Item) → HaveOneShape before after → selected before select ≡ Some item
-    → (now : Item) × (selected after select ≡ Some now) × (shape_of now ≡ shape_of item)
-same_selected before after select item same found = same_found (λ (shape : Shape). shape.listed.select == select) before after item same found

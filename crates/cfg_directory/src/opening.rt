@@ -1,9 +1,11 @@
 //! The entries and the flags of a head, once they are there, and the files that they open.
 
-ghost use Rattle.std.specs.Prelude.{◌≡◌, ◌+◌, ◌*◌, ◌≤◌, [], IfOk, IfErr, length, map};
+ghost use Rattle.std.specs.Prelude.{◌≡◌, ◌≢◌, ◌+◌, ◌*◌, ◌<◌, ◌≤◌, [], Err, IfOk, IfErr, length, map};
+ghost use Rattle.cfg_directory.specs.declared.container.ImageFault.TheVariants.{OutOfMemory as NoMemory};
 ghost use Rattle.cfg_directory.specs.Container.{item_so, items_so};
 ghost use Rattle.cfg_directory.specs.Parts.{is_set};
-ghost use Rattle.cfg_directory.specs.Held.{HasCount, HasListed, IsOpened, IsRefusal};
+ghost use Rattle.cfg_directory.specs.Items.{bytes_limit};
+ghost use Rattle.cfg_directory.specs.Held.{HasCount, HasListed, IsOpened, IsRefusal, sizes_of};
 
 use crate::container::ImageFault;
 use crate::item::Item;
@@ -43,6 +45,7 @@ pub(crate) fn opened_items(
     requires there { length head.now ≡ 4 + 65 * count }
     ensures ok { IfOk result (IsOpened head.now listed.now) }
     ensures err { IfErr result (IsRefusal head.now) }
+    ensures sure { bytes_limit < sizes_of listed.now → result ≢ Err NoMemory }
 {
     let (_, flags) = head.split_at(4 + ENTRY_SIZE * count as usize);
     let (flags, _) = read_flags(count, flags)?;

@@ -14,7 +14,8 @@ use Rattle.cfg_dma.specs.declared.transfer.Flight.{Flight}
 use Rattle.cfg_dma.specs.declared.descriptor.Descriptor.{Descriptor}
 use Rattle.cfg_dma.specs.Device.{DeviceState, IsDevice, IsInFlight, with_selected}
 use Rattle.cfg_dma.specs.Descriptor.{descriptor_in, kind_of, selects, select_of}
-use Rattle.cfg_dma.specs.Transfers.{Attached, CanMove, room_of, finish, begin_moving, begin_as, may_write, transfer_of, carry_out, start, move_as, settle, move_next, piece}
+use Rattle.cfg_dma.specs.Transfers.{Attached, CanMove, room_of, finish, begin_moving, begin_as, may_write, transfer_of, carry_out, start, move_as}
+use Rattle.cfg_dma.specs.Transfers.{settle, move_next, piece}
 use Rattle.cfg_dma.specs.Events.{MayHappen, Event, happens, with_low, SelectorWritten, ByteRead, HighWritten, LowWritten, Piece}
 use Rattle.vt_bytes.specs.Memory.{bytes_at}
 
@@ -131,7 +132,13 @@ kept_so a b c is kept = subst (Keeps a) (sym is) kept
 -- ---- any event
 
 pub event_keeps : (e : Event) (a : Attached) → IsDevice a.device → CanMove a → MayHappen e a → Keeps a (happens e a)
-event_keeps (SelectorWritten select) a device can_move may = record { can_move = idle_keeps (happens (SelectorWritten select) a) may; room = refl; top = refl; fill = refl }
+event_keeps (SelectorWritten select) a device can_move may = record {
+  can_move = idle_keeps (happens (SelectorWritten select) a) may;
+  room = refl;
+  top
+      = refl;
+  fill = refl;
+}
 event_keeps ByteRead a device can_move may = record { can_move = idle_keeps (happens ByteRead a) may; room = refl; top = refl; fill = refl }
 event_keeps (HighWritten word) a device can_move may = record { can_move = can_move; room = refl; top = refl; fill = refl }
 event_keeps (LowWritten word) a device can_move may = start_keeps (with_low a.device.address word) a (record { room = may.1; idle = may.0 })

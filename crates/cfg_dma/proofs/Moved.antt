@@ -54,7 +54,8 @@ pub written_device : (items now : List Item) (directory : List ℕ) (select offs
 written_device items now directory select offset address count at spare flight finished m lawful kept keeps fits is idle =
     let fit = memory_fits items m select offset at count count lawful.distinct fits (omega arith) in
     let fits_now : FitsIn now select (offset + count) =
-    subst (λ (is : List Item). FitsIn is select (offset + count)) (sym is) (fits_written items select offset (offset + count) (bytes_at m at count) fit fits) in (
+    subst (λ (is : List Item). FitsIn is select (offset + count)) (sym is)
+    (fits_written items select offset (offset + count) (bytes_at m at count) fit fits) in (
       record {
         is = keeps.is ∙ sym (ap directory_of is ∙ directory_written items select offset (bytes_at m at count) fit);
         small = keeps.small;

@@ -156,7 +156,8 @@ next_none_of : (o : Option Flight) (d : DeviceState) (m : Memory) → d.offset �
 next_none_of None d m offset is in_flight = refl
 next_none_of (Some flight) d m offset is in_flight =
     goes_on flight 0 (attached d m) (let l = in_flight.left in omega arith)
-    ∙ ap (λ (a : Attached). with_flight a (Some (record flight { moved = flight.moved + 0 }))) (move_none flight.transfer.kind d m (flight.transfer.address + flight.moved) offset)
+    ∙ ap (λ (a : Attached). with_flight a (Some (record flight { moved = flight.moved + 0 })))
+    (move_none flight.transfer.kind d m (flight.transfer.address + flight.moved) offset)
     ∙ ap (λ moved. with_flight (attached d m) (Some (record flight { moved = moved }))) (add-zero flight.moved)
     ∙ ap (λ (o : Option Flight). with_flight (attached d m) o) (sym is)
 

@@ -8,8 +8,9 @@ use Rattle.vt_bytes.specs.Parts.{put_at}
 use Rattle.vt_bytes.specs.Memory.{Memory, IsRam, IsRamRange, at, bytes_at, with_bytes, Puts}
 use Rattle.command_acts.specs.declared.placed.PlacedFile.{PlacedFile}
 use Rattle.loader_script.specs.Run.{Placed, placed_with, with_sum}
-use Rattle.command_acts.specs.FilesInMemory.{placed_named, placed_in, files_in, summed, ArePlaced, Stays, CanSum}
+use Rattle.command_acts.specs.FilesInMemory.{placed_named, place_of, placed_in, files_in, summed, ArePlaced, Stays, CanSum}
 use Rattle.command_acts.proofs.NamedInMemory.{found_in}
+use Rattle.command_acts.proofs.Placings.{standing, there_standing}
 use Rattle.vt_bytes.proofs.Bytes.{length-bytes_at, part-bytes_at, index-bytes_at}
 use Rattle.command_acts.proofs.Writes.{ram_part}
 use Rattle.command_acts.proofs.PlacedFiles.{IsWrite, found_is_placed, file_written, stays_written}
@@ -28,6 +29,12 @@ pub record IsSum (m : Memory) (placed : List PlacedFile) (name : List ℕ) (offs
   pub apart : ArePlaced m.top placed
   pub found : placed_named placed name ≡ Some p
   pub can : CanSum (files_in m placed) name offset start count
+
+-- it is known by its name and its place
+pub sum_stands : (m : Memory) (placed : List PlacedFile) (name : List ℕ) (offset start count at : ℕ) → ArePlaced m.top placed
+    → CanSum (files_in m placed) name offset start count → at ≡ place_of placed name → IsSum m placed name offset start count (standing placed name at)
+sum_stands m placed name offset start count at apart can is =
+    record { apart = apart; found = there_standing m placed name at can.d can.found is; can = can }
 
 -- it is the one that the command speaks of
 its_file : (m : Memory) (placed : List PlacedFile) (name : List ℕ) (offset start count : ℕ) (p : PlacedFile) (sum : IsSum m placed name offset start count p)

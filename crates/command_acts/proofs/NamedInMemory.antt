@@ -8,7 +8,8 @@ use Rattle.command_acts.specs.FilesInMemory.{placed_named, placed_in, files_in}
 use Rattle.loader_script.proofs.Named.{find-map, IsSome-before_map, IsNone-before_map}
 
 -- it is the one that has the name without its bytes
-pub named_in : (m : Memory) (placed : List PlacedFile) (name : List ℕ) → placed_of (files_in m placed) name ≡ option_map (placed_in m) (placed_named placed name)
+pub named_in : (m : Memory) (placed : List PlacedFile) (name : List ℕ)
+    → placed_of (files_in m placed) name ≡ option_map (placed_in m) (placed_named placed name)
 named_in m placed name = find-map (placed_in m) (λ (p : Placed). bytes_eq p.name name) placed
 
 -- one that is there with its bytes is there without them

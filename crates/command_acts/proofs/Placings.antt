@@ -1,8 +1,10 @@
 -- Which files are placed, and where.
 use Rattle.std.proofs.Common.{◌≡◌, ℕ, zero, suc, ◌+◌, ◌<◌, ◌≤◌, ◌^◌, inl, inr, true, false, List, [], ◌∷◌, ◌++◌, length, Option, Some, None}
-use Rattle.std.proofs.Common.{option_map, cond, slice_set, get_or, IsSome, is_some, ltb, replicate, vec_capacity, length-append, arith, refl, ap, ap₂, subst, sym, ◌∙◌}
-use Rattle.std.proofs.lemmas.List.{length-map}
-use Rattle.std.specs.List.{AllByRecursion, position_or_len}
+use Rattle.std.proofs.Common.{option_map, cond, slice_set, get_or, IsSome, is_some, ltb, replicate, vec_capacity, length-append, arith, refl, ap, ap₂}
+use Rattle.std.proofs.Common.{subst, sym, ◌∙◌}
+use Rattle.std.proofs.lemmas.List.{length-map, get_or_read}
+use Rattle.std.specs.List.{AllByRecursion, position, position_or_len}
+use Rattle.std.specs.Option.{option_map_or}
 use Rattle.std.specs.Str.{bytes_eq}
 use Rattle.std.proofs.lemmas.Bool.{cases_Bool, cases_lt, cond-true, cond-false, true≢false, lt-ltb}
 use Rattle.std.proofs.lemmas.Option.{same_Some, none-some, slice_get_past}
@@ -13,6 +15,7 @@ use Rattle.cfg_directory.specs.declared.item.Item.{Item}
 use Rattle.cfg_directory.specs.Items.{HasNoName, AreDistinct as AreDistinctItems}
 use Rattle.loader_script.specs.declared.refusing.FileInfo.{FileInfo}
 use Rattle.loader_script.specs.Refusal.{info_of, causes_of, first_cause, AreDistinct, EndLow}
+use Rattle.loader_script.specs.Order.{IsOrderOf}
 use Rattle.loader_script.specs.declared.entry.Entry.{Entry}
 use Rattle.command_acts.specs.Runs.{at_files, early_cause}
 use Rattle.vt_outside.specs.File.{File}
@@ -21,9 +24,9 @@ use Rattle.loader_script.proofs.Named.{same_name, other_name, of_found, found_pa
 use Rattle.cfg_directory.specs.Files.{files_of}
 use Rattle.command_acts.specs.declared.placed.PlacedFile.{PlacedFile}
 use Rattle.command_acts.specs.declared.placements.Placements.{Placements}
-use Rattle.command_acts.specs.FilesInMemory.{placed_named, placed_in, files_in, ArePlaced, IsOfSize, IsLoading, EndsLow}
+use Rattle.command_acts.specs.FilesInMemory.{placed_named, place_of, placed_in, files_in, ArePlaced, IsOfSize, IsLoading, EndsLow}
 use Rattle.command_acts.specs.Placing.{place_named, places_in, count_places, ArePlacements}
-use Rattle.command_acts.proofs.NamedInMemory.{named_in}
+use Rattle.command_acts.proofs.NamedInMemory.{named_in, some_named}
 
 -- a file's place is the same with its bytes and without them
 place_after : (m : Memory) (found : Option PlacedFile) → option_map (λ (p : Placed). p.place) (option_map (placed_in m) found)
@@ -89,6 +92,10 @@ low_more : (info : FileInfo) (infos : List FileInfo) (place : Option ℕ) (place
     → ((at : ℕ) → place ≡ Some at → at + info.size ≤ 2 ^ 32) → EndLow infos places → EndLow (info ∷ infos) (place ∷ places)
 low_more info infos None places low rest = rest
 low_more info infos (Some at) places low rest = (low at refl, rest)
+
+from_some : (found : Option PlacedFile) → IsSome found → (p : PlacedFile) × (found ≡ Some p)
+from_some None some = absurd (true≢false (sym some))
+from_some (Some p) some = (p, refl)
 
 place_from : (found : Option PlacedFile) (at : ℕ) → option_map (λ (p : PlacedFile). p.place) found ≡ Some at
     → (p : PlacedFile) × (found ≡ Some p) × (p.place ≡ at)
@@ -212,13 +219,24 @@ count_nowhere : (n : ℕ) → count_places (replicate n None) ≡ 0
 count_nowhere zero = refl
 count_nowhere (suc n) = count_nowhere n
 
+-- a placed file is one of the files
+abbrev IsAmong : List FileInfo → PlacedFile → Type 0
+IsAmong infos p = IsSome (info_of infos p.name)
+
+among_more : (infos : List FileInfo) (placed : List PlacedFile) (f : PlacedFile) → AllByRecursion (IsAmong infos) placed → IsAmong infos f
+    → AllByRecursion (IsAmong infos) (placed ++ f ∷ [])
+among_more infos [] f all one = (one, tt)
+among_more infos (p ∷ placed) f all one = (all.0, among_more infos placed f all.1 one)
+
 pub none_placed : (p : Placements) (len : ℕ) → p.places.items ≡ replicate len None → len ≡ length p.infos.items → p.placed.items ≡ []
-    → length p.infos.items ≤ vec_capacity p.placed → ArePlacements p
-none_placed p len places len_is none room = record {
+    → length p.infos.items ≤ vec_capacity p.placed → IsOrderOf p.infos.items p.order → ArePlacements p
+none_placed p len places len_is none room order = record {
   places = places ∙ ap (λ n. replicate n None) len_is ∙ sym (nowhere_yet p.infos.items)
       ∙ ap (λ placed. places_in placed p.infos.items) (sym none);
   count = ap length none ∙ sym (ap count_places places ∙ count_nowhere len);
+  among = subst (AllByRecursion (IsAmong p.infos.items)) (sym none) tt;
   room = room;
+  order = order;
 }
 
 -- the index of a file that is there
@@ -282,8 +300,8 @@ few_placed p name are there none =
 pub are_put : (p new : Placements) (f : PlacedFile) (index : ℕ) → ArePlacements p → AreDistinct p.infos.items → IsSome (info_of p.infos.items f.name)
     → placed_named p.placed.items f.name ≡ None → index ≡ index_of p.infos.items f.name → new.infos.items ≡ p.infos.items
     → new.places.items ≡ slice_set p.places.items index (Some f.place) → new.placed.items ≡ p.placed.items ++ f ∷ []
-    → vec_capacity new.placed ≡ vec_capacity p.placed → ArePlacements new
-are_put p new f index are distinct there none is infos places placed capacity =
+    → vec_capacity new.placed ≡ vec_capacity p.placed → new.order ≡ p.order → ArePlacements new
+are_put p new f index are distinct there none is infos places placed capacity order =
     let at : new.places.items ≡ slice_set p.places.items (index_of p.infos.items f.name) (Some f.place) =
     places ∙ ap (λ i. slice_set p.places.items i (Some f.place)) is in
     record {
@@ -298,5 +316,98 @@ are_put p new f index are distinct there none is infos places placed capacity =
         ap count_places at,
         count_put p.places.items (index_of p.infos.items f.name) f.place (there_index p f.name are there) (nowhere_there p f.name are none),
       );
+      among = subst (λ is. AllByRecursion (IsAmong is) new.placed.items) (sym infos)
+          (subst (AllByRecursion (IsAmong p.infos.items)) (sym placed) (among_more p.infos.items p.placed.items f are.among there));
       room = omega (arith, ap length infos, are.room, capacity);
+      order = subst (λ is. IsOrderOf is new.order) (sym infos) (subst (IsOrderOf p.infos.items) (sym order) are.order);
     }
+
+-- where a file stands that is one of the files
+place_there : (placed : List PlacedFile) (infos : List FileInfo) (name : List ℕ) → IsSome (info_of infos name)
+    → get_or (places_in placed infos) (index_of infos name) None ≡ place_named placed name
+place_there placed [] name there = absurd (true≢false (sym there))
+place_there placed (info ∷ infos) name there =
+    elim (cases_Bool (bytes_eq info.name name)) as (λ _. get_or (places_in placed (info ∷ infos)) (index_of (info ∷ infos) name) None
+    ≡ place_named placed name) [
+      | inl same ↦
+          let here : index_of (info ∷ infos) name ≡ 0 = rw same refl in
+          ap (λ i. get_or (places_in placed (info ∷ infos)) i None) here ∙ ap (place_named placed) (same_name info.name name same)
+      | inr other ↦
+          let next : 1 + index_of infos name ≡ suc (index_of infos name) = omega arith in
+          let later : index_of (info ∷ infos) name ≡ suc (index_of infos name) = rw other next in
+          let rest : IsSome (info_of infos name) = subst IsSome (cond-false _ _ _ other) there in
+          ap (λ i. get_or (places_in placed (info ∷ infos)) i None) later ∙ place_there placed infos name rest
+    ]
+
+-- a file that is placed is one of the files
+pub placed_there : (p : Placements) (name : List ℕ) → ArePlacements p → IsSome (placed_named p.placed.items name) → IsSome (info_of p.infos.items name)
+placed_there p name are placed =
+    let file = from_some (placed_named p.placed.items name) placed in
+    let named : file.0.name ≡ name = same_name file.0.name name (found_passes (λ (q : PlacedFile). bytes_eq q.name name) p.placed.items file.0 file.1) in
+    subst (λ n. IsSome (info_of p.infos.items n)) named
+    (of_found (IsAmong p.infos.items) (λ (q : PlacedFile). bytes_eq q.name name) p.placed.items file.0 file.1 are.among)
+
+-- the index at which it is found
+pub placed_index : (p : Placements) (name : List ℕ) (found : Option ℕ) → ArePlacements p → IsSome (info_of p.infos.items name)
+    → found ≡ position (λ (info : FileInfo). bytes_eq info.name name) p.infos.items → (index : ℕ) → found ≡ Some index
+    → (index ≡ index_of p.infos.items name) × (index < length p.places.items)
+placed_index p name found are there is index some =
+    let same : index ≡ index_of p.infos.items name = same_Some _ _ (sym some ∙ found_there p.infos.items name found there is) in
+    (same, omega (arith, same, there_index p name are there))
+
+-- and the place there
+pub place_at_index : (p : Placements) (name : List ℕ) (index : ℕ) (place : Option ℕ) → ArePlacements p → IsSome (info_of p.infos.items name)
+    → index ≡ index_of p.infos.items name → place ≡ get_or p.places.items index place → place ≡ place_named p.placed.items name
+place_at_index p name index place are there is at =
+    let within : index < length p.places.items = omega (arith, is, there_index p name are there) in
+    get_or_read p.places.items index place within at None ∙ ap (λ i. get_or p.places.items i None) is
+    ∙ ap (λ places. get_or places (index_of p.infos.items name) None) are.places ∙ place_there p.placed.items p.infos.items name there
+
+some_place : (found : Option PlacedFile) → IsSome found → IsSome (option_map (λ (p : PlacedFile). p.place) found)
+some_place None some = absurd (true≢false (sym some))
+some_place (Some p) some = refl
+
+-- which is there
+pub place_is_there : (p : Placements) (name : List ℕ) (place : Option ℕ) → IsSome (placed_named p.placed.items name)
+    → place ≡ place_named p.placed.items name → IsSome place
+place_is_there p name place placed is = subst IsSome (sym is) (some_place (placed_named p.placed.items name) placed)
+
+place_value : (found : Option PlacedFile) (place : ℕ) → option_map (λ (p : PlacedFile). p.place) found ≡ Some place
+    → place ≡ option_map_or (λ (p : PlacedFile). p.place) found 0
+place_value None place is = absurd (none-some place is)
+place_value (Some p) place is = sym (same_Some p.place place is)
+
+-- and is the placed file's
+pub place_is : (placed : List PlacedFile) (name : List ℕ) (found : Option ℕ) (place : ℕ) → found ≡ place_named placed name → found ≡ Some place
+    → place ≡ place_of placed name
+place_is placed name found place is some = place_value (placed_named placed name) place (sym is ∙ some)
+
+-- the placed file of a name, by its place
+abbrev pub standing : List PlacedFile → List ℕ → ℕ → PlacedFile
+standing placed name at = record { name = name; place = at; size = option_map_or (λ (p : PlacedFile). p.size) (placed_named placed name) 0 }
+
+pub standing_named : (placed : List PlacedFile) (name : List ℕ) (at : ℕ) → IsSome (placed_named placed name) → at ≡ place_of placed name
+    → placed_named placed name ≡ Some (standing placed name at)
+standing_named placed name at some is =
+    let found = from_some (placed_named placed name) some in
+    let p = found.0 in
+    let named : p.name ≡ name = same_name p.name name (found_passes (λ (q : PlacedFile). bytes_eq q.name name) placed p found.1) in
+    let place : p.place ≡ at = sym (ap (λ (o : Option PlacedFile). option_map_or (λ (q : PlacedFile). q.place) o 0) found.1) ∙ sym is in
+    let size : p.size ≡ option_map_or (λ (q : PlacedFile). q.size) (placed_named placed name) 0 =
+    sym (ap (λ (o : Option PlacedFile). option_map_or (λ (q : PlacedFile). q.size) o 0) found.1) in
+    found.1 ∙ ap (λ (n : List ℕ). Some (record { name = n; place = p.place; size = p.size })) named
+    ∙ ap₂ (λ (a s : ℕ). Some (record { name = name; place = a; size = s })) place size
+
+-- that of one that is there with its bytes
+pub there_standing : (m : Memory) (placed : List PlacedFile) (name : List ℕ) (at : ℕ) (p : Placed) → placed_of (files_in m placed) name ≡ Some p
+    → at ≡ place_of placed name → placed_named placed name ≡ Some (standing placed name at)
+there_standing m placed name at p some place =
+    standing_named placed name at (some_named m placed name (subst IsSome (sym some) refl)) place
+
+-- its place is low
+pub place_low : (m : Memory) (placed : List PlacedFile) (name : List ℕ) (at : ℕ) → ArePlaced m.top placed
+    → placed_named placed name ≡ Some (standing placed name at) → at ≤ 2 ^ 32
+place_low m placed name at all named =
+    let low : EndsLow (standing placed name at) =
+    of_found EndsLow (λ (q : PlacedFile). bytes_eq q.name name) placed (standing placed name at) named (each_low m.top placed all) in
+    omega (arith, low)

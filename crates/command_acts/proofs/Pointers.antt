@@ -1,5 +1,6 @@
 -- A number of a placed file that gets a place added.
-use Rattle.std.proofs.Common.{◌≡◌, ℕ, ◌+◌, ◌<◌, ◌≤◌, List, length, Some, Result, Ok, Err, IsErr, OnOk, OnErr, ◌↔◌, inl, inr, arith, refl, ap, ap₂, subst, sym, ◌∙◌}
+use Rattle.std.proofs.Common.{◌≡◌, ℕ, ◌+◌, ◌<◌, ◌≤◌, List, length, Some, Result, Ok, Err, IsErr, OnOk, OnErr, ◌↔◌, inl, inr, arith, refl, ap, ap₂}
+use Rattle.std.proofs.Common.{subst, sym, ◌∙◌}
 use Rattle.std.specs.Option.{option_map_or}
 use Rattle.std.proofs.lemmas.Bool.{cases_lt, true≢false}
 use Rattle.std.proofs.lemmas.Option.{same_Some}
@@ -9,6 +10,7 @@ use Rattle.command_acts.specs.declared.placed.PlacedFile.{PlacedFile}
 use Rattle.loader_script.specs.Run.{Placed, placed_with, pointer_sum, with_pointer}
 use Rattle.command_acts.specs.FilesInMemory.{placed_named, place_of, placed_in, files_in, pointed, ArePlaced, Stays, CanPoint}
 use Rattle.command_acts.proofs.NamedInMemory.{found_in}
+use Rattle.command_acts.proofs.Placings.{standing, there_standing}
 use Rattle.vt_bytes.proofs.Bytes.{length-bytes_at, part-bytes_at}
 use Rattle.vt_bytes.proofs.Numbers.{length-le_bytes}
 use Rattle.vt_bytes.specs.Parts.{part, put_at}
@@ -37,6 +39,17 @@ pub record IsPointer (m : Memory) (placed : List PlacedFile) (dest src : List �
   pub dest_is : placed_named placed dest ≡ Some p
   pub src_is : placed_named placed src ≡ Some s
   pub can : CanPoint (files_in m placed) dest src offset size
+
+-- they are known by their names and their places
+pub pointer_stands : (m : Memory) (placed : List PlacedFile) (dest src : List ℕ) (offset size to from : ℕ) → ArePlaced m.top placed
+    → CanPoint (files_in m placed) dest src offset size → to ≡ place_of placed dest → from ≡ place_of placed src
+    → IsPointer m placed dest src offset size (standing placed dest to) (standing placed src from)
+pointer_stands m placed dest src offset size to from apart can dest_at src_at = record {
+  apart = apart;
+  dest_is = there_standing m placed dest to can.d can.found dest_at;
+  src_is = there_standing m placed src from can.s can.source_found src_at;
+  can = can;
+}
 
 -- the number is in its file
 pub number_within : (m : Memory) (placed : List PlacedFile) (dest src : List ℕ) (offset size : ℕ) (p s : PlacedFile)

@@ -1,4 +1,6 @@
 ghost use Rattle.std.specs.Prelude.{◌≡◌, ◌++◌, ◌<◌, ◌^◌, [], ◌∷◌, length, replicate, None, IfOk, IsSome};
+ghost use Rattle.std.specs.List.{position};
+ghost use Rattle.std.specs.Str.{bytes_eq};
 ghost use Rattle.cfg_directory.specs.Items.{IsItems};
 ghost use Rattle.loader_script.specs.Run.{infos_of};
 ghost use Rattle.cfg_directory.specs.Files.{files_of};
@@ -6,9 +8,9 @@ ghost use Rattle.loader_script.specs.Refusal.{info_of, causes_of, first_cause, A
 ghost use Rattle.command_acts.specs.Placing.{ArePlacements, places_in};
 ghost use Rattle.command_acts.specs.FilesInMemory.{placed_named, place_of};
 
-use crate::placed::{PlacedFile, placed_of};
+use crate::placed::PlacedFile;
 use cfg_directory::Item;
-use loader_script::{Cause, Entry, FileInfo, refusal};
+use loader_script::{Cause, Entry, FileInfo, NameOrder, refusal};
 use std::alloc::Global;
 use vt_outside::{Name, OutOfMemory};
 
@@ -21,6 +23,8 @@ pub struct Placements {
     pub places: Vec<Option<u64>>,
     /// Those that are placed, in the order in which they were. It has room for all files.
     pub placed: Vec<PlacedFile>,
+    /// The order of the files' names.
+    pub order: NameOrder,
 }
 
 impl Placements {
@@ -33,10 +37,12 @@ impl Placements {
     {
         let places = nowhere(alloc, infos.len())?;
         let placed = Vec::with_capacity(alloc, infos.len())?;
+        let order = NameOrder::of(alloc, &infos)?;
         Ok(Placements {
             infos,
             places,
             placed,
+            order,
         })
     }
 
@@ -49,15 +55,28 @@ impl Placements {
         requires low { EndLow self.now.infos.items (places_in self.now.placed.items self.now.infos.items) }
         ensures { result ≡ first_cause (causes_of entry.now self.now.infos.items (places_in self.now.placed.items self.now.infos.items)) }
     {
-        refusal(entry, &self.infos, &self.places)
+        refusal(entry, &self.infos, &self.places, &self.order)
     }
 
-    /// Returns the guest address at which the file `name` is placed. It is placed. It takes no memory.
+    /// Returns the index of the file `name` in the directory, or `None` where no file has that name. The names of the files differ. It
+    /// takes no memory.
+    pub fn index_of(&self, name: &Name) -> Option<usize>
+        requires are { ArePlacements self.now }
+        requires distinct { AreDistinct self.now.infos.items }
+        ensures { result ≡ position (λ info. bytes_eq info.name name.now) self.now.infos.items }
+    {
+        self.order.index_of(name)
+    }
+
+    /// Returns the guest address at which the file `name` is placed. It is placed, and the names of the files differ. It takes no memory.
     pub fn place_of(&self, name: &Name) -> u64
-        requires { IsSome (placed_named self.now.placed.items name.now) }
+        requires are { ArePlacements self.now }
+        requires distinct { AreDistinct self.now.infos.items }
+        requires placed { IsSome (placed_named self.now.placed.items name.now) }
         ensures { result ≡ place_of self.now.placed.items name.now }
     {
-        placed_of(&self.placed, name).place
+        let index = self.index_of(name).unwrap();
+        self.places[index].unwrap()
     }
 
     /// Notes that `file` is placed. It is one of the files, whose names differ, and none of that name was placed. Behind those that
@@ -71,11 +90,7 @@ impl Placements {
         ensures infos { self.new.infos ≡ self.old.infos }
         ensures placed { self.new.placed.items ≡ self.old.placed.items ++ file ∷ [] }
     {
-        let index = self
-            .infos
-            .iter()
-            .position(|info| info.name == file.name)
-            .unwrap();
+        let index = self.index_of(&file.name).unwrap();
         self.places[index] = Some(file.place);
         self.placed.push_reserved(file);
     }

@@ -72,7 +72,8 @@ put_other name key node no_members differ = get_past name key None (Some node) d
 put_other name key node (member other there entries) differ =
     put_other-at (slice_cmp nat_cmp key other) name key other node there entries refl differ (put_other name key node entries differ)
 
-pub get_here : (name : List ℕ) (node : Option Data) (entries : Members) → get_member name entries ≡ None → get_member name (with_member name node entries) ≡ node
+pub get_here : (name : List ℕ) (node : Option Data) (entries : Members) → get_member name entries ≡ None
+    → get_member name (with_member name node entries) ≡ node
 get_here name None entries none = none
 get_here name (Some node) entries none = put_here name node entries
 

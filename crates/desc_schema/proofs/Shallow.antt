@@ -104,7 +104,8 @@ fields_shallow spell write most all (field ∷ fields) values made within =
 written_within : (spell : Spelling) (schema : List (List Field)) (depth : ℕ) → AllAre (written_to spell schema depth) (IsWithin (2 * depth))
 written_within spell schema zero number values = omega arith
 written_within spell schema (suc depth) number values =
-    let within = fields_shallow spell (written_to spell schema depth) (2 * depth) (written_within spell schema depth) (fields_at schema number) values no_members
+    let within = fields_shallow spell (written_to spell schema depth) (2 * depth) (written_within spell schema depth) (fields_at schema number) values
+    no_members
     (omega arith) in
     omega (arith, within)
 

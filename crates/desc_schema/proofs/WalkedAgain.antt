@@ -188,7 +188,8 @@ empty_values : (n : ℕ) (default : Value) (inside values : List Value) → valu
 empty_values n default inside values is none empty stands = rw (is, none, empty, stands) refl
 
 -- an array is written, or it is empty and its key may be left out
-array_back : (spell : Spelling) (inner : Inner) (write : Write) (field : Field) (parts : ℕ → List Value → Items × List Value) (Part : List Value → Type 0) (n : ℕ)
+array_back : (spell : Spelling) (inner : Inner) (write : Write) (field : Field) (parts : ℕ → List Value → Items × List Value) (Part : List Value
+    → Type 0) (n : ℕ)
     (inside values more : List Value) (made : Items) → values ≡ Value.Count n ∷ inside → AreParts Part n inside → parts n (inside ++ more) ≡ (made, more)
     → ((default : Value) → field.default ≡ Some default → default ≡ Value.Count 0)
     → ((at : KeyPlace) (positions : List ℕ) → (next : List ℕ) × (shaped inner at field.shape (array made) positions ≡ Ok (values, next)))

@@ -14,7 +14,8 @@ use Rattle.desc_schema.proofs.Fitting.{walked_fit}
 use Rattle.desc_schema.proofs.UuidText.{small_parsed}
 use Rattle.machine_desc.specs.declared.machine.Machine.{Machine}
 use Rattle.machine_desc.specs.Fields.{IsFittingFirmware, IsFittingSocket, IsFittingSlot, IsFittingPower, IsFittingHpet, HasFittingFields}
-use Rattle.machine_desc.specs.Fields.{IsFittingApic, IsFittingCpu, IsFittingIoApic, IsFittingOverride, IsFittingNmi, IsFittingNuma, IsFittingRoute, IsFittingBridge}
+use Rattle.machine_desc.specs.Fields.{IsFittingApic, IsFittingCpu, IsFittingIoApic, IsFittingOverride, IsFittingNmi, IsFittingNuma, IsFittingRoute}
+use Rattle.machine_desc.specs.Fields.{IsFittingBridge}
 use Rattle.desc_toml.specs.Keys.{schema}
 use Rattle.desc_toml.specs.Values.{part_of, each_of, list_of, firmware_of, socket_of, slot_of, power_of, hpet_of, apic_of, cpu_of, io_apic_of}
 use Rattle.desc_toml.specs.Values.{override_of, nmi_of, route_of, one_byte, text_taken, firmware_taken, socket_taken, slot_taken, power_taken, hpet_taken}

@@ -5,7 +5,8 @@ use Rattle.std.proofs.lemmas.Bool.{and_parts, leb-true, eqb-true}
 use Rattle.desc_schema.specs.declared.value.Value.{Value}
 use Rattle.desc_schema.specs.Form.{Form, Shape, Field}
 use Rattle.desc_schema.specs.Form as forms
-use Rattle.desc_schema.specs.Written.{Spelling, greatest_integer, node_of, words_differ, names_differ, IsSoundForm, IsSoundShape, IsSoundDefault, AreSoundFields, IsSound}
+use Rattle.desc_schema.specs.Written.{Spelling, greatest_integer, node_of, words_differ, names_differ, IsSoundForm, IsSoundShape, IsSoundDefault}
+use Rattle.desc_schema.specs.Written.{AreSoundFields, IsSound}
 use Rattle.desc_toml.specs.Keys.{schema}
 
 -- the words of a kind differ, and its numbers are integers of TOML

@@ -1,5 +1,6 @@
 -- The values of the parts that have arrays: the nodes and the bridge; and those of the devices.
-use Rattle.std.proofs.Common.{◌≡◌, inr, ℕ, suc, ◌+◌, ◌≤◌, ◌<◌, ◌^◌, true, not, take, drop, [], ◌&&◌, ◌==◌, ◌%◌, ◌*◌, List, ◌∷◌, ◌++◌, length, nat_le, nat_lt, refl, ap, arith, append_assoc}
+use Rattle.std.proofs.Common.{◌≡◌, inr, ℕ, suc, ◌+◌, ◌≤◌, ◌<◌, ◌^◌, true, not, take, drop, [], ◌&&◌, ◌==◌, ◌%◌, ◌*◌, List, ◌∷◌, ◌++◌, length, nat_le}
+use Rattle.std.proofs.Common.{nat_lt, refl, ap, arith, append_assoc}
 use Rattle.std.specs.List.{list_all, enumerate_from, AllByRecursion}
 use Rattle.std.proofs.lemmas.Bool.{and_parts, leb-true, le-leb, ltb-true}
 use Rattle.desc_schema.specs.declared.value.Value.{Value}
@@ -20,7 +21,8 @@ use Rattle.machine_desc.proofs.Passing.{◌⨾◌}
 use Rattle.desc_toml.specs.Keys.{schema, numa_keys, bridge_keys, window_keys, route_keys, uart_keys}
 use Rattle.desc_toml.specs.Values.{kind_at, byte_taken, numa_taken, window_taken, route_taken, bridge_taken, uart_taken}
 use Rattle.desc_toml.specs.Printed.{list_values, number_values, numa_values, place_of_kind, window_values, route_values, bridge_values, uart_values}
-use Rattle.desc_toml.proofs.Valued.{IsValued, good_fits, number_good, list_valued, first_key, last_key, keys_append, texts_append, both_of_each, each_holds, each_true}
+use Rattle.desc_toml.proofs.Valued.{IsValued, good_fits, number_good, list_valued, first_key, last_key, keys_append, texts_append, both_of_each}
+use Rattle.desc_toml.proofs.Valued.{each_holds, each_true}
 use Rattle.desc_toml.proofs.ValuedParts.{part_good, byte_valued}
 
 pub few_nodes : (n : Numa) → is_lawful_numa n ≡ true → n.nodes ≤ 64
@@ -45,7 +47,8 @@ numa_valued Inside n lawful fits =
     record {
       back = λ more. rw nodes.1 (ap (numa_with n.nodes) (distance.back more));
       fits = keys_append Inside (take 1 numa_keys) (drop 1 numa_keys) first (list_values number_values n.distance)
-          (good_fits Inside (take 1 numa_keys) first (nodes ⨾ tt)) (last_key Inside (drop 1 numa_keys) (list_values number_values n.distance) (inr distance.fits) refl);
+          (good_fits Inside (take 1 numa_keys) first (nodes ⨾ tt)) (last_key Inside (drop 1 numa_keys) (list_values number_values n.distance)
+          (inr distance.fits) refl);
       texts = (tt, distance.texts);
     }
 

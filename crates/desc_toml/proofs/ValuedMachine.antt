@@ -14,7 +14,8 @@ use Rattle.machine_desc.specs.declared.device_parts.Bridge.{Bridge}
 use Rattle.machine_desc.specs.declared.smbios_parts.MemRange.{MemRange}
 use Rattle.machine_desc.specs.Fields.{HasFittingFields, IsFittingFirmware, IsFittingSocket, IsFittingSlot, IsFittingRange, IsFittingPower, IsFittingHpet}
 use Rattle.machine_desc.specs.Fields.{IsFittingApic, IsFittingCpu, IsFittingIoApic, IsFittingOverride, IsFittingNmi, IsFittingNuma, IsFittingBridge}
-use Rattle.machine_desc.specs.Rules.{IsAccepted, is_text, firmware_texts, chassis_texts, socket_texts, dimm_texts, slot_texts, acpi_texts, windows_of, routes_of}
+use Rattle.machine_desc.specs.Rules.{IsAccepted, is_text, firmware_texts, chassis_texts, socket_texts, dimm_texts, slot_texts, acpi_texts, windows_of}
+use Rattle.machine_desc.specs.Rules.{routes_of}
 use Rattle.machine_desc.specs.Rules.{is_lawful_chassis, is_lawful_socket, is_lawful_dimm, is_lawful_slot, is_lawful_override, is_lawful_nmi, is_lawful_numa}
 use Rattle.machine_desc.specs.Rules.{has_lawful_ecam, is_lawful_window, is_lawful_route, is_lawful_uart}
 use Rattle.machine_desc.proofs.Accepted.{kept, each_kept, holds_where_kept, texts_at, fitting_ranges, lawful_numa}

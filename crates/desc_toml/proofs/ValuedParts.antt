@@ -24,7 +24,8 @@ use Rattle.machine_desc.specs.declared.smbios_parts.Socket.{Socket}
 use Rattle.machine_desc.specs.declared.smbios_parts.Dimm.{Dimm}
 use Rattle.machine_desc.specs.declared.smbios_parts.MemRange.{MemRange}
 use Rattle.machine_desc.specs.declared.smbios_parts.Slot.{Slot}
-use Rattle.machine_desc.specs.Fields.{IsFittingFirmware, IsFittingSocket, IsFittingSlot, IsFittingRange, IsFittingPower, IsFittingHpet, IsFittingApic, IsFittingCpu}
+use Rattle.machine_desc.specs.Fields.{IsFittingFirmware, IsFittingSocket, IsFittingSlot, IsFittingRange, IsFittingPower, IsFittingHpet, IsFittingApic}
+use Rattle.machine_desc.specs.Fields.{IsFittingCpu}
 use Rattle.machine_desc.specs.Fields.{IsFittingIoApic, IsFittingOverride, IsFittingNmi}
 use Rattle.machine_desc.specs.Rules.{is_text, system_texts, firmware_texts, chassis_texts, socket_texts, dimm_texts, slot_texts, acpi_texts}
 use Rattle.machine_desc.specs.Rules.{is_lawful_chassis, is_lawful_socket, is_lawful_dimm, is_lawful_slot, is_lawful_override, is_lawful_nmi}

@@ -1,5 +1,6 @@
 -- The devices of an accepted machine are told by the terms that are kept of it.
-use Rattle.std.proofs.Common.{◌≡◌, Bool, true, false, List, codes, map, is_some, Option, Some, None, IfSome, option_map, slice_get, refl, ap, ap₂, ◌∙◌, append-nil}
+use Rattle.std.proofs.Common.{◌≡◌, Bool, true, false, List, codes, map, is_some, Option, Some, None, IfSome, option_map, slice_get, refl, ap, ap₂}
+use Rattle.std.proofs.Common.{◌∙◌, append-nil}
 use Rattle.std.specs.Prelude.{option_to_list}
 use Rattle.std.specs.List.{filter_map, list_all, AllByRecursion}
 use Rattle.aml_terms.specs.declared.term.Term.TheVariants.{Int, Scope}

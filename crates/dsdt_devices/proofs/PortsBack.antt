@@ -1,5 +1,6 @@
 -- A serial port is told by its device.
-use Rattle.std.proofs.Common.{◌≡◌, ℕ, zero, suc, ◌+◌, ◌<◌, ◌≤◌, ◌^◌, ◌⊎◌, inl, inr, ⊎_elim, Bool, true, ◌&&◌, ◌==◌, nat_le, List, [], ◌∷◌, ◌++◌, codes, cond, length, map, Some, None, refl, sym, ap, ap₂, ◌∙◌, arith, leb-true}
+use Rattle.std.proofs.Common.{◌≡◌, ℕ, zero, suc, ◌+◌, ◌<◌, ◌≤◌, ◌^◌, ◌⊎◌, inl, inr, ⊎_elim, Bool, true, ◌&&◌, ◌==◌, nat_le, List, [], ◌∷◌, ◌++◌}
+use Rattle.std.proofs.Common.{codes, cond, length, map, Some, None, refl, sym, ap, ap₂, ◌∙◌, arith, leb-true}
 use Rattle.std.specs.List.{cons_option, enumerate_from, list_all}
 use Rattle.std.proofs.lemmas.Bool.{and_parts, cases_lt, eqb-true}
 use Rattle.aml_terms.specs.declared.term.Term.TheVariants.{Int, Buffer}

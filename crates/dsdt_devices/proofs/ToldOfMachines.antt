@@ -1,5 +1,6 @@
 -- What the devices of a machine tell of a name, and of serial ports.
-use Rattle.std.proofs.Common.{◌≡◌, ℕ, ◌+◌, ◌/◌, ◌%◌, ◌<◌, ◌≤◌, false, ◌==◌, List, [], ◌∷◌, ◌++◌, codes, map, nat_lt, cond, if◌then◌else◌, Option, Some, None, option_map, refl, ap, ◌∙◌, arith, ltb-true, append-nil}
+use Rattle.std.proofs.Common.{◌≡◌, ℕ, ◌+◌, ◌/◌, ◌%◌, ◌<◌, ◌≤◌, false, ◌==◌, List, [], ◌∷◌, ◌++◌, codes, map, nat_lt, cond, if◌then◌else◌, Option}
+use Rattle.std.proofs.Common.{Some, None, option_map, refl, ap, ◌∙◌, arith, ltb-true, append-nil}
 use Rattle.std.specs.Prelude.{option_to_list}
 use Rattle.std.proofs.lemmas.Bool.{cond_both, ne_eqb}
 use Rattle.std.specs.Str.{bytes_eq}
@@ -14,8 +15,10 @@ use Rattle.machine_desc.specs.declared.device_parts.Uart.{Uart}
 use Rattle.resource_items.specs.declared.resource_item.ResourceItem.TheVariants.{Memory}
 use Rattle.dsdt_terms.specs.Names.{path_to, name, device, hardware_id, unique_id, resources, serial_port, real_time_clock, keyboard_controller, event_timer}
 use Rattle.dsdt_terms.specs.Bridge.{bridge_ids, bridge_items, route_term, bridge_device}
-use Rattle.dsdt_terms.specs.Devices.{port_item, irq_item, uart_device, clock_device, keyboard_device, timer_device, hex_digit, cpu_name, cpu_device, generation_device}
-use Rattle.dsdt_terms.specs.Dsdt.{if_there, has_clock, has_keyboard, uart_devices, cpu_devices, front_devices, placeless_devices, generation_devices, devices_with}
+use Rattle.dsdt_terms.specs.Devices.{port_item, irq_item, uart_device, clock_device, keyboard_device, timer_device, hex_digit, cpu_name, cpu_device}
+use Rattle.dsdt_terms.specs.Devices.{generation_device}
+use Rattle.dsdt_terms.specs.Dsdt.{if_there, has_clock, has_keyboard, uart_devices, cpu_devices, front_devices, placeless_devices, generation_devices}
+use Rattle.dsdt_terms.specs.Dsdt.{devices_with}
 use Rattle.dsdt_devices.specs.BusTerms.{in_device}
 use Rattle.dsdt_devices.specs.Told.{resources_in, uart_of, is_uart, uart_in}
 use Rattle.dsdt_devices.proofs.Views.{in_device-device, uart_in-device}
@@ -158,6 +161,7 @@ uarts_told m uarts are =
       clock = none_if_there uart_in clock_device (uart_in-device (path_to (codes "RTC_")) clock_values) (has_clock m.power);
       keyboard = none_if_there uart_in keyboard_device (uart_in-device (path_to (codes "KBD_")) keyboard_values) (has_keyboard m.power);
       timer = uart_in-device (path_to (codes "HPET"));
-      processors = λ n values. uart_in-device (path_to (cpu_name n)) values ∙ ap (λ is. cond is (Some (uart_of (resources_in (map view values)))) None) (no_uart n);
+      processors = λ n values. uart_in-device (path_to (cpu_name n)) values
+          ∙ ap (λ is. cond is (Some (uart_of (resources_in (map view values)))) None) (no_uart n);
       generation = uart_in-device (path_to (codes "VGEN"));
     }) ∙ append-nil (uarts ++ []) ∙ append-nil uarts

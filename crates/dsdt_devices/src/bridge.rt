@@ -3,7 +3,8 @@
 ghost use Rattle.std.specs.Prelude.{◌≡◌, map, codes, option_map, IfOk};
 ghost use Rattle.aml_terms.specs.Trees.{view};
 ghost use Rattle.dsdt_devices.specs.BusTerms.{first_told, value_in};
-ghost use Rattle.dsdt_devices.specs.Told.{items_of, resources_in, buses_in, last_bus_in, window_in, windows_in, rows_of, integer_of, integer_at, route_in, bridge_in};
+ghost use Rattle.dsdt_devices.specs.Told.{items_of, resources_in, buses_in, last_bus_in, window_in, windows_in, rows_of, integer_of, integer_at};
+ghost use Rattle.dsdt_devices.specs.Told.{route_in, bridge_in};
 
 use crate::bus_terms::first_value;
 use aml_terms::Term;

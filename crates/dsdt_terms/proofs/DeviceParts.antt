@@ -21,7 +21,8 @@ use Rattle.dsdt_terms.specs.Names.{name, hardware_id, compatible_id, unique_id, 
 use Rattle.dsdt_terms.specs.Names.{pci_bridge, pci_express_bridge, serial_port, real_time_clock, keyboard_controller, event_timer}
 use Rattle.dsdt_terms.specs.Bridge.{window_item, bridge_items, route_term, bridge_ids, bridge_device}
 use Rattle.dsdt_terms.specs.Devices.{port_item, irq_item, uart_device, clock_device, keyboard_device, timer_device, cpu_name, cpu_device, generation_device}
-use Rattle.dsdt_terms.proofs.Limits.{most_windows, most_routes, item_size, route_size, cpu_size, uart_size, clock_size, keyboard_size, timer_size, generation_size, bridge_size}
+use Rattle.dsdt_terms.proofs.Limits.{most_windows, most_routes, item_size, route_size, cpu_size, uart_size, clock_size, keyboard_size, timer_size}
+use Rattle.dsdt_terms.proofs.Limits.{generation_size, bridge_size}
 use Rattle.dsdt_terms.proofs.Views.{view-chars}
 use Rattle.dsdt_terms.proofs.WrittenParts.{Premises, IsPart, AreParts, no_parts, one_more, both_parts, enough, each_part, chars_part}
 use Rattle.dsdt_terms.proofs.NamedParts.{four_true, is_text, named_part, number, small_number, packed, resources_part, whole_device, number_char, hex_char}
@@ -43,7 +44,8 @@ texted : (P : Premises) (segment text : List ℕ) → IsSegment segment → AllB
 texted P segment text is are =
     let value = subst (IsPart IsGoodValue P value_room (length text + 2)) (sym (view-chars text)) (chars_part P value_room text are) in
     let same : length text + 2 + 5 ≡ length text + 7 = omega arith in
-    subst (λ size. IsPart IsGood P value_room size (view (name segment (Chars text)))) same (named_part P value_room (length text + 2) segment (Chars text) is value)
+    subst (λ size. IsPart IsGood P value_room size (view (name segment (Chars text)))) same
+    (named_part P value_room (length text + 2) segment (Chars text) is value)
 
 hardware : (P : Premises) (id : ℕ) → id < 2 ^ 64 → IsPart IsGood P value_room 14 (view (hardware_id id))
 hardware P id small = numbered P (codes "_HID") id four_true small

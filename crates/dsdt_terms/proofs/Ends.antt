@@ -1,5 +1,6 @@
 -- Bytes that end in a dword, which alone depends on its number, and a zero.
-use Rattle.std.proofs.Common.{◌≡◌, ℕ, zero, suc, ◌+◌, ◌-◌, List, [], ◌∷◌, ◌++◌, length, take, refl, sym, ap, ◌∙◌, arith, append_assoc, append-nil, length-append}
+use Rattle.std.proofs.Common.{◌≡◌, ℕ, zero, suc, ◌+◌, ◌-◌, List, [], ◌∷◌, ◌++◌, length, take, refl, sym, ap, ◌∙◌, arith, append_assoc, append-nil}
+use Rattle.std.proofs.Common.{length-append}
 use Rattle.vt_bytes.specs.Numbers.{le_bytes}
 use Rattle.vt_bytes.proofs.Numbers.{length-le_bytes}
 use Rattle.aml_terms.specs.Written.{package_length}

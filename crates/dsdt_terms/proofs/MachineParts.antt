@@ -20,7 +20,8 @@ use Rattle.dsdt_terms.specs.Bridge.{bridge_device}
 use Rattle.dsdt_terms.specs.Devices.{uart_device, clock_device, keyboard_device, timer_device, cpu_device, generation_device}
 use Rattle.dsdt_terms.specs.Dsdt.{if_there, has_clock, has_keyboard, uart_devices, cpu_devices, front_devices, placeless_devices}
 use Rattle.dsdt_terms.specs.Dsdt.{generation_devices, devices_with, system_bus, terms_with}
-use Rattle.dsdt_terms.proofs.Limits.{most_cpus, most_uarts, most_windows, most_routes, cpu_size, uart_size, clock_size, keyboard_size, timer_size, generation_size, bridge_size}
+use Rattle.dsdt_terms.proofs.Limits.{most_cpus, most_uarts, most_windows, most_routes, cpu_size, uart_size, clock_size, keyboard_size, timer_size}
+use Rattle.dsdt_terms.proofs.Limits.{generation_size, bridge_size}
 use Rattle.dsdt_terms.proofs.Limits.{placeless_size, devices_size, machine_size}
 use Rattle.dsdt_terms.proofs.AcceptedDevices.{HasFewDevices, few_devices, lawful_routes}
 use Rattle.dsdt_terms.proofs.Views.{view-scope}

@@ -56,7 +56,8 @@ value_taken place c segment value ts us same rest =
     taken place c (name segment value) ts us (ap (λ l. l == c) (letter-name place segment value) ∙ same) rest
 
 -- of two lists, one behind the other
-more_picked : (answer : Bool) (t : Tree) (front back whole : List Tree) → whole ≡ front ++ back → cond answer (t ∷ whole) whole ≡ cond answer (t ∷ front) front ++ back
+more_picked : (answer : Bool) (t : Tree) (front back whole : List Tree) → whole ≡ front ++ back
+    → cond answer (t ∷ whole) whole ≡ cond answer (t ∷ front) front ++ back
 more_picked true t front back whole is = ap (λ those. t ∷ those) is
 more_picked false t front back whole is = is
 

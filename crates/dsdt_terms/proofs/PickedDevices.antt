@@ -1,5 +1,6 @@
 -- The bridge, the serial ports and the clock of a machine, picked out of its devices by a letter of their names.
-use Rattle.std.proofs.Common.{◌≡◌, ℕ, ◌+◌, ◌/◌, ◌%◌, ◌<◌, ◌≤◌, Bool, true, false, ◌==◌, List, [], ◌∷◌, ◌++◌, codes, get_or, map, nat_lt, Option, Some, None, option_map}
+use Rattle.std.proofs.Common.{◌≡◌, ℕ, ◌+◌, ◌/◌, ◌%◌, ◌<◌, ◌≤◌, Bool, true, false, ◌==◌, List, [], ◌∷◌, ◌++◌, codes, get_or, map, nat_lt, Option, Some}
+use Rattle.std.proofs.Common.{None, option_map}
 use Rattle.std.proofs.Common.{refl, ap, ◌∙◌, arith, ltb-true}
 use Rattle.std.specs.Prelude.{option_to_list}
 use Rattle.std.proofs.lemmas.Bool.{cond_both, ne_eqb}
@@ -16,8 +17,10 @@ use Rattle.machine_desc.specs.declared.device_parts.Uart.{Uart}
 use Rattle.resource_items.specs.declared.resource_item.ResourceItem.TheVariants.{Memory}
 use Rattle.dsdt_terms.specs.Names.{name, device, hardware_id, unique_id, resources, serial_port, real_time_clock, keyboard_controller, event_timer}
 use Rattle.dsdt_terms.specs.Bridge.{bridge_ids, bridge_items, route_term, bridge_device}
-use Rattle.dsdt_terms.specs.Devices.{port_item, irq_item, uart_device, clock_device, keyboard_device, timer_device, hex_digit, cpu_name, cpu_device, generation_device}
-use Rattle.dsdt_terms.specs.Dsdt.{if_there, has_clock, has_keyboard, uart_devices, cpu_devices, front_devices, placeless_devices, generation_devices, devices_with}
+use Rattle.dsdt_terms.specs.Devices.{port_item, irq_item, uart_device, clock_device, keyboard_device, timer_device, hex_digit, cpu_name, cpu_device}
+use Rattle.dsdt_terms.specs.Devices.{generation_device}
+use Rattle.dsdt_terms.specs.Dsdt.{if_there, has_clock, has_keyboard, uart_devices, cpu_devices, front_devices, placeless_devices, generation_devices}
+use Rattle.dsdt_terms.specs.Dsdt.{devices_with}
 use Rattle.dsdt_terms.proofs.Picked.{letter, picked, letter-device, in_front, behind, all_taken, none_taken}
 
 -- whether a device's name has a letter at a place

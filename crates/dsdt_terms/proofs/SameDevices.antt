@@ -1,5 +1,6 @@
 -- Machines of the same terms have the same bridge but for its configuration space, the same serial ports, and both a clock or neither.
-use Rattle.std.proofs.Common.{◌≡◌, ℕ, ◌+◌, ◌^◌, ◌<◌, Bool, true, false, ◌==◌, not, ◌&&◌, nat_le, List, [], ◌∷◌, get_or, map, Option, Some, None, IfSome, option_map}
+use Rattle.std.proofs.Common.{◌≡◌, ℕ, ◌+◌, ◌^◌, ◌<◌, Bool, true, false, ◌==◌, not, ◌&&◌, nat_le, List, [], ◌∷◌, get_or, map, Option, Some, None}
+use Rattle.std.proofs.Common.{IfSome, option_map}
 use Rattle.std.proofs.Common.{⊎_elim, refl, sym, ap, ap₂, ◌∙◌, arith}
 use Rattle.std.specs.Prelude.{option_to_list}
 use Rattle.std.proofs.lemmas.Bool.{and_parts, cases_lt}

@@ -1,5 +1,6 @@
 -- The terms of a machine lead to the id of its generation, and to nothing else.
-use Rattle.std.proofs.Common.{◌≡◌, ℕ, ◌+◌, ◌<◌, ◌^◌, true, false, List, [], ◌∷◌, ◌++◌, codes, cond, Option, Some, None, option_map, is_some, IsSome, ◌&&◌, ◌==◌, map, refl, sym, ap, ap₂, ◌∙◌, subst, arith, lt-ltb}
+use Rattle.std.proofs.Common.{◌≡◌, ℕ, ◌+◌, ◌<◌, ◌^◌, true, false, List, [], ◌∷◌, ◌++◌, codes, cond, Option, Some, None, option_map, is_some, IsSome}
+use Rattle.std.proofs.Common.{◌&&◌, ◌==◌, map, refl, sym, ap, ap₂, ◌∙◌, subst, arith, lt-ltb}
 use Rattle.std.specs.List.{AllByRecursion, enumerate_from}
 use Rattle.std.specs.Str.{bytes_eq}
 use Rattle.std.proofs.lemmas.Bool.{cond_both}
@@ -7,7 +8,8 @@ use Rattle.vt_bytes.proofs.Each.{each_append, each_map}
 use Rattle.aml_terms.specs.declared.term.Term.{Term}
 use Rattle.aml_terms.specs.declared.term.Term.TheVariants.{Int, Chars, Buffer, Package}
 use Rattle.aml_terms.specs.Trees.{int, pack, named, scope, device as device_tree, no_trees, tree, view, views}
-use Rattle.aml_generation.specs.Generation.{zeros, or_behind, or_else, in_device, in_scope, taken_of_names, taken_of_device, taken_of_devices, taken_inside, taken}
+use Rattle.aml_generation.specs.Generation.{zeros, or_behind, or_else, in_device, in_scope, taken_of_names, taken_of_device, taken_of_devices}
+use Rattle.aml_generation.specs.Generation.{taken_inside, taken}
 use Rattle.machine_desc.specs.declared.machine.Machine.{Machine}
 use Rattle.machine_desc.specs.declared.machine.Hpet.{Hpet}
 use Rattle.machine_desc.specs.declared.acpi_parts.Cpu.{Cpu}
@@ -156,7 +158,8 @@ scope_taken address m id is small =
     by_id : (o : Option ℕ) → m.generation ≡ o
         → or_else (option_map (λ number. address) m.generation, views (devices_with (Int 0) m)) (taken (views (devices_with (Int address) m)))
         ≡ (option_map (λ number. address) o, views (devices_with (Int 0) m))
-    by_id (Some number) o_is = ap (λ o. or_else (option_map (λ number. address) o, views (devices_with (Int 0) m)) (taken (views (devices_with (Int address) m)))) o_is
+    by_id (Some number) o_is = ap (λ o. or_else (option_map (λ number. address) o, views (devices_with (Int 0) m))
+        (taken (views (devices_with (Int address) m)))) o_is
     by_id None o_is =
         let alike : generation_devices (Int address) m.generation ≡ generation_devices (Int 0) m.generation =
         ap (generation_devices (Int address)) o_is ∙ sym (ap (generation_devices (Int 0)) o_is) in

@@ -37,7 +37,8 @@ pub seen : {t : Tree} {ts : Trees} {u : Tree} {us : Trees} → t ≡ u → ts �
 seen first others = ap₂ tree first others
 
 -- a route as the package of its numbers
-pub view-route : (r : Route) → view (route_term r) ≡ pack (tree (int (r.device * 0x10000 + 0xFFFF)) (tree (int r.pin) (tree (int 0) (tree (int r.gsi) no_trees))))
+pub view-route : (r : Route) → view (route_term r) ≡ pack (tree (int (r.device * 0x10000 + 0xFFFF))
+    (tree (int r.pin) (tree (int 0) (tree (int r.gsi) no_trees))))
 view-route r =
     view-package (t.Int (r.device * 0x10000 + 0xFFFF) ∷ t.Int r.pin ∷ t.Int 0 ∷ t.Int r.gsi ∷ [])
     ∙ ap pack (seen (view-int (r.device * 0x10000 + 0xFFFF)) (seen (view-int r.pin) (seen (view-int 0) (seen (view-int r.gsi) refl))))

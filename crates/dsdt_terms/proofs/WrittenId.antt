@@ -1,6 +1,7 @@
 -- What the terms of a machine with an id of its generation are written as ends in the low half of the id's address and a zero; so do the rows
 -- of its definition block, with the place of the id's file added.
-use Rattle.std.proofs.Common.{◌≡◌, ℕ, ◌+◌, ◌<◌, ◌^◌, List, [], ◌∷◌, ◌++◌, codes, length, Option, Some, None, is_some, IsSome, subst, arith, refl, sym, ap, ap₂, ◌∙◌, cond, append-nil, append_assoc}
+use Rattle.std.proofs.Common.{◌≡◌, ℕ, ◌+◌, ◌<◌, ◌^◌, List, [], ◌∷◌, ◌++◌, codes, length, Option, Some, None, is_some, IsSome, subst, arith, refl, sym}
+use Rattle.std.proofs.Common.{ap, ap₂, ◌∙◌, cond, append-nil, append_assoc}
 use Rattle.vt_bytes.specs.Numbers.{le_bytes}
 use Rattle.vt_layout.specs.declared.row.Row.{Row}
 use Rattle.vt_layout.specs.declared.row.Row.TheVariants.{Number, Bytes, Pointer}
@@ -14,7 +15,8 @@ use Rattle.machine_desc.specs.declared.machine.Machine.{Machine}
 use Rattle.machine_desc.specs.Rules.{IsAccepted}
 use Rattle.machine_desc.specs.Fields.{HasFittingFields}
 use Rattle.dsdt_terms.specs.Names.{path_to}
-use Rattle.dsdt_terms.specs.Dsdt.{generation_devices, placeless_devices, devices_with, system_bus, terms_with, terms_at, generation_file, id_offset, id_address, dsdt_bytes, front_bytes, dsdt_body}
+use Rattle.dsdt_terms.specs.Dsdt.{generation_devices, placeless_devices, devices_with, system_bus, terms_with, terms_at, generation_file, id_offset}
+use Rattle.dsdt_terms.specs.Dsdt.{id_address, dsdt_bytes, front_bytes, dsdt_body}
 use Rattle.dsdt_terms.proofs.Views.{view-fixed}
 use Rattle.dsdt_terms.proofs.MachineTerms.{terms_spelled}
 use Rattle.dsdt_terms.proofs.LowHalf.{address_tree, id_tree, kind_tree, generation_tree, view-generation, both, views-append, view-terms}
@@ -51,7 +53,8 @@ ends_device : Ends (λ n. spelled (generation_tree (fixed n)))
 unfolding written
 ends_device =
     let inside = ends_last (tree id_tree (tree kind_tree no_trees)) (λ n. address_tree (fixed n)) ends_address in
-    ends_enclosed (0x5B ∷ 0x82 ∷ []) (λ n. path_bytes (path_to (codes "VGEN")) ++ all_spelled (tree id_tree (tree kind_tree (tree (address_tree (fixed n)) no_trees))))
+    ends_enclosed (0x5B ∷ 0x82 ∷ []) (λ n. path_bytes (path_to (codes "VGEN")) ++ all_spelled
+    (tree id_tree (tree kind_tree (tree (address_tree (fixed n)) no_trees))))
     (ends_behind (path_bytes (path_to (codes "VGEN"))) (λ n. all_spelled (tree id_tree (tree kind_tree (tree (address_tree (fixed n)) no_trees)))) inside)
 
 -- the devices of a machine with an id, as they are seen
@@ -91,7 +94,8 @@ body_with m pointer (Some number) = Bytes (length (front_bytes m)) (front_bytes 
 
 body_is : (m : Machine) (id : Option ℕ) → m.generation ≡ id → dsdt_body m ≡ body_with m (Pointer 4 generation_file id_offset) id
 unfolding body_with
-body_is m None is = ap (λ o. cond (is_some o) (body_with m (Pointer 4 generation_file id_offset) (Some 0)) (body_with m (Pointer 4 generation_file id_offset) None)) is
+body_is m None is = ap (λ o. cond (is_some o) (body_with m (Pointer 4 generation_file id_offset) (Some 0))
+    (body_with m (Pointer 4 generation_file id_offset) None)) is
 body_is m (Some number) is =
     ap (λ o. cond (is_some o) (body_with m (Pointer 4 generation_file id_offset) (Some 0)) (body_with m (Pointer 4 generation_file id_offset) None)) is
 
@@ -129,7 +133,8 @@ read_with place_of m None is accepted fit small =
     let alike : generation_devices (Int id_offset) m.generation ≡ generation_devices (Int (id_address place_of)) m.generation =
     ap (generation_devices (Int id_offset)) is ∙ sym (ap (generation_devices (Int (id_address place_of))) is) in
     let terms : terms_at id_offset m ≡ terms_at (id_address place_of) m = ap (λ those. Scope system_bus (placeless_devices m ++ those) ∷ []) alike in
-    subst (Aml (views (terms_at (id_address place_of) m))) (sym (linked_spelled place_of m ∙ ap (λ ts. all_spelled (views ts)) (terms_alike (id_address place_of) m is)))
+    subst (Aml (views (terms_at (id_address place_of) m))) (sym (linked_spelled place_of m ∙ ap (λ ts. all_spelled (views ts)) (terms_alike
+    (id_address place_of) m is)))
     (subst (λ ts. Aml (views ts) (all_spelled (views (terms_with (Fixed id_offset) m)))) terms (terms_spelled id_offset m (omega arith) accepted fit))
 
 pub body_read : (m : Machine) (place_of : List ℕ → ℕ) → IsAccepted m → HasFittingFields m → (IsSome m.generation → id_address place_of < 2 ^ 32)

@@ -1,5 +1,6 @@
 -- The terms of a machine's DSDT (ACPI 6.5, 5.2.11.1): the devices that a guest finds through AML alone, in the scope of the system bus.
-use Rattle.std.specs.Prelude.{◌≡◌, ℕ, ◌+◌, ◌-◌, Bool, true, false, List, [], ◌∷◌, ◌++◌, length, map, take, Option, option_map, option_to_list, is_some, IfSome, ◌<◌, ◌^◌, codes, if◌then◌else◌}
+use Rattle.std.specs.Prelude.{◌≡◌, ℕ, ◌+◌, ◌-◌, Bool, true, false, List, [], ◌∷◌, ◌++◌, length, map, take, Option, option_map, option_to_list}
+use Rattle.std.specs.Prelude.{is_some, IfSome, ◌<◌, ◌^◌, codes, if◌then◌else◌}
 use Rattle.std.specs.List.{enumerate_from}
 use Rattle.std.specs.Option.{option_map_or}
 use Rattle.vt_layout.specs.declared.row.Row.{Row}

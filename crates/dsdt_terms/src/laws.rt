@@ -14,7 +14,8 @@ ghost use Rattle.aml_terms.specs.declared.term.Term.TheVariants.{Fixed, Scope};
 ghost use Rattle.dsdt_terms.specs.Bridge.{route_term};
 ghost use Rattle.dsdt_terms.specs.Devices.{cpu_device, generation_device};
 ghost use Rattle.dsdt_terms.specs.Dsdt.{dsdt_terms, terms_at, kept_terms, dsdt_bytes, dsdt_body, id_address, system_bus, HasFittingLastBus, HaveSameDevices};
-ghost use Rattle.dsdt_terms.specs.WorkedDevices.{route_of_device_1, route_of_device_1_bytes, route_of_device_0, route_of_device_0_bytes, processor_2_bytes, generation_bytes, no_devices_bytes};
+ghost use Rattle.dsdt_terms.specs.WorkedDevices.{route_of_device_1, route_of_device_1_bytes, route_of_device_0, route_of_device_0_bytes};
+ghost use Rattle.dsdt_terms.specs.WorkedDevices.{processor_2_bytes, generation_bytes, no_devices_bytes};
 
 /// States that the terms of an accepted machine's DSDT, as they are written, are well formed and short enough to be written, and have at most
 /// 160 KiB; and that they are written as the rows of its definition block.

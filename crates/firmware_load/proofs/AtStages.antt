@@ -1,5 +1,6 @@
 -- What the calls of a step of the firmware require, by what the load keeps at its stage.
-use Rattle.std.proofs.Common.{◌≡◌, ℕ, zero, suc, ◌+◌, ◌-◌, ◌/◌, ◌%◌, ◌^◌, ◌<◌, ◌≤◌, true, List, [], ◌∷◌, length, take, drop, slice_get, Option, Some, None, IsSome, Result, Ok, IfOk}
+use Rattle.std.proofs.Common.{◌≡◌, ℕ, zero, suc, ◌+◌, ◌-◌, ◌/◌, ◌%◌, ◌^◌, ◌<◌, ◌≤◌, true, List, [], ◌∷◌, length, take, drop, slice_get, Option, Some}
+use Rattle.std.proofs.Common.{None, IsSome, Result, Ok, IfOk}
 use Rattle.std.proofs.Common.{inl, inr, arith, refl, sym, ap, subst, ◌∙◌, length-append, length-take}
 use Rattle.std.proofs.lemmas.List.{take_at, take_all}
 use Rattle.std.specs.Option.{option_map_or}
@@ -48,6 +49,9 @@ use Rattle.load_states.proofs.PartsDecoded.{script_is, script_whole}
 use Rattle.load_states.proofs.PieceSizes.{commands_piece}
 use Rattle.firmware_load.specs.declared.loading.Loading.{Loading}
 use Rattle.firmware_load.specs.Inside.{load_of, KeepsInside, IsReady}
+use Rattle.command_acts.specs.Placing.{ArePlacements}
+use Rattle.loader_script.specs.Refusal.{AreDistinct}
+use Rattle.firmware_load.proofs.Allocating.{distinct_placements}
 
 -- what holds at the stage that a load is at
 abbrev at_stage : {May : Answers} {items : List Item} {top fill : ℕ} {events : List Event} {w : LoadState} {stage : Stage}
@@ -197,11 +201,13 @@ pointer_small size (inr (inl two)) = subst (λ n. 256 ^ n ≤ 2 ^ 64) (sym two) 
 pointer_small size (inr (inr (inl four))) = subst (λ n. 256 ^ n ≤ 2 ^ 64) (sym four) (omega arith)
 pointer_small size (inr (inr (inr eight))) = subst (λ n. 256 ^ n ≤ 2 ^ 64) (sym eight) (omega arith)
 
--- What a firmware needs that asks for the write of a WritePointer: no transfer is in flight, and there is room for one; the file whose place it
--- writes is placed, and the number fits.
+-- What a firmware needs that asks for the write of a WritePointer: no transfer is in flight, and there is room for one; the names of the files
+-- differ, the file whose place it writes is placed, and the number fits.
 pub record CanWriteNumber (l : Loading) (src : List ℕ) (src_offset size : ℕ) : Type 0 where
   pub idle : l.guest.device.flight ≡ None
   pub room : 0 < l.guest.device.spare
+  pub are : ArePlacements l.guest.placements
+  pub distinct : AreDistinct l.guest.placements.infos.items
   pub placed : IsSome (placed_named l.guest.placements.placed.items src)
   pub size_is : IsPointerSize size
   pub fits : place_of l.guest.placements.placed.items src + src_offset < 256 ^ size
@@ -262,6 +268,8 @@ can_write_number l index dest src dst_offset src_offset size inside is found =
             ap length skipped.finished,
             length-append (moves_before items index w w.placed) (skip_of known.file.select known.dst_offset ∷ []),
           ));
+      are = inside.1.rooms.placements;
+      distinct = distinct_placements l.guest.placements inside.0 inside.1.kept.lawful inside.1.rooms.infos;
       placed = subst (λ (name : List ℕ). IsSome (placed_named placed name)) same.0 stands;
       size_is = subst IsPointerSize same.2 can.sized;
       fits = rw (same.0, same.1, same.2) at fits;

@@ -5,6 +5,7 @@ mod SoMany
 pub mod RoomOfLoads
 pub mod CommandsDone
 pub mod Allocating
+pub mod Listings
 pub mod AtStages
 pub mod LoadStates
 pub mod Touching

@@ -31,9 +31,6 @@ touches_still guest = record {
       guest.memory.touched;
 }
 
-pub touches_same : (before after : Guest) → after ≡ before → TouchesOver [] before after
-touches_same before after same = subst (λ (g : Guest). TouchesOver [] before g) (sym same) (touches_still before)
-
 -- placed files stay placed where the placements stay
 still_placed : (before after : Guest) (address : ℕ) → after.placements ≡ before.placements
     → IsInOne (placed_ranges before.placements.placed.items) address → IsInOne (placed_ranges after.placements.placed.items) address
@@ -120,14 +117,11 @@ touches_placed before between after p first same placed =
       touches = subst (λ (m : HeldMemory). TouchesOnly
           (MayTouchOver between.memory.memory.top [] (placed_ranges after.placements.placed.items)) between.memory.memory.top between.memory.touched m.touched)
           (sym same)
-          (touches_none (MayTouchOver between.memory.memory.top [] (placed_ranges after.placements.placed.items)) between.memory.memory.top between.memory.touched);
+          (touches_none (MayTouchOver between.memory.memory.top [] (placed_ranges after.placements.placed.items)) between.memory.memory.top
+          between.memory.touched);
     })
 
 -- ---- plans
-
--- nothing was taken
-pub taken_none : (left : List Event) (guest : Guest) → TouchesTaken left left guest guest
-taken_none left guest = record { taken = []; plan = refl; touches = touches_still guest }
 
 -- one more event was
 pub taken_more : (left_first left left_now : List Event) (event : Event) (a b c : Guest) → TouchesTaken left_first left a b → left ≡ event ∷ left_now

@@ -1,5 +1,6 @@
 -- Turns of a step of the firmware and a piece as long as any transfer end a load.
-use Rattle.std.proofs.Common.{◌≡◌, ℕ, zero, suc, ◌+◌, ◌*◌, ◌<◌, ◌≤◌, ◌⊎◌, inl, inr, true, false, List, [], ◌∷◌, ◌++◌, length, if◌then◌else◌, Option, Some, None, append_assoc}
+use Rattle.std.proofs.Common.{◌≡◌, ℕ, zero, suc, ◌+◌, ◌*◌, ◌<◌, ◌≤◌, ◌⊎◌, inl, inr, true, false, List, [], ◌∷◌, ◌++◌, length, if◌then◌else◌, Option}
+use Rattle.std.proofs.Common.{Some, None, append_assoc}
 use Rattle.std.proofs.Common.{arith, refl, sym, ap, subst, ◌∙◌}
 use Rattle.std.proofs.lemmas.Bool.{cond-true, cond-false, true≢false}
 use Rattle.std.proofs.lemmas.List.{append-nil}
@@ -245,7 +246,8 @@ turn_on May begun first w next before closing lawful running_first count on runn
         },
         subst (λ (m : LoadState). IsOnRun May begun (before ++ closing_events (2 * k + 1)) m) (sym over.1)
             (subst (λ (es : List Event). IsOnRun May begun es turn.middle)
-            (append_assoc before (closing_events closing) (Firmware ∷ []) ∙ ap (λ es. before ++ es) (ap (λ es. es ++ Firmware ∷ []) even ∙ one_closing k)) first_on),
+            (append_assoc before (closing_events closing) (Firmware ∷ [])
+            ∙ ap (λ es. before ++ es) (ap (λ es. es ++ Firmware ∷ []) even ∙ one_closing k)) first_on),
       )
       | inr more ↦
           let piece = piece_taken May items top fill ((before ++ closing_events closing) ++ Firmware ∷ []) w turn.middle next first_on.kept more.1 taken in

@@ -23,7 +23,6 @@ ghost use Rattle.load_states.specs.Runs.{request_for};
 ghost use Rattle.command_acts.specs.Runs.{early_cause};
 ghost use Rattle.firmware_load.specs.Inside.{load_at, progress_now, IsReady, GoesByCommand, TouchesOver};
 
-use crate::firmware::find_listed;
 use crate::guest::{BUFFER, Guest, NEXT_WRITE, selected_read, selected_skip};
 use cfg_directory::Listed;
 use command_acts::{LoadFault, PlacedFile, add_checksum, add_pointer};
@@ -121,7 +120,7 @@ impl Guest {
         ensures begun { (A.state place.new).begun ≡ (A.state place.old).begun }
         ensures touches { TouchesOver [] self.old self.new }
     {
-        let file = listed_of(listed, name);
+        let file = self.listed_of(listed, name);
         match place.place(Zone::numbered(zone), file.size, align) {
             Ok(at) => {
                 self.bring(file, at);
@@ -129,6 +128,16 @@ impl Guest {
             }
             Err(_) => Stage::Refused(LoadFault::NoRoom { index }),
         }
+    }
+
+    // The listed file of the name. There is one. The directory lists it at the index that it has among the placements' files.
+    fn listed_of<'a>(&self, listed: &'a [Listed], name: &Name) -> &'a Listed
+        requires ready { IsReady self.now listed.now }
+        requires there { IsSome (listed_named listed.now name.now) }
+        ensures { listed_named listed.now name.now ≡ Some result.now }
+    {
+        let index = self.placements.index_of(name).unwrap();
+        &listed[index]
     }
 
     // Places a file, and starts the read of all of it, straight to its place.
@@ -157,6 +166,8 @@ impl Guest {
 
     // Adds the place of `src` to a number in `dest`, or refuses to where the sum doesn't fit.
     fn add_pointer(&mut self, dest: &Name, src: &Name, offset: u32, size: u8, index: u32) -> Stage
+        requires are { ArePlacements self.old.placements }
+        requires distinct { AreDistinct self.old.placements.infos.items }
         requires loading { IsLoading self.old.memory.memory.top (files_of self.old.device.items) self.old.placements.placed.items }
         requires early { early_cause (AddPointer dest.now src.now offset size) (progress_now self.old) ≡ None }
         requires index { index + 1 < 2 ^ 32 }
@@ -167,14 +178,7 @@ impl Guest {
         ensures roomy { (at : ℕ) → result ≢ Refused (NoRoom at) }
         ensures touches { TouchesOver [] self.old self.new }
     {
-        match add_pointer(
-            &mut self.memory,
-            &self.placements.placed,
-            dest,
-            src,
-            offset,
-            size,
-        ) {
+        match add_pointer(&mut self.memory, &self.placements, dest, src, offset, size) {
             Ok(()) => Stage::AtCommand(index + 1),
             Err(TooFar) => Stage::Refused(LoadFault::Command {
                 index,
@@ -185,16 +189,16 @@ impl Guest {
 
     // Starts the skip to an offset in the file `dest`.
     fn skip_to(&mut self, dest: &Name, offset: u32, index: u32, listed: &[Listed]) -> Stage
-        requires idle { self.old.device.flight ≡ None }
-        requires room { 0 < self.old.device.spare }
+        requires ready { IsReady self.old listed.now }
         requires there { IsSome (listed_named listed.now dest.now) }
         ensures goes { (script : List Entry) →
-            load_at self.new result listed.now script ≡ skips index offset (listed_named listed.now dest.now) (load_at self.old (AtCommand index) listed.now script) }
+            load_at self.new result listed.now script
+            ≡ skips index offset (listed_named listed.now dest.now) (load_at self.old (AtCommand index) listed.now script) }
         ensures placements { self.new.placements ≡ self.old.placements }
         ensures roomy { (at : ℕ) → result ≢ Refused (NoRoom at) }
         ensures touches { TouchesOver [] self.old self.new }
     {
-        let file = listed_of(listed, dest);
+        let file = self.listed_of(listed, dest);
         self.start(selected_skip(file.select), offset, 0);
         Stage::AwaitsSkip(index)
     }
@@ -204,6 +208,8 @@ impl Guest {
     pub(crate) fn write_number(&mut self, src: &Name, src_offset: u32, size: u8)
         requires idle { self.old.device.flight ≡ None }
         requires room { 0 < self.old.device.spare }
+        requires are { ArePlacements self.old.placements }
+        requires distinct { AreDistinct self.old.placements.infos.items }
         requires placed { IsSome (placed_named self.old.placements.placed.items src.now) }
         requires size { IsPointerSize size }
         requires fits { place_of self.old.placements.placed.items src.now + src_offset < 256 ^ size }
@@ -227,6 +233,8 @@ impl Guest {
         length: u32,
         index: u32,
     ) -> Stage
+        requires are { ArePlacements self.old.placements }
+        requires distinct { AreDistinct self.old.placements.infos.items }
         requires loading { IsLoading self.old.memory.memory.top (files_of self.old.device.items) self.old.placements.placed.items }
         requires early { early_cause (AddChecksum name.now offset start length) (progress_now self.old) ≡ None }
         requires index { index + 1 < 2 ^ 32 }
@@ -239,7 +247,7 @@ impl Guest {
     {
         add_checksum(
             &mut self.memory,
-            &self.placements.placed,
+            &self.placements,
             name,
             offset,
             start,
@@ -247,12 +255,4 @@ impl Guest {
         );
         Stage::AtCommand(index + 1)
     }
-}
-
-// The listed file of the name. There is one.
-fn listed_of<'a>(listed: &'a [Listed], name: &Name) -> &'a Listed
-    requires { IsSome (listed_named listed.now name.now) }
-    ensures { listed_named listed.now name.now ≡ Some result.now }
-{
-    find_listed(listed, name).unwrap()
 }

@@ -278,8 +278,8 @@ fn stage_for(listed: &[Listed]) -> Stage
     }
 }
 
-/// Returns the listed file of the name, if there is one.
-pub(crate) fn find_listed<'a>(listed: &'a [Listed], name: &Name) -> Option<&'a Listed>
+// The listed file of the name, if there is one.
+fn find_listed<'a>(listed: &'a [Listed], name: &Name) -> Option<&'a Listed>
     ensures { option_copied result ≡ listed_named listed.now name.now }
 {
     listed.iter().find(|file| file.name == *name)

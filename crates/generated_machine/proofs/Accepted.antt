@@ -1,5 +1,6 @@
 -- The machine of 1 to 4,096 processors keeps each rule whose lists or numbers depend on how many processors there are.
-use Rattle.std.proofs.Common.{◌≡◌, ℕ, zero, suc, ◌+◌, ◌-◌, ◌*◌, ◌/◌, ◌%◌, ◌^◌, ◌<◌, ◌≤◌, Bool, true, false, not, ◌&&◌, List, [], ◌∷◌, ◌++◌, length, map, replicate, min, Option, None, codes, decimal, nat_le, refl, ap, ◌∙◌, subst, arith}
+use Rattle.std.proofs.Common.{◌≡◌, ℕ, zero, suc, ◌+◌, ◌-◌, ◌*◌, ◌/◌, ◌%◌, ◌^◌, ◌<◌, ◌≤◌, Bool, true, false, not, ◌&&◌, List, [], ◌∷◌, ◌++◌, length}
+use Rattle.std.proofs.Common.{map, replicate, min, Option, None, codes, decimal, nat_le, refl, ap, ◌∙◌, subst, arith}
 use Rattle.std.proofs.lemmas.Bool.{and_from, le-leb, lt-ltb, ne_eqb}
 use Rattle.std.proofs.lemmas.Fmt.{decimal_by_steps, length-decimal-le}
 use Rattle.std.proofs.lemmas.List.{length-append, length-replicate}
@@ -8,8 +9,10 @@ use Rattle.std.proofs.lemmas.List.FromFn.{length-map-range_with_len, get_or-rang
 use Rattle.std.specs.List.{list_all, flat_map, range_with_len, AllByRecursion}
 use Rattle.vt_outside.specs.Name.{is_printable}
 use Rattle.machine_desc.specs.declared.acpi_parts.Cpu.{Cpu}
-use Rattle.machine_desc.specs.Rules.{first_failing, first_refused, first_unmet, only_at, first_broken, breaches, IsAccepted, is_met, is_within, counts, is_text, texts_of, socket_texts, dimm_texts, acpi_texts}
-use Rattle.machine_desc.specs.Rules.{is_lawful_socket, is_lawful_dimm, is_empty, is_lawful_range, with_ends, is_lawful_cpu, apic_id, is_lawful_route, pair_of, is_lawful_numa, is_node}
+use Rattle.machine_desc.specs.Rules.{first_failing, first_refused, first_unmet, only_at, first_broken, breaches, IsAccepted, is_met, is_within}
+use Rattle.machine_desc.specs.Rules.{counts, is_text, texts_of, socket_texts, dimm_texts, acpi_texts}
+use Rattle.machine_desc.specs.Rules.{is_lawful_socket, is_lawful_dimm, is_empty, is_lawful_range, with_ends, is_lawful_cpu, apic_id, is_lawful_route}
+use Rattle.machine_desc.specs.Rules.{pair_of, is_lawful_numa, is_node}
 use Rattle.machine_desc.proofs.AllTexts.{all_of_each}
 use Rattle.machine_desc.proofs.Passing.{passing_at, ◌⨾◌}
 use Rattle.generated_machine.specs.Generated.{node_count, cpu_at, cpus, socket_at, sockets, dimm, dimms, ranges, numa, routes, generated, acpi}

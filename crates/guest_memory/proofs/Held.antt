@@ -1,5 +1,6 @@
 -- A memory as its three lists of bytes: how each of them is read and written.
-use Rattle.std.proofs.Common.{◌≡◌, ℕ, Bool, ◌+◌, ◌-◌, ◌*◌, ◌%◌, if◌then◌else◌, ◌<◌, ◌≤◌, inl, inr, List, [], ◌∷◌, length, slice_index, take, drop, rules, arith, refl, ap, subst, sym, ◌∙◌}
+use Rattle.std.proofs.Common.{◌≡◌, ℕ, Bool, ◌+◌, ◌-◌, ◌*◌, ◌%◌, if◌then◌else◌, ◌<◌, ◌≤◌, inl, inr, List, [], ◌∷◌, length, slice_index, take, drop}
+use Rattle.std.proofs.Common.{rules, arith, refl, ap, subst, sym, ◌∙◌}
 use Rattle.std.proofs.lemmas.List.{places, same_lists, take_all}
 use Rattle.vt_bytes.specs.Parts.{part, put_at}
 use Rattle.vt_bytes.specs.Memory.{Memory, IsTop, IsRam, IsMemory, high_start, ram_ranges, at, bytes_at, with_bytes, put_in}
@@ -90,7 +91,8 @@ with_low top fill low bios high bytes a fits below =
     put_here _ _ low (bios ∷ high ∷ []) a bytes (omega arith, below) in
     let place : a ≡ a - 0 = omega arith in
     ap (λ (all : List (List ℕ)). record { top = top; fill = fill; parts = all })
-    (ap (λ p. put_at low p bytes ∷ bios ∷ high ∷ []) place ∙ ap (λ w. put_at low (a - 0) w ∷ bios ∷ high ∷ []) (sym (all_fit (0xA0000 - a) bytes (omega arith))) ∙ sym put)
+    (ap (λ p. put_at low p bytes ∷ bios ∷ high ∷ []) place
+    ∙ ap (λ w. put_at low (a - 0) w ∷ bios ∷ high ∷ []) (sym (all_fit (0xA0000 - a) bytes (omega arith))) ∙ sym put)
 
 with_bios : (top fill : ℕ) (low bios high bytes : List ℕ) (a : ℕ) → 0xE0000 ≤ a → a + length bytes ≤ 0x100000 → a < 0x100000
     → held top fill low (put_at bios (a - 0xE0000) bytes) high ≡ with_bytes (held top fill low bios high) a bytes
@@ -247,14 +249,11 @@ each_held P top row lawful size each a ram = elim (cases_lt a 0x100000) as (λ _
 pub frame_place : (top frame i : ℕ) → IsTop top → i < 4096 → IsPlaceOf top (frame_start top frame + i) (frame * 4096 + i)
 frame_place top frame i lawful within = elim (cases_lt frame 256) as (λ _. IsPlaceOf top (frame_start top frame + i) (frame * 4096 + i)) [
   | inl low ↦
-      let start : frame_start top frame ≡ frame * 4096 = ap (λ (b : Bool). if b then frame * 4096 else high_start top + (frame - 256) * 4096) (lt-ltb frame 256 low) in
+      let start : frame_start top frame ≡ frame * 4096 = ap (λ (b : Bool). if b then frame * 4096 else high_start top + (frame - 256) * 4096)
+      (lt-ltb frame 256 low) in
       record { low = λ _. omega (arith, start); high = λ past. absurd (omega (arith, start)) }
   | inr later ↦
       let start : frame_start top frame ≡ high_start top + (frame - 256) * 4096 =
       ap (λ (b : Bool). if b then frame * 4096 else high_start top + (frame - 256) * 4096) (le-ltb frame 256 later) in
       record { low = λ below. absurd (omega (arith, start, lawful.at_least)); high = λ _. omega (arith, start, lawful.at_least) }
 ]
-
--- no more than are taken
-pub length_take : (n : ℕ) (bytes : List ℕ) → length (take n bytes) ≤ n
-length_take n bytes = search (rules, places, arith)

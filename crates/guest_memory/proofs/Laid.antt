@@ -1,8 +1,9 @@
 -- Frames one after the other: what a part of them is, and what they hold once one of them was changed.
-use Rattle.std.proofs.Common.{◌≡◌, ℕ, zero, suc, ◌+◌, ◌-◌, ◌*◌, ◌/◌, ◌%◌, ◌<◌, ◌≤◌, inl, inr, List, [], ◌∷◌, ◌++◌, length, replicate, Option, Some, None, rules, arith, refl, ap, sym, ◌∙◌}
+use Rattle.std.proofs.Common.{◌≡◌, ℕ, zero, suc, ◌+◌, ◌-◌, ◌*◌, ◌/◌, ◌%◌, ◌<◌, ◌≤◌, inl, inr, List, [], ◌∷◌, ◌++◌, length, replicate, Option, Some}
+use Rattle.std.proofs.Common.{None, rules, arith, refl, ap, sym, ◌∙◌}
 use Rattle.std.proofs.Common.{get_or, slice_index, slice_set}
 use Rattle.std.proofs.lemmas.Bool.{cases_lt}
-use Rattle.std.proofs.lemmas.List.{places, same_lists, length-replicate, get_or-replicate}
+use Rattle.std.proofs.lemmas.List.{places, same_lists, take_all, length-replicate, get_or-replicate}
 use Rattle.std.specs.List.{AllByRecursion}
 use Rattle.vt_bytes.specs.Parts.{part, put_at}
 use Rattle.raw_frames.specs.Block.{IsFrame, AreFrames}
@@ -34,7 +35,8 @@ part_first first rest place n within = same_lists _ _ (search (rules, places)) (
 put_later : (first rest bytes : List ℕ) (size place : ℕ) → length first ≡ size → first ++ put_at rest place bytes ≡ put_at (first ++ rest) (size + place) bytes
 put_later first rest bytes size place is = same_lists _ _ (search (rules, places)) (λ k d h. grind (arith, places))
 
-put_first : (first rest bytes : List ℕ) (place : ℕ) → place + length bytes ≤ length first → put_at first place bytes ++ rest ≡ put_at (first ++ rest) place bytes
+put_first : (first rest bytes : List ℕ) (place : ℕ) → place + length bytes ≤ length first
+    → put_at first place bytes ++ rest ≡ put_at (first ++ rest) place bytes
 put_first first rest bytes place within = same_lists _ _ (search (rules, places)) (λ k d h. grind (arith, places))
 
 -- a byte of a first list, and of what follows it
@@ -85,21 +87,32 @@ pub blank_byte : (fill : ℕ) (frames : List (Option (List ℕ))) (k i : ℕ) �
 blank_byte fill frames k i are below within empty =
     byte_in_frame fill frames k i are below within ∙ ap (λ f. slice_index (or_blank fill f) i) empty ∙ get_or-replicate 4096 i fill 0 within
 
+-- all bytes of a frame that isn't filled
+pub blank_part : (fill : ℕ) (frames : List (Option (List ℕ))) (place n : ℕ) → get_or frames (place / 4096) None ≡ None → place % 4096 ≡ 0 → n ≡ 4096
+    → part (or_blank fill (get_or frames (place / 4096) None)) (place % 4096) n ≡ replicate 4096 fill
+blank_part fill frames place n empty begins whole =
+    ap (λ f. part (or_blank fill f) (place % 4096) n) empty ∙ ap (λ at. part (replicate 4096 fill) at n) begins ∙ ap (λ m. part (replicate 4096 fill) 0 m) whole
+    ∙ take_all 4096 (replicate 4096 fill) (omega (arith, length-replicate 4096 fill))
+
 -- a frame with bytes put into it
-pub put-bytes_of : (fill : ℕ) (frames : List (Option (List ℕ))) (k place : ℕ) (bytes : List ℕ) → AllByRecursion IsFrame frames → k < length frames → place + length bytes ≤ 4096
-    → bytes_of fill (slice_set frames k (Some (put_at (or_blank fill (get_or frames k None)) place bytes))) ≡ put_at (bytes_of fill frames) (4096 * k + place) bytes
+pub put-bytes_of : (fill : ℕ) (frames : List (Option (List ℕ))) (k place : ℕ) (bytes : List ℕ) → AllByRecursion IsFrame frames → k < length frames
+    → place + length bytes ≤ 4096
+    → bytes_of fill (slice_set frames k (Some (put_at (or_blank fill (get_or frames k None)) place bytes))) ≡ put_at (bytes_of fill frames)
+    (4096 * k + place) bytes
 unfolding bytes_of
 put-bytes_of fill [] k place bytes each inside within = absurd (omega arith)
 put-bytes_of fill (f ∷ fs) zero place bytes each inside within =
     let here : place ≡ 4096 * zero + place = omega arith in
-    put_first (or_blank fill f) (bytes_of fill fs) bytes place (omega (arith, length-or_blank fill f each.0)) ∙ ap (λ at. put_at (or_blank fill f ++ bytes_of fill fs) at bytes) here
+    put_first (or_blank fill f) (bytes_of fill fs) bytes place (omega (arith, length-or_blank fill f each.0))
+    ∙ ap (λ at. put_at (or_blank fill f ++ bytes_of fill fs) at bytes) here
 put-bytes_of fill (f ∷ fs) (suc k) place bytes each inside within =
     let next : 4096 + (4096 * k + place) ≡ 4096 * suc k + place = omega arith in
     ap (λ l. or_blank fill f ++ l) (put-bytes_of fill fs k place bytes each.1 (omega arith) within)
     ∙ put_later (or_blank fill f) (bytes_of fill fs) bytes 4096 (4096 * k + place) (length-or_blank fill f each.0)
     ∙ ap (λ at. put_at (or_blank fill f ++ bytes_of fill fs) at bytes) next
 
-pub put_in_frame : (fill : ℕ) (frames : List (Option (List ℕ))) (place : ℕ) (bytes : List ℕ) → AreFrames frames → place < 0x2100000 → place % 4096 + length bytes ≤ 4096
+pub put_in_frame : (fill : ℕ) (frames : List (Option (List ℕ))) (place : ℕ) (bytes : List ℕ) → AreFrames frames → place < 0x2100000
+    → place % 4096 + length bytes ≤ 4096
     → bytes_of fill (slice_set frames (place / 4096) (Some (put_at (or_blank fill (get_or frames (place / 4096) None)) (place % 4096) bytes)))
     ≡ put_at (bytes_of fill frames) place bytes
 put_in_frame fill frames place bytes are inside within =

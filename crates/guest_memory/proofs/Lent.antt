@@ -1,5 +1,6 @@
 -- The memory that a store holds, and what it is once bytes of one frame were lent.
-use Rattle.std.proofs.Common.{◌≡◌, ◌+◌, ◌*◌, ◌-◌, ◌/◌, ◌%◌, ◌<◌, ◌≤◌, ℕ, inl, inr, List, length, map, slice_set, Some, get_or, None, refl, arith, ap, subst, sym, ◌∙◌}
+use Rattle.std.proofs.Common.{◌≡◌, ◌+◌, ◌*◌, ◌-◌, ◌/◌, ◌%◌, ◌<◌, ◌≤◌, ℕ, inl, inr, List, length, map, slice_set, Some, get_or, None, refl, arith, ap}
+use Rattle.std.proofs.Common.{subst, sym, ◌∙◌}
 use Rattle.std.specs.List.{refill, length_refill}
 use Rattle.vt_bytes.specs.Parts.{part, put_at}
 use Rattle.vt_bytes.specs.Memory.{Memory, IsTop, IsRam, IsRamRange, IsMemory, at, bytes_at, with_bytes}
@@ -40,11 +41,14 @@ lent_part top s held a n place left is lawful are ram at some frame =
     let lent : mid ≡ bytes_at held.memory a n =
     part_in_frame s.fill s.frames place n are within fits ∙ part_held top (filled_of s) held.memory a n place is_memory lawful size ram at frame in
     let count : length (refill n mid left) ≡ n = sym (length_refill n mid left (sym (ap length lent ∙ length-bytes_at held.memory a n))) in
-    let memory : memory_of top (filled_of (with_part s (place / 4096) (place % 4096) n left)) ≡ with_bytes held.memory a (refill n (bytes_at held.memory a n) left) =
-    ap (λ (bytes : List ℕ). memory_of top (record { fill = s.fill; bytes = bytes })) (put_in_frame s.fill s.frames place (refill n mid left) are within (omega (arith, count, fits)))
+    let memory : memory_of top (filled_of (with_part s (place / 4096) (place % 4096) n left)) ≡ with_bytes held.memory a
+    (refill n (bytes_at held.memory a n) left) =
+    ap (λ (bytes : List ℕ). memory_of top (record { fill = s.fill; bytes = bytes }))
+    (put_in_frame s.fill s.frames place (refill n mid left) are within (omega (arith, count, fits)))
     ∙ put_held top (filled_of s) held.memory a place (refill n mid left) is_memory lawful size ram at (omega (arith, count, frame))
     ∙ ap (λ bytes. with_bytes held.memory a (refill n bytes left)) lent in
-    let touched : map is_filled (slice_set s.frames (place / 4096) (Some (put_at old (place % 4096) (refill n mid left)))) ≡ touched_at held.memory.top a n held.touched =
+    let touched : map is_filled (slice_set s.frames (place / 4096) (Some (put_at old (place % 4096) (refill n mid left)))) ≡ touched_at
+    held.memory.top a n held.touched =
     touched_in_frame top a n place s.frames (put_at old (place % 4096) (refill n mid left)) lawful ram at some frame (omega (arith, are.count, within))
     ∙ ap (λ (h : HeldMemory). touched_at h.memory.top a n h.touched) is in
     λ j. record { memory = memory j; touched = touched j }

@@ -1,7 +1,8 @@
 -- Runs of bytes, piece by piece.
-use Rattle.std.proofs.Common.{◌≡◌, ℕ, ◌+◌, ◌%◌, ◌<◌, ◌≤◌, List, [], ◌++◌, length, sum, take, drop, rules, arith, ap, sym, ◌∙◌}
+use Rattle.std.proofs.Common.{◌≡◌, ℕ, ◌+◌, ◌*◌, ◌%◌, ◌<◌, ◌≤◌, List, [], ◌++◌, length, replicate, sum, take, drop, rules, arith, ap, sym, ◌∙◌}
 use Rattle.std.proofs.lemmas.List.{places, same_lists}
 use Rattle.std.proofs.lemmas.List.Sums.{sum_by-append}
+use Rattle.std.proofs.lemmas.List.Folds.{sum_by-replicate}
 use Rattle.vt_bytes.specs.Memory.{Memory, IsTop, IsRam, IsRamRange, IsMemory, with_bytes, bytes_at}
 use Rattle.vt_bytes.specs.Numbers.{byte_sum}
 use Rattle.vt_bytes.proofs.Bytes.{bytes_at-parts}
@@ -47,12 +48,13 @@ one_more_read m address bytes part k n r within fits so_far more =
     ∙ sym (bytes_at-parts m address k r)
 
 -- one more piece that was added to the sum of those before it
-pub one_more_summed : (m : Memory) (address : ℕ) (part : List ℕ) (so_far more k : ℕ) → so_far ≡ byte_sum (bytes_at m address k)
-    → part ≡ bytes_at m (address + k) (length part) → more ≡ byte_sum part
-    → (so_far + more) % 256 ≡ byte_sum (bytes_at m address (k + length part))
-one_more_summed m address part so_far more k summed read sum_is =
-    let all : bytes_at m address (k + length part) ≡ bytes_at m address k ++ part =
-    bytes_at-parts m address k (length part) ∙ ap (λ back. bytes_at m address k ++ back) (sym read) in
-    let total : sum (bytes_at m address (k + length part)) ≡ sum (bytes_at m address k) + sum part =
-    ap sum all ∙ sum_by-append (λ (byte : ℕ). byte) (bytes_at m address k) part in
+pub one_more_summed : (m : Memory) (address so_far more k n : ℕ) → so_far ≡ byte_sum (bytes_at m address k)
+    → more ≡ byte_sum (bytes_at m (address + k) n) → (so_far + more) % 256 ≡ byte_sum (bytes_at m address (k + n))
+one_more_summed m address so_far more k n summed sum_is =
+    let total : sum (bytes_at m address (k + n)) ≡ sum (bytes_at m address k) + sum (bytes_at m (address + k) n) =
+    ap sum (bytes_at-parts m address k n) ∙ sum_by-append (λ (byte : ℕ). byte) (bytes_at m address k) (bytes_at m (address + k) n) in
     omega arith
+
+-- a frame of one byte sums to nothing, whatever the byte is
+pub blank_summed : (fill : ℕ) → byte_sum (replicate 4096 fill) ≡ 0
+blank_summed fill = let all : sum (replicate 4096 fill) ≡ 4096 * fill = sum_by-replicate (λ (byte : ℕ). byte) 4096 fill in omega (arith, all)

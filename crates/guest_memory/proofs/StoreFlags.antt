@@ -1,11 +1,9 @@
 -- Flags of frames.
-use Rattle.std.proofs.Common.{◌≡◌, ◌≢◌, ℕ, zero, suc, ◌<◌, List, [], ◌∷◌, Bool, true, false, map, length, set, get_or, replicate, Option, Some, None, refl, sym, ap, ◌∙◌, arith, length-set}
+use Rattle.std.proofs.Common.{◌≡◌, ℕ, zero, suc, ◌<◌, List, [], ◌∷◌, Bool, true, false, map, length, set, get_or, replicate, Option, Some, None}
+use Rattle.std.proofs.Common.{refl, sym, ap, ◌∙◌, arith, length-set}
 use Rattle.raw_frames.specs.Block.{AreFrames}
 use Rattle.raw_frames.specs.Places.{IsFilled}
-use Rattle.guest_memory.specs.Store.{Stored, is_filled, in_frame, is_held, with_part}
-use Rattle.std.specs.List.{refill}
-use Rattle.std.proofs.lemmas.List.{get_or-set_other}
-use Rattle.vt_bytes.specs.Parts.{part, put_at}
+use Rattle.guest_memory.specs.Store.{is_filled}
 use Rattle.raw_frames.proofs.FrameLemmas.{each-set}
 
 flag_at : (frames : List (Option (List ℕ))) (i : ℕ) (d : Bool) → i < length frames → get_or (map is_filled frames) i d ≡ is_filled (get_or frames i None)
@@ -14,7 +12,8 @@ flag_at (f ∷ fs) zero d l = refl
 flag_at (f ∷ fs) (suc i) d l = flag_at fs i d (omega arith)
 
 -- the flag at an index, as it is read
-pub told : (frames : List (Option (List ℕ))) (flags : List Bool) (i : ℕ) (now : Bool) → flags ≡ map is_filled frames → i < length frames → now ≡ get_or flags i now → is_filled (get_or frames i None) ≡ now
+pub told : (frames : List (Option (List ℕ))) (flags : List Bool) (i : ℕ) (now : Bool) → flags ≡ map is_filled frames → i < length frames
+    → now ≡ get_or flags i now → is_filled (get_or frames i None) ≡ now
 told frames flags i now all inside read = sym (read ∙ ap (λ l. get_or l i now) all ∙ flag_at frames i now inside)
 
 pub filled_at : (frames : List (Option (List ℕ))) (i : ℕ) → is_filled (get_or frames i None) ≡ true → IsFilled frames i
@@ -35,7 +34,8 @@ flags-set (f ∷ fs) zero bytes = refl
 flags-set (f ∷ fs) (suc i) bytes = ap (λ l. is_filled f ∷ l) (flags-set fs i bytes)
 
 -- a frame that is written over stays filled
-pub flags_stay : (frames : List (Option (List ℕ))) (i : ℕ) (x bytes : List ℕ) → get_or frames i None ≡ Some x → map is_filled frames ≡ map is_filled (set frames i (Some bytes))
+pub flags_stay : (frames : List (Option (List ℕ))) (i : ℕ) (x bytes : List ℕ) → get_or frames i None ≡ Some x
+    → map is_filled frames ≡ map is_filled (set frames i (Some bytes))
 flags_stay [] i x bytes e = refl
 flags_stay (None ∷ fs) zero x bytes e = cc
 flags_stay (Some y ∷ fs) zero x bytes e = refl
@@ -43,12 +43,6 @@ flags_stay (f ∷ fs) (suc i) x bytes e = ap (λ l. is_filled f ∷ l) (flags_st
 
 pub frames-set : (frames : List (Option (List ℕ))) (i : ℕ) (bytes : List ℕ) → AreFrames frames → length bytes ≡ 4096 → AreFrames (set frames i (Some bytes))
 frames-set frames i bytes h e = record { count = length-set frames i (Some bytes) ∙ h.count; each = each-set frames i bytes h.each e }
-
--- a frame that is set to what it is
-pub set_same : (frames : List (Option (List ℕ))) (i : ℕ) (bytes : List ℕ) → get_or frames i None ≡ Some bytes → set frames i (Some bytes) ≡ frames
-set_same [] i bytes e = refl
-set_same (f ∷ fs) zero bytes e = ap (λ g. g ∷ fs) (sym e)
-set_same (f ∷ fs) (suc i) bytes e = ap (λ l. f ∷ l) (set_same fs i bytes e)
 
 pub set_twice : (frames : List (Option (List ℕ))) (i : ℕ) (a b : Option (List ℕ)) → set (set frames i a) i b ≡ set frames i b
 set_twice [] i a b = refl
@@ -63,10 +57,3 @@ get_set (f ∷ fs) (suc i) a l = get_set fs i a (omega arith)
 pub no_flags : (n : ℕ) → replicate n false ≡ map is_filled (replicate n None)
 no_flags zero = refl
 no_flags (suc n) = ap (λ l. false ∷ l) (no_flags n)
-
--- a part that is set touches its frame, and no other
-pub touched_here : (h : Stored) (i place n : ℕ) (bytes : List ℕ) → i < length h.frames → is_held (with_part h i place n bytes) i ≡ true
-touched_here h i place n bytes inside = ap is_filled (get_set h.frames i (Some (put_at (in_frame h i) place (refill n (part (in_frame h i) place n) bytes))) inside)
-
-pub touched_other : (h : Stored) (i place n : ℕ) (bytes : List ℕ) (j : ℕ) → j ≢ i → is_held (with_part h i place n bytes) j ≡ is_held h j
-touched_other h i place n bytes j ne = ap is_filled (get_or-set_other h.frames i j (Some (put_at (in_frame h i) place (refill n (part (in_frame h i) place n) bytes))) None ne)

@@ -1,5 +1,6 @@
 -- Frames that are touched.
-use Rattle.std.proofs.Common.{◌≡◌, ◌≢◌, ℕ, zero, suc, ◌+◌, ◌-◌, ◌*◌, ◌/◌, ◌%◌, ◌<◌, ◌≤◌, ◌⊎◌, inl, inr, Bool, true, false, ◌||◌, List, [], ◌∷◌, length, set, refl, sym, ap, ◌∙◌, arith, add-zero}
+use Rattle.std.proofs.Common.{◌≡◌, ◌≢◌, ℕ, zero, suc, ◌+◌, ◌-◌, ◌*◌, ◌/◌, ◌%◌, ◌<◌, ◌≤◌, ◌⊎◌, inl, inr, Bool, true, false, ◌||◌, List, [], ◌∷◌}
+use Rattle.std.proofs.Common.{length, set, refl, sym, ap, ◌∙◌, arith, add-zero}
 use Rattle.std.proofs.Common.{slice_set, get_or, map, Option, Some, None}
 use Rattle.std.proofs.lemmas.Bool.{cases_lt}
 use Rattle.vt_bytes.specs.Memory.{IsTop, IsRam, high_start}
@@ -15,16 +16,19 @@ pub touches_none : (Has : ℕ → Type 0) (top : ℕ) (touched : List Bool) → 
 touches_none Has top touched frame now = inl now
 
 pub touches_then : (Has : ℕ → Type 0) (top : ℕ) (a b c : List Bool) → TouchesOnly Has top a b → TouchesOnly Has top b c → TouchesOnly Has top a c
-touches_then Has top a b c first second frame now = elim (second frame now) as (λ _. (is_touched a frame ≡ true) ⊎ ((address : ℕ) × IsInFrame top frame address × Has address)) [
-  | inl before ↦ first frame before
-  | inr there ↦ inr there
-]
+touches_then Has top a b c first second frame now = elim (second frame now) as
+    (λ _. (is_touched a frame ≡ true) ⊎ ((address : ℕ) × IsInFrame top frame address × Has address)) [
+      | inl before ↦ first frame before
+      | inr there ↦ inr there
+    ]
 
-pub touches_weaker : (Has Also : ℕ → Type 0) (top : ℕ) (a b : List Bool) → ((address : ℕ) → Has address → Also address) → TouchesOnly Has top a b → TouchesOnly Also top a b
-touches_weaker Has Also top a b also only frame now = elim (only frame now) as (λ _. (is_touched a frame ≡ true) ⊎ ((address : ℕ) × IsInFrame top frame address × Also address)) [
-  | inl before ↦ inl before
-  | inr there ↦ inr (there.0, there.1, also there.0 there.2)
-]
+pub touches_weaker : (Has Also : ℕ → Type 0) (top : ℕ) (a b : List Bool) → ((address : ℕ) → Has address → Also address) → TouchesOnly Has top a b
+    → TouchesOnly Also top a b
+touches_weaker Has Also top a b also only frame now = elim (only frame now) as
+    (λ _. (is_touched a frame ≡ true) ⊎ ((address : ℕ) × IsInFrame top frame address × Also address)) [
+      | inl before ↦ inl before
+      | inr there ↦ inr (there.0, there.1, also there.0 there.2)
+    ]
 
 -- ---- one frame after others were touched
 
@@ -62,9 +66,11 @@ in_range top address count frame is =
       | inr from ↦ (address, (from, met.1), (omega arith, omega (arith, met.0)))
     ]
 
-pub touches_range : (top address count : ℕ) (touched : List Bool) → TouchesOnly (λ a. (address ≤ a) × (a < address + count)) top touched (touched_at top address count touched)
+pub touches_range : (top address count : ℕ) (touched : List Bool)
+    → TouchesOnly (λ a. (address ≤ a) × (a < address + count)) top touched (touched_at top address count touched)
 touches_range top address count touched frame now =
-    elim (flag_now (meets top address count) 0 touched frame now) as (λ _. (is_touched touched frame ≡ true) ⊎ ((a : ℕ) × IsInFrame top frame a × ((address ≤ a) × (a < address + count)))) [
+    elim (flag_now (meets top address count) 0 touched frame now) as (λ _. (is_touched touched frame ≡ true) ⊎
+    ((a : ℕ) × IsInFrame top frame a × ((address ≤ a) × (a < address + count)))) [
       | inl before ↦ inl before
       | inr here ↦
           let is : meets top address count frame ≡ true = ap (meets top address count) (omega arith) ∙ here in
@@ -103,7 +109,8 @@ from_none test index (was ∷ touched) none =
     let here : test index ≡ false = ap test (sym (add-zero index)) ∙ none 0 (omega arith) in
     let later : touched_from test (suc index) touched ≡ touched = from_none test (suc index) touched (λ k below.
     let next : suc index + k ≡ index + suc k = omega arith in ap test next ∙ none (suc k) (omega arith)) in
-    ap (λ b. (was || b) ∷ touched_from test (suc index) touched) here ∙ ap (λ b. b ∷ touched_from test (suc index) touched) (or_false was) ∙ ap (λ l. was ∷ l) later
+    ap (λ b. (was || b) ∷ touched_from test (suc index) touched) here ∙ ap (λ b. b ∷ touched_from test (suc index) touched) (or_false was)
+    ∙ ap (λ l. was ∷ l) later
 
 -- one alone passes it
 from_one : (test : ℕ → Bool) (index : ℕ) (touched : List Bool) (i : ℕ) → i < length touched → test (index + i) ≡ true
@@ -118,9 +125,11 @@ from_one test index (was ∷ touched) zero below passes none =
 from_one test index (was ∷ touched) (suc i) below passes none =
     let here : test index ≡ false = ap test (sym (add-zero index)) ∙ none 0 (omega arith) (λ e. omega arith) in
     let at : suc index + i ≡ index + suc i = omega arith in
-    let later : touched_from test (suc index) touched ≡ set touched i true = from_one test (suc index) touched i (omega arith) (ap test at ∙ passes) (λ k inside other.
+    let later : touched_from test (suc index) touched ≡ set touched i true = from_one test (suc index) touched i (omega arith) (ap test at
+    ∙ passes) (λ k inside other.
     let next : suc index + k ≡ index + suc k = omega arith in ap test next ∙ none (suc k) (omega arith) (λ e. other (omega arith))) in
-    ap (λ b. (was || b) ∷ touched_from test (suc index) touched) here ∙ ap (λ b. b ∷ touched_from test (suc index) touched) (or_false was) ∙ ap (λ l. was ∷ l) later
+    ap (λ b. (was || b) ∷ touched_from test (suc index) touched) here ∙ ap (λ b. b ∷ touched_from test (suc index) touched) (or_false was)
+    ∙ ap (λ l. was ∷ l) later
 
 -- one test after another is one of both
 from_both : (first second both : ℕ → Bool) (index : ℕ) (touched : List Bool) → ((k : ℕ) → both k ≡ (first k || second k))
@@ -145,12 +154,16 @@ meets_both top address first second frame =
     elim (cases_lt (frame_start top frame) (address + first)) as (λ _. (meets top address first frame || meets top (address + first) second frame) ≡ true) [
       | inl early ↦ elim (cases_lt 0 first) as (λ _. (meets top address first frame || meets top (address + first) second frame) ≡ true) [
         | inl some ↦ ap (λ b. b || meets top (address + first) second frame) (met top address first frame some has.1 early)
-        | inr none ↦ or_one (meets top address first frame) _ (met top (address + first) second frame (omega (arith, has.0)) (omega (arith, has.1)) (omega (arith, has.2)))
+        | inr none ↦ or_one (meets top address first frame) _ (met top (address + first) second frame (omega (arith, has.0)) (omega (arith, has.1))
+            (omega (arith, has.2)))
       ]
-      | inr late ↦ or_one (meets top address first frame) _ (met top (address + first) second frame (omega (arith, has.0, has.1, has.2)) (omega (arith, has.1)) (omega (arith, has.2)))
+      | inr late ↦ or_one (meets top address first frame) _ (met top (address + first) second frame (omega (arith, has.0, has.1, has.2))
+          (omega (arith, has.1)) (omega (arith, has.2)))
     ])
-    (λ either. elim (or_true (meets top address first frame) (meets top (address + first) second frame) either) as (λ _. meets top address (first + second) frame ≡ true) [
-      | inl early ↦ let has = meeting top address first frame early in met top address (first + second) frame (omega (arith, has.0)) has.1 (omega (arith, has.2))
+    (λ either. elim (or_true (meets top address first frame) (meets top (address + first) second frame) either) as
+    (λ _. meets top address (first + second) frame ≡ true) [
+      | inl early ↦ let has = meeting top address first frame early in
+          met top address (first + second) frame (omega (arith, has.0)) has.1 (omega (arith, has.2))
       | inr late ↦ let has = meeting top (address + first) second frame late in
           met top address (first + second) frame (omega (arith, has.0)) (omega (arith, has.1)) (omega (arith, has.2))
     ])
@@ -159,7 +172,8 @@ meets_both top address first second frame =
 pub touched_more : (top address first second : ℕ) (touched : List Bool)
     → touched_at top (address + first) second (touched_at top address first touched) ≡ touched_at top address (first + second) touched
 touched_more top address first second touched =
-    from_both (meets top address first) (meets top (address + first) second) (meets top address (first + second)) 0 touched (meets_both top address first second)
+    from_both (meets top address first) (meets top (address + first) second) (meets top address (first + second)) 0 touched
+    (meets_both top address first second)
 
 -- no bytes
 pub touched_nothing : (top address : ℕ) (touched : List Bool) → touched_at top address 0 touched ≡ touched
@@ -195,7 +209,8 @@ here_met top a n place lawful ram is some within = elim (cases_lt a 0x100000) as
   | inr past ↦
       let at = is.high past in let high = in_high top a lawful ram past in
       let start = start_high top (place / 4096) (omega (arith, at, high.0, lawful.at_least)) in
-      met top a n (place / 4096) some (omega (arith, at, start, high.0, lawful.at_least, lawful.whole)) (omega (arith, at, start, high.0, lawful.at_least, lawful.whole))
+      met top a n (place / 4096) some (omega (arith, at, start, high.0, lawful.at_least, lawful.whole))
+      (omega (arith, at, start, high.0, lawful.at_least, lawful.whole))
 ]
 
 -- and no other does
@@ -220,5 +235,6 @@ pub touched_in_frame : (top a n place : ℕ) (frames : List (Option (List ℕ)))
 touched_in_frame top a n place frames bytes lawful ram is some within inside =
     let size = length_flags frames in
     sym (flags-set frames (place / 4096) bytes)
-    ∙ sym (from_one (meets top a n) 0 (map is_filled frames) (place / 4096) (omega (arith, size)) (ap (meets top a n) (omega arith) ∙ here_met top a n place lawful ram is some within)
+    ∙ sym (from_one (meets top a n) 0 (map is_filled frames) (place / 4096) (omega (arith, size)) (ap (meets top a n) (omega arith)
+    ∙ here_met top a n place lawful ram is some within)
     (λ k below other. ap (meets top a n) (omega arith) ∙ other_not_met top a n place k lawful ram is within other))

@@ -31,7 +31,10 @@ is_held stored index = is_filled (get_or stored.frames index None)
 -- the frames of which len bytes from a place on in the one at an index were lent, and these came back in their place
 abbrev pub with_part : Stored → ℕ → ℕ → ℕ → List ℕ → Stored
 with_part stored index place len bytes =
-    record stored { frames = slice_set stored.frames index (Some (put_at (in_frame stored index) place (refill len (part (in_frame stored index) place len) bytes))) }
+    record stored {
+      frames = slice_set stored.frames index (Some (put_at (in_frame stored index) place (refill len (part (in_frame stored index) place
+          len) bytes)));
+    }
 
 -- What the parts of a store keep: a frame of fill bytes, a flag for each frame that has bytes of its own, and all frames.
 pub record IsStore (fill : ℕ) (blank : List ℕ) (flags : List Bool) (frames : List (Option (List ℕ))) : Type 0 where

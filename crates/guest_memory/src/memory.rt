@@ -1,5 +1,6 @@
 ghost use Rattle.std.specs.Prelude.{◌≡◌, ℕ, ◌+◌, ◌<◌, ◌≤◌, ◌%◌, ◌↔◌, [], ◌∷◌, length, IsTrue, IfOk, false};
 ghost use Rattle.std.specs.Borrow.{Lends, Array, u8, sem};
+ghost use Rattle.vt_bytes.specs.Numbers.{byte_sum};
 ghost use Rattle.vt_bytes.specs.Memory.{IsTop, IsRam, IsMemory, ram_ranges, at, bytes_at, with_bytes};
 ghost use Rattle.guest_memory.specs.Bytes.{HoldsBytes};
 ghost use Rattle.guest_memory.specs.Frames.{frame_limit, HoldsFill};
@@ -8,9 +9,10 @@ ghost use Rattle.guest_memory.specs.Touched.{IsHeld, is_touched, touched_at, wit
 ghost use Rattle.guest_memory.specs.contracts.memory.GuestMemory.{the_row};
 
 use crate::store::Store;
+use raw_frames::FRAME_BYTES as FRAME_SIZE;
 use std::alloc::Global;
 use std::marker::Model;
-use vt_bytes::AddressRange;
+use vt_bytes::{AddressRange, byte_sum};
 use vt_outside::OutOfMemory;
 
 const LOW_END: u64 = 0xA_0000;
@@ -22,9 +24,7 @@ const BIOS_END: u64 = 0x10_0000;
 const HIGH_BYTES: u64 = 0x200_0000;
 
 /// How many bytes a frame has. `window` and `window_mut` lend none past the end of one.
-pub const FRAME_BYTES: u64 = 4096;
-
-const FRAME_SIZE: usize = FRAME_BYTES as usize;
+pub const FRAME_BYTES: u64 = FRAME_SIZE as u64;
 
 /// Returns the ranges of addresses that are RAM where RAM ends at the address `top`: 0 to 0x9FFFF, 0xE0000 to 0xFFFFF, and the
 /// 32 MiB that end at `top`, which must be a multiple of 1 MiB, from 64 MiB to 3 GiB.
@@ -170,6 +170,20 @@ impl GuestMemory {
         ensures blank { result ≡ false → HoldsFill self.now.memory frame }
     {
         self.store.is_touched(frame as usize)
+    }
+
+    // Returns the sum, modulo 256, of the `len` bytes from an address on, all of which lie in its frame. A frame that isn't touched and is
+    // summed whole isn't read: 4,096 bytes that are equal sum to 0.
+    pub(crate) fn sum_in_frame(&self, address: u64, len: usize) -> u8
+        requires ram { IsRam self.now.memory.top address }
+        requires frame { address % 4096 + len ≤ 4096 }
+        ensures { result ≡ byte_sum (bytes_at self.now.memory address len) }
+    {
+        let frame = self.place_of(address) / FRAME_SIZE;
+        if len == FRAME_SIZE && !self.store.is_touched(frame) {
+            return 0;
+        }
+        byte_sum(self.window(address, len as u32))
     }
 
     /// States that the memory holds bytes: each is below 256. It does nothing.

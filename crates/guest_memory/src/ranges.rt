@@ -5,7 +5,7 @@ ghost use Rattle.guest_memory.specs.RamRange.{is_ram_range, LieInARange};
 ghost use Rattle.guest_memory.specs.Touched.{touched_at};
 
 use crate::memory::{FRAME_BYTES, GuestMemory, ram_ranges};
-use vt_bytes::{AddressRange, byte_sum};
+use vt_bytes::AddressRange;
 
 impl GuestMemory {
     /// Tells whether each of the `len` bytes from the guest address `address` on is RAM. Where `len` is 0 it is true, whatever
@@ -45,7 +45,7 @@ impl GuestMemory {
     }
 
     /// Returns the sum, modulo 256, of the `len` bytes from the guest address `address` on. Each of those addresses must be
-    /// RAM.
+    /// RAM. Frames that lie in the range whole and aren't touched cost a look at a flag each.
     pub fn sum_range(&self, address: u64, len: u32) -> u8
         requires { IsRamRange self.now.memory.top address len }
         ensures { result ≡ byte_sum (bytes_at self.now.memory address len) }
@@ -56,9 +56,10 @@ impl GuestMemory {
         let mut sum = 0u8;
         let mut done = 0;
         while done < len {
-            let part = self.part_in_frame(address + done as u64, len - done);
-            sum = sum.wrapping_add(byte_sum(part));
-            done += part.len();
+            let start = address + done as u64;
+            let count = len_in_frame(start, len - done);
+            sum = sum.wrapping_add(self.sum_in_frame(start, count));
+            done += count;
         }
         sum
     }

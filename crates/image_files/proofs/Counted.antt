@@ -18,7 +18,8 @@ size-append commands more =
     ap length (flat_map-append entry_bytes commands more) ∙ length-append (flat_map entry_bytes commands) (flat_map entry_bytes more)
 
 -- one more command, or one more that is made of an element
-pub size-more : (commands : List Entry) (command : Entry) → size_of_commands (commands ++ command ∷ []) ≡ size_of_commands commands + length (entry_bytes command)
+pub size-more : (commands : List Entry) (command : Entry)
+    → size_of_commands (commands ++ command ∷ []) ≡ size_of_commands commands + length (entry_bytes command)
 size-more commands command = omega (arith, size-append commands (command ∷ []), length-append (entry_bytes command) [])
 
 pub size-map_more : {A : Type 0} (command_of : A → Entry) (xs : List A) (x : A)

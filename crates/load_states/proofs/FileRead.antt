@@ -65,7 +65,8 @@ file_is_there May items top fill events w index kept coming over =
       length-append (files_in (memory_of w) coming.before) (placed_at (files_of (items_now w)) last.name last.place ∷ []),
       length-map coming.before (placed_in (memory_of w)),
     ) in
-    let reads = moves_of_file May items index last.name coming.align coming.zone w _ coming.before last coming.command coming.run so_many ∙ ap (λ (r : List Finished). moves_before items index w coming.before ++ r) one in
+    let reads = moves_of_file May items index last.name coming.align coming.zone w _ coming.before last coming.command coming.run so_many
+    ∙ ap (λ (r : List Finished). moves_before items index w coming.before ++ r) one in
     kept_with May items top fill events w w.listed w.script (AtCommand (suc index)) kept (
       record { listed = script.listed; script = script.script },
       (let within = slice_get_within w.script index entry coming.command in omega arith),

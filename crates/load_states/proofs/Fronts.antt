@@ -40,7 +40,8 @@ pub one_more : (May : Answers) (files : List File) (script : List Entry) (index 
     (now after : Progress) → index < length script → entry ≡ get_or script index entry → IsRun May files (take index script) handed Done now
     → LeadsOn May entry now after → given ≡ map range_of after.placed → IsRun May files (take (suc index) script) given Done after
 one_more May files script index entry handed given now after within is run leads given_are =
-    let more : take index script ++ entry ∷ [] ≡ take (suc index) script = ap (λ (e : Entry). take index script ++ e ∷ []) is ∙ sym (take-suc script index entry within) in
+    let more : take index script ++ entry ∷ [] ≡ take (suc index) script = ap (λ (e : Entry). take index script ++ e ∷ []) is
+    ∙ sym (take-suc script index entry within) in
     let so_many : index ≡ 0 + length (take index script) = omega (arith, length-take index script) in
     is_run May files (take (suc index) script) given Done after
     (subst (λ (front : List Entry). EndsWith May 0 front (opening files []) Done after) more

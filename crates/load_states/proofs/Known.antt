@@ -1,5 +1,6 @@
 -- What holds of each reading: what is known while it is asked for or awaited, and the read by which it is.
-use Rattle.std.proofs.Common.{◌≡◌, ℕ, suc, ◌+◌, ◌-◌, ◌*◌, ◌^◌, ◌<◌, ◌≤◌, ◌==◌, ◌⊎◌, true, false, List, [], ◌∷◌, ◌++◌, length, inl, inr, arith, refl, ap, ap₂, sym, subst, ◌∙◌, length-append}
+use Rattle.std.proofs.Common.{◌≡◌, ℕ, suc, ◌+◌, ◌-◌, ◌*◌, ◌^◌, ◌<◌, ◌≤◌, ◌==◌, ◌⊎◌, true, false, List, [], ◌∷◌, ◌++◌, length, inl, inr, arith, refl}
+use Rattle.std.proofs.Common.{ap, ap₂, sym, subst, ◌∙◌, length-append}
 use Rattle.std.specs.List.{AllByRecursion}
 use Rattle.vt_bytes.specs.Memory.{Memory, IsRam, at}
 use Rattle.vt_bytes.proofs.Bytes.{bytes_at-same}

@@ -1,5 +1,6 @@
 -- What the firmware takes of each reading once its read is over: what the load keeps is kept, and how the load goes on from there.
-use Rattle.std.proofs.Common.{List, [], ◌∷◌, ◌++◌, ℕ, None, ◌≡◌, suc, ◌+◌, ◌-◌, ◌*◌, ◌/◌, ◌<◌, ◌≤◌, ◌==◌, not, if◌then◌else◌, length, Option, Some, arith, refl, sym, ap, subst, ◌∙◌}
+use Rattle.std.proofs.Common.{List, [], ◌∷◌, ◌++◌, ℕ, None, ◌≡◌, suc, ◌+◌, ◌-◌, ◌*◌, ◌/◌, ◌<◌, ◌≤◌, ◌==◌, not, if◌then◌else◌, length, Option, Some}
+use Rattle.std.proofs.Common.{arith, refl, sym, ap, subst, ◌∙◌}
 use Rattle.std.specs.Option.{option_map_or}
 use Rattle.std.proofs.lemmas.Bool.{eqb-false}
 use Rattle.cfg_directory.specs.declared.item.Item.{Item}
@@ -104,7 +105,8 @@ Goes items before after = steps_left items after + 1 ≤ steps_left items before
 
 -- the number of files was taken
 count_goes : (items : List Item) (count : ℕ) → Goes items (Awaits read.Count) (if count == 0 then Refused NoScript else Asks (read.Entries (64 * count) 0))
-count_goes items count = by_test (Goes items (Awaits read.Count)) (count == 0) (Refused NoScript) (Asks (read.Entries (64 * count) 0)) (λ zero. omega arith) (λ some. omega arith)
+count_goes items count = by_test (Goes items (Awaits read.Count)) (count == 0) (Refused NoScript) (Asks (read.Entries (64 * count) 0))
+    (λ zero. omega arith) (λ some. omega arith)
 
 -- all entries were taken
 found_goes : (items : List Item) (found : Option Listed) → steps_left items (stage_for found) ≤ left_of_script (script_size items) 0
@@ -112,17 +114,20 @@ found_goes items None = omega arith
 found_goes items (Some file) =
     by_test (λ (s : Stage). steps_left items s ≤ left_of_script (script_size items) 0) (not (is_script_length file.size)) (Refused ScriptLength)
     (if file.size == 0 then AtCommand 0 else Asks (read.Commands file.select file.size 0)) (λ bad. omega arith)
-    (λ good. by_test (λ (s : Stage). steps_left items s ≤ left_of_script (script_size items) 0) (file.size == 0) (AtCommand 0) (Asks (read.Commands file.select file.size 0))
+    (λ good. by_test (λ (s : Stage). steps_left items s ≤ left_of_script (script_size items) 0) (file.size == 0) (AtCommand 0)
+    (Asks (read.Commands file.select file.size 0))
     (λ empty. omega arith) (λ some. omega arith))
 
 -- entries were taken
 entries_go : (items : List Item) (size taken : ℕ) (w : LoadState) (found : Option Listed) → HasEntries items size taken w
-    → Goes items (Awaits (read.Entries size taken)) (if taken + asked (size - taken) == size then stage_for found else Asks (read.Entries size (taken + asked (size - taken))))
+    → Goes items (Awaits (read.Entries size taken)) (if taken + asked (size - taken) == size then stage_for found else Asks
+    (read.Entries size (taken + asked (size - taken))))
 entries_go items size taken w found has =
     let below : has.pieces < pieces_of size = piece_below size has.pieces (omega (arith, has.taken_is, has.some_left)) in
     let all : pieces_of (64 * length items) ≡ pieces_of size = ap pieces_of (sym has.size_is) in
     let here : taken / buffer_size ≡ has.pieces = omega (arith, has.taken_is) in
-    by_test (Goes items (Awaits (read.Entries size taken))) (taken + asked (size - taken) == size) (stage_for found) (Asks (read.Entries size (taken + asked (size - taken))))
+    by_test (Goes items (Awaits (read.Entries size taken))) (taken + asked (size - taken) == size) (stage_for found)
+    (Asks (read.Entries size (taken + asked (size - taken))))
     (λ last. omega (arith, found_goes items found, below, all, here))
     (λ more.
     let another = another_piece size taken has.pieces has.taken_is has.some_left (eqb-false _ _ more) in
@@ -142,7 +147,8 @@ commands_go items select size taken w has =
     let whole : script_size items ≡ size = script_size_is items has.loader has.there ∙ sym has.size_is in
     let all : pieces_of (script_size items) ≡ pieces_of size = ap pieces_of whole in
     let here : taken / buffer_size ≡ has.pieces = omega (arith, has.taken_is) in
-    by_test (Goes items (Awaits (read.Commands select size taken))) (taken + asked (size - taken) == size) (AtCommand 0) (Asks (read.Commands select size (taken + asked (size - taken))))
+    by_test (Goes items (Awaits (read.Commands select size taken))) (taken + asked (size - taken) == size) (AtCommand 0)
+    (Asks (read.Commands select size (taken + asked (size - taken))))
     (λ last. omega (arith, below, all, here))
     (λ more.
     let another = another_piece size taken has.pieces has.taken_is has.some_left (eqb-false _ _ more) in
@@ -201,7 +207,8 @@ HasRoom s = no_room_of s ≡ None
 found_has_room : (found : Option Listed) → HasRoom (stage_for found)
 found_has_room None = refl
 found_has_room (Some file) =
-    by_test HasRoom (not (is_script_length file.size)) (Refused ScriptLength) (if file.size == 0 then AtCommand 0 else Asks (read.Commands file.select file.size 0))
+    by_test HasRoom (not (is_script_length file.size)) (Refused ScriptLength)
+    (if file.size == 0 then AtCommand 0 else Asks (read.Commands file.select file.size 0))
     (λ bad. refl) (λ good. by_test HasRoom (file.size == 0) (AtCommand 0) (Asks (read.Commands file.select file.size 0)) (λ empty. refl) (λ some. refl))
 
 entries_have_room : (size taken : ℕ) (found : Option Listed) → HasRoom (if taken == size then stage_for found else Asks (read.Entries size taken))

@@ -1,5 +1,5 @@
 -- The file that has a name, and where it is placed.
-use Rattle.std.proofs.Common.{◌≡◌, ℕ, suc, ◌+◌, ◌^◌, ◌≤◌, inl, inr, true, false, cond, ltb, not, List, [], ◌∷◌, length, get_or, Option, Some, None, arith}
+use Rattle.std.proofs.Common.{◌≡◌, ℕ, suc, ◌+◌, ◌^◌, ◌<◌, ◌≤◌, inl, inr, true, false, cond, ltb, not, List, [], ◌∷◌, length, get_or, Option, Some, None, arith}
 use Rattle.std.proofs.Common.{refl, ap, sym, ◌∙◌}
 use Rattle.std.specs.List.{position_or_len}
 use Rattle.std.specs.Str.{bytes_eq}
@@ -37,7 +37,18 @@ none-from_position files name found is none =
       | inr past ↦ find_at (λ (file : FileInfo). bytes_eq file.name name) files ∙ slice_get_past files (index_of files name) (ltb-false _ _ past)
     ]
 
--- where it gave one the file there has the name
+-- where it gave one it is an index of the files
+pub position_within : (files : List FileInfo) (name : List ℕ) (found : Option ℕ)
+    → found ≡ cond (ltb (index_of files name) (length files)) (Some (index_of files name)) None → (index : ℕ) → found ≡ Some index → index < length files
+position_within files name found is index some =
+    elim (cases_Bool (ltb (index_of files name) (length files))) as (λ _. index < length files) [
+      | inl within ↦
+          let same : index_of files name ≡ index = same_Some _ _ (sym (cond-true _ _ _ within) ∙ sym is ∙ some) in
+          omega (arith, ltb-true _ _ within, same)
+      | inr past ↦ absurd (none-some index (sym (cond-false _ _ _ past) ∙ sym is ∙ some))
+    ]
+
+-- and the file there has the name
 pub found-from_position : (files : List FileInfo) (places : List (Option ℕ)) (name : List ℕ) (found : Option ℕ) (index : ℕ) (file : FileInfo)
     → length places ≡ length files → found ≡ cond (ltb (index_of files name) (length files)) (Some (index_of files name)) None → found ≡ Some index
     → file ≡ get_or files index file → IsFound files places name file (get_or places index None)

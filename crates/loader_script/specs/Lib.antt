@@ -1,6 +1,7 @@
 pub mod LoaderName
 pub mod Spelling
 pub mod Refusal
+pub mod Order
 pub mod Run
 pub mod Conditions
 pub mod Left

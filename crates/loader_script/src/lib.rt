@@ -8,6 +8,7 @@
 
 mod entry;
 pub mod laws;
+mod order;
 mod reading;
 mod refusing;
 mod rows;
@@ -15,6 +16,7 @@ mod script_file;
 mod writing;
 
 pub use entry::Entry;
+pub use order::NameOrder;
 pub use reading::{ENTRY_BYTES, LONGEST_SCRIPT, ScriptFault, decode_entry, decode_script};
 pub use refusing::{Cause, FileInfo, refusal};
 pub use script_file::loader_name;

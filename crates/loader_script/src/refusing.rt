@@ -1,9 +1,11 @@
 ghost use Rattle.std.specs.Prelude.{◌≡◌, ◌^◌, true, length, None, MatchOption, nat_lt};
 ghost use Rattle.loader_script.specs.Refusal.{causes_of, first_cause, info_of, IsFound, AreDistinct, EndLow};
+ghost use Rattle.loader_script.specs.Order.{IsOrderOf};
 ghost use Rattle.vt_layout.specs.PointerSize.{is_pointer_size};
 ghost use Rattle.loader_script.specs.declared.entry.Entry.TheVariants.{Allocate, AddPointer, AddChecksum, WritePointer};
 
 use crate::entry::Entry;
+use crate::order::NameOrder;
 use vt_layout::is_pointer_size;
 use vt_outside::Name;
 
@@ -45,39 +47,54 @@ pub struct FileInfo {
     pub writable: bool,
 }
 
-/// Returns the first cause to refuse `entry`, or `None`. `files` lists the files of the directory, no two with one name.
-/// `placed[i]` is the address of `files[i]`, if it was allocated, and the file must then end at or below 2^32; both lists must have
-/// one length. It takes no memory. Whether the sum of an `AddPointer` fits in its field depends on what the memory holds, and
+/// Returns the first cause to refuse `entry`, or `None`. `files` lists the files of the directory, no two with one name, and `order`
+/// was made of them. `placed[i]` is the address of `files[i]`, if it was allocated, and the file must then end at or below 2^32; both
+/// lists must have one length. It takes no memory. Whether the sum of an `AddPointer` fits in its field depends on what the memory holds, and
 /// isn't tested here. For a `WritePointer` it is, with `TooFar` as the cause.
-pub fn refusal(entry: &Entry, files: &[FileInfo], placed: &[Option<u64>]) -> Option<Cause>
+pub fn refusal(
+    entry: &Entry,
+    files: &[FileInfo],
+    placed: &[Option<u64>],
+    order: &NameOrder,
+) -> Option<Cause>
     requires places { length placed.now ≡ length files.now }
     requires distinct { AreDistinct files.now }
+    requires order { IsOrderOf files.now order.now }
     requires low { EndLow files.now placed.now }
     ensures { result ≡ first_cause (causes_of entry.now files.now placed.now) }
 {
     match entry {
         Entry::Allocate { file, align, zone } => {
-            allocate_refusal(files, placed, file, *align, *zone)
+            allocate_refusal(files, placed, order, file, *align, *zone)
         }
         Entry::AddPointer {
             dest,
             src,
             offset,
             size,
-        } => add_pointer_refusal(files, placed, dest, src, *offset, *size),
+        } => add_pointer_refusal(files, placed, order, dest, src, *offset, *size),
         Entry::AddChecksum {
             file,
             offset,
             start,
             length,
-        } => add_checksum_refusal(files, placed, file, *offset, *start, *length),
+        } => add_checksum_refusal(files, placed, order, file, *offset, *start, *length),
         Entry::WritePointer {
             dest,
             src,
             dst_offset,
             src_offset,
             size,
-        } => write_pointer_refusal(files, placed, dest, src, *dst_offset, *src_offset, *size),
+        } => write_pointer_refusal(
+            files,
+            placed,
+            order,
+            dest,
+            src,
+            *dst_offset,
+            *src_offset,
+            *size,
+        ),
         Entry::Misnamed(_) => Some(Cause::BadName),
         Entry::Skipped(_) => None,
     }
@@ -86,14 +103,17 @@ pub fn refusal(entry: &Entry, files: &[FileInfo], placed: &[Option<u64>]) -> Opt
 fn allocate_refusal(
     files: &[FileInfo],
     placed: &[Option<u64>],
+    order: &NameOrder,
     name: &Name,
     align: u32,
     zone: u8,
 ) -> Option<Cause>
-    requires { length placed.now ≡ length files.now }
+    requires places { length placed.now ≡ length files.now }
+    requires distinct { AreDistinct files.now }
+    requires order { IsOrderOf files.now order.now }
     ensures { result ≡ first_cause (causes_of (Allocate name.now align zone) files.now placed.now) }
 {
-    let Some((file, place)) = file_of(files, placed, name) else {
+    let Some((file, place)) = file_of(files, placed, order, name) else {
         return Some(Cause::NoFile);
     };
     if place.is_some() {
@@ -114,18 +134,21 @@ fn allocate_refusal(
 fn add_pointer_refusal(
     files: &[FileInfo],
     placed: &[Option<u64>],
+    order: &NameOrder,
     dest: &Name,
     src: &Name,
     offset: u32,
     size: u8,
 ) -> Option<Cause>
-    requires { length placed.now ≡ length files.now }
+    requires places { length placed.now ≡ length files.now }
+    requires distinct { AreDistinct files.now }
+    requires order { IsOrderOf files.now order.now }
     ensures { result ≡ first_cause (causes_of (AddPointer dest.now src.now offset size) files.now placed.now) }
 {
-    let Some((dest, dest_place)) = file_of(files, placed, dest) else {
+    let Some((dest, dest_place)) = file_of(files, placed, order, dest) else {
         return Some(Cause::NoFile);
     };
-    let Some((_, src_place)) = file_of(files, placed, src) else {
+    let Some((_, src_place)) = file_of(files, placed, order, src) else {
         return Some(Cause::NoFile);
     };
     if dest_place.is_none() || src_place.is_none() {
@@ -143,15 +166,18 @@ fn add_pointer_refusal(
 fn add_checksum_refusal(
     files: &[FileInfo],
     placed: &[Option<u64>],
+    order: &NameOrder,
     name: &Name,
     offset: u32,
     start: u32,
     count: u32,
 ) -> Option<Cause>
-    requires { length placed.now ≡ length files.now }
+    requires places { length placed.now ≡ length files.now }
+    requires distinct { AreDistinct files.now }
+    requires order { IsOrderOf files.now order.now }
     ensures { result ≡ first_cause (causes_of (AddChecksum name.now offset start count) files.now placed.now) }
 {
-    let Some((file, place)) = file_of(files, placed, name) else {
+    let Some((file, place)) = file_of(files, placed, order, name) else {
         return Some(Cause::NoFile);
     };
     if place.is_none() {
@@ -166,6 +192,7 @@ fn add_checksum_refusal(
 fn write_pointer_refusal(
     files: &[FileInfo],
     placed: &[Option<u64>],
+    order: &NameOrder,
     dest: &Name,
     src: &Name,
     dst_offset: u32,
@@ -173,13 +200,15 @@ fn write_pointer_refusal(
     size: u8,
 ) -> Option<Cause>
     requires places { length placed.now ≡ length files.now }
+    requires distinct { AreDistinct files.now }
+    requires order { IsOrderOf files.now order.now }
     requires low { EndLow files.now placed.now }
     ensures { result ≡ first_cause (causes_of (WritePointer dest.now src.now dst_offset src_offset size) files.now placed.now) }
 {
-    let Some((dest, _)) = file_of(files, placed, dest) else {
+    let Some((dest, _)) = file_of(files, placed, order, dest) else {
         return Some(Cause::NoFile);
     };
-    let Some((src, src_place)) = file_of(files, placed, src) else {
+    let Some((src, src_place)) = file_of(files, placed, order, src) else {
         return Some(Cause::NoFile);
     };
     let Some(place) = src_place else {
@@ -204,13 +233,16 @@ fn write_pointer_refusal(
 fn file_of<'a>(
     files: &'a [FileInfo],
     placed: &[Option<u64>],
+    order: &NameOrder,
     name: &Name,
 ) -> Option<(&'a FileInfo, Option<u64>)>
-    requires { length placed.now ≡ length files.now }
+    requires places { length placed.now ≡ length files.now }
+    requires distinct { AreDistinct files.now }
+    requires order { IsOrderOf files.now order.now }
     ensures { MatchOption result (info_of files.now name.now ≡ None)
         (λ found. IsFound files.now placed.now name.now found.0.now found.1) }
 {
-    let index = files.iter().position(|file| file.name == *name)?;
+    let index = order.index_of(name)?;
     Some((&files[index], placed[index]))
 }
 

@@ -6,8 +6,9 @@ use Rattle.std.specs.List.{list_all, zip, AllByRecursion}
 use Rattle.std.specs.Option.{option_map_or}
 use Rattle.machine_desc.specs.declared.machine.Machine.{Machine}
 use Rattle.machine_desc.specs.declared.smbios_parts.MemRange.{MemRange}
-use Rattle.machine_desc.specs.Rules.{first_failing, only_at, is_text, text_parts, texts_of, counts, is_own_if_given, uuids_of, parts_on_power, end_of, with_ends, is_lawful_range}
-use Rattle.machine_desc.specs.Rules.{is_low, is_empty, are_joined, is_memory, is_met, parts_on_acpi, lists_on_apic, breaches, breach_of, IsAccepted}
+use Rattle.machine_desc.specs.Rules.{first_failing, only_at, is_text, text_parts, texts_of, counts, is_own_if_given, uuids_of, parts_on_power, end_of}
+use Rattle.machine_desc.specs.Rules.{with_ends, is_lawful_range}
+use Rattle.machine_desc.specs.Rules.{is_low, is_empty, are_joined, is_memory, is_met, parts_on_acpi, breaches, breach_of, IsAccepted}
 use Rattle.machine_desc.specs.Rules.{is_node, node_count, nodes_of, is_lawful_numa}
 use Rattle.machine_desc.specs.Fields.{IsFittingRange}
 use Rattle.machine_desc.proofs.Addresses.{joined_up}
@@ -45,9 +46,6 @@ own_uuids m accepted = each_kept m accepted 4 is_own_if_given (uuids_of m) refl
 pub own_uuid : (m : Machine) → IsAccepted m → is_own_if_given m.system.uuid ≡ true
 own_uuid m accepted = passing_at is_own_if_given (uuids_of m) 0 None (own_uuids m accepted) refl
 
-pub own_generation : (m : Machine) → IsAccepted m → is_own_if_given m.generation ≡ true
-own_generation m accepted = passing_at is_own_if_given (uuids_of m) 1 None (own_uuids m accepted) refl
-
 -- what a part needs is there where the part is
 met : (needed there : Bool) → is_met needed there ≡ true → there ≡ true → needed ≡ true
 met true there is here = refl
@@ -71,12 +69,6 @@ apic_needs_acpi m accepted some = needs_acpi m accepted 2 some
 
 pub numa_needs_acpi : (m : Machine) → IsAccepted m → IsSome m.numa → IsSome m.acpi
 numa_needs_acpi m accepted some = needs_acpi m accepted 3 some
-
--- a machine with elements in a list that needs interrupt controllers, at the list's index in the rule, has them
-pub needs_apic : (m : Machine) → IsAccepted m → (index : ℕ) → get_or (lists_on_apic m) index false ≡ true → IsSome m.apic
-needs_apic m accepted index there =
-    let all = each_kept m accepted 15 (is_met (is_some m.apic)) (lists_on_apic m) refl in
-    met (is_some m.apic) (get_or (lists_on_apic m) index false) (passing_at (is_met (is_some m.apic)) (lists_on_apic m) index false all refl) there
 
 -- a machine with an id of its generation has power management
 pub generation_needs_power : (m : Machine) → IsAccepted m → IsSome m.generation → IsSome m.power

@@ -1,5 +1,6 @@
 -- The index at which a machine breaks a rule is a small number.
-use Rattle.std.proofs.Common.{◌≡◌, ℕ, ◌+◌, ◌<◌, ◌≤◌, Bool, true, false, ◌&&◌, List, [], ◌∷◌, length, get_or, drop, map, Option, Some, None, refl, ◌∙◌, subst, arith, is_some, if◌then◌else◌}
+use Rattle.std.proofs.Common.{◌≡◌, ℕ, ◌+◌, ◌<◌, ◌≤◌, Bool, true, false, ◌&&◌, List, [], ◌∷◌, length, get_or, drop, map, Option, Some, None, refl, ◌∙◌}
+use Rattle.std.proofs.Common.{subst, arith, is_some, if◌then◌else◌}
 use Rattle.std.proofs.lemmas.List.{at_drop_more, length-map, length-append}
 use Rattle.std.proofs.lemmas.List.FromFn.{length-enumerate_from}
 use Rattle.std.proofs.lemmas.Option.{same_Some}
@@ -11,8 +12,12 @@ use Rattle.machine_desc.specs.declared.machine.Acpi.{Acpi}
 use Rattle.machine_desc.specs.declared.machine.Broken.{Broken}
 use Rattle.machine_desc.proofs.Kept.{each_is_kept}
 use Rattle.machine_desc.proofs.Passing.{failing_within, all_pass, passing_at, ◌⨾◌}
-use Rattle.machine_desc.specs.Rules.{first_broken, only_at, first_failing, is_padded_text, breach_of_acpi, breaches_of_sizes, breaches_of_parts, breaches_of_acpi_parts, breaches_of_devices, counts, is_within, with_ends, end_of, is_own_if_given, uuids_of, is_some_text, is_lawful_socket, is_lawful_dimm, is_lawful_range, is_lawful_slot, is_met, parts_on_acpi, parts_on_power, lists_on_apic}
-use Rattle.machine_desc.specs.Rules.{is_new, first_refused, is_lawful_cpu, apic_id, is_lawful_io_apic, io_apic_id, is_lawful_override, irq_of, is_lawful_nmi, is_node, node_count, nodes_of}
+use Rattle.machine_desc.specs.Rules.{first_broken, only_at, first_failing, is_padded_text, breach_of_acpi, breaches_of_sizes, breaches_of_parts}
+use Rattle.machine_desc.specs.Rules.{breaches_of_acpi_parts, breaches_of_devices, counts, is_within, with_ends, end_of, is_own_if_given, uuids_of}
+use Rattle.machine_desc.specs.Rules.{is_some_text, is_lawful_socket, is_lawful_dimm, is_lawful_range, is_lawful_slot, is_met, parts_on_acpi}
+use Rattle.machine_desc.specs.Rules.{parts_on_power, lists_on_apic}
+use Rattle.machine_desc.specs.Rules.{is_new, first_refused, is_lawful_cpu, apic_id, is_lawful_io_apic, io_apic_id, is_lawful_override, irq_of}
+use Rattle.machine_desc.specs.Rules.{is_lawful_nmi, is_node, node_count, nodes_of}
 use Rattle.machine_desc.specs.Rules.{windows_of, routes_of, is_lawful_window, is_lawful_route, pair_of, is_lawful_uart}
 
 -- the rule at a place is the first broken one of those that are left

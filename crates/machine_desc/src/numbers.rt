@@ -2,7 +2,8 @@
 
 ghost use Rattle.std.specs.Prelude.{◌≡◌, ◌<◌, ◌≤◌, ◌==◌, ℕ, Bool, true, not, nat_lt};
 ghost use Rattle.std.specs.List.{list_all, list_any};
-ghost use Rattle.machine_desc.specs.Rules.{first_refused, is_lawful_cpu, apic_id, is_lawful_io_apic, io_apic_id, is_lawful_override, irq_of, is_lawful_route, pair_of};
+ghost use Rattle.machine_desc.specs.Rules.{first_refused, is_lawful_cpu, apic_id, is_lawful_io_apic, io_apic_id, is_lawful_override, irq_of};
+ghost use Rattle.machine_desc.specs.Rules.{is_lawful_route, pair_of};
 
 use crate::acpi_parts::{Cpu, IoApic, Override};
 use crate::device_parts::Route;

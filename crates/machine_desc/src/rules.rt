@@ -1,6 +1,7 @@
 ghost use Rattle.std.specs.Prelude.{◌≡◌, ◌<◌, ◌^◌, ◌++◌, None, Some, MatchResult};
 ghost use Rattle.machine_desc.specs.declared.machine.Broken.{Broken as ABroken};
-ghost use Rattle.machine_desc.specs.Rules.{broken_rule, breaches_of_sizes, breaches_within_sizes, breaches_of_parts, breaches_of_acpi_parts, breaches_of_devices, first_broken, only_at};
+ghost use Rattle.machine_desc.specs.Rules.{broken_rule, breaches_of_sizes, breaches_within_sizes, breaches_of_parts, breaches_of_acpi_parts};
+ghost use Rattle.machine_desc.specs.Rules.{breaches_of_devices, first_broken, only_at};
 
 use crate::devices::{has_lawful_ecam, unlawful_route, unlawful_uart, unlawful_window};
 use crate::machine::{Broken, Machine};

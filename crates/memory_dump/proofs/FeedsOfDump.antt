@@ -13,7 +13,8 @@ use Rattle.memory_dump.specs.Rows.{AreRows, Ascend, Rows, rows_of, text_of, text
 use Rattle.memory_dump.specs.declared.row.Row.{Row}
 use Rattle.memory_dump.proofs.ReadDigits.{HasNoFeed}
 use Rattle.memory_dump.proofs.RowsTell.{rows_are_lawful}
-use Rattle.memory_dump.proofs.Spelled.{header_front, header_line-front, header_no_feed, last_front, last_line-front, last_no_feed, row_front, row_no_feed, row_text-front}
+use Rattle.memory_dump.proofs.Spelled.{header_front, header_line-front, header_no_feed, last_front, last_line-front, last_no_feed, row_front}
+use Rattle.memory_dump.proofs.Spelled.{row_no_feed, row_text-front}
 use Rattle.memory_dump.proofs.TextOfRows.{dump_is}
 
 feeds_of_none : (bytes : List ℕ) → HasNoFeed bytes → line_feeds bytes ≡ 0

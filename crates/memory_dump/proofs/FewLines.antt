@@ -1,5 +1,6 @@
 -- A dump has few lines: at most 256 for each frame that is touched, and two more.
-use Rattle.std.proofs.Common.{◌≡◌, inl, inr, ℕ, zero, suc, ◌+◌, ◌*◌, ◌-◌, ◌/◌, ◌<◌, ◌≤◌, Bool, true, false, cond, List, [], ◌∷◌, ◌++◌, length, map, take, drop, refl, sym, ap, subst, ◌∙◌, arith, length-append}
+use Rattle.std.proofs.Common.{◌≡◌, inl, inr, ℕ, zero, suc, ◌+◌, ◌*◌, ◌-◌, ◌/◌, ◌<◌, ◌≤◌, Bool, true, false, cond, List, [], ◌∷◌, ◌++◌, length, map}
+use Rattle.std.proofs.Common.{take, drop, refl, sym, ap, subst, ◌∙◌, arith, length-append}
 use Rattle.std.proofs.lemmas.Grind.{flat_map-append}
 use Rattle.std.proofs.lemmas.List.{map-append, take-append-drop, drop-drop}
 use Rattle.std.proofs.lemmas.List.Sums.{sum_by-append, sum_by-cons}
@@ -35,11 +36,13 @@ rows_parts m start first n d =
     ∙ length-append (rows_from m start first n) (rows_from m start (first + n) d)
 
 -- one row at most
-row_few : (address fill : ℕ) (bytes : List ℕ) (test : Bool) → length (cond test [] (let row : Row = record { address = address; bytes = bytes } in row ∷ [])) ≤ 1
+row_few : (address fill : ℕ) (bytes : List ℕ) (test : Bool)
+    → length (cond test [] (let row : Row = record { address = address; bytes = bytes } in row ∷ [])) ≤ 1
 row_few address fill bytes true = omega arith
 row_few address fill bytes false = omega arith
 
-row_none : (address : ℕ) (bytes : List ℕ) (test : Bool) → test ≡ true → length (cond test [] (let row : Row = record { address = address; bytes = bytes } in row ∷ [])) ≡ 0
+row_none : (address : ℕ) (bytes : List ℕ) (test : Bool) → test ≡ true
+    → length (cond test [] (let row : Row = record { address = address; bytes = bytes } in row ∷ [])) ≡ 0
 row_none address bytes true is = refl
 row_none address bytes false is = cc
 
@@ -70,7 +73,8 @@ frame_few held start i frame false is below begins ram told =
     let place : start + 16 * (256 * i) ≡ start + 4096 * i = omega arith in
     let none = rows_none held.memory start (256 * i) 256 (λ k within.
     let here : frame_start held.memory.top frame + k ≡ start + 16 * (256 * i) + k = omega (arith, begins, place) in
-    let in_ram : IsRam held.memory.top (frame_start held.memory.top frame + k) = subst (λ a. IsRam held.memory.top (a + k)) (sym begins) (ram k (omega arith)) in
+    let in_ram : IsRam held.memory.top (frame_start held.memory.top frame + k) =
+    subst (λ a. IsRam held.memory.top (a + k)) (sym begins) (ram k (omega arith)) in
     subst (λ a. at held.memory a ≡ held.memory.fill) here (is.blank frame below told k (omega arith) in_ram)) in
     omega (arith, none)
 
@@ -86,7 +90,8 @@ frames_few held start first i (suc n) is inside begin ram =
     let size : 256 * suc n ≡ 256 + 256 * n = omega arith in
     let next : 256 * i + 256 ≡ 256 * (i + 1) = omega arith in
     let there : first + i + 0 ≡ first + i = omega arith in
-    let one = frame_few held start i (first + i) flag is (omega arith) (ap (frame_start held.memory.top) (sym there) ∙ begin 0 (omega arith) ∙ ap (λ k. start + 4096 * k) (omega arith))
+    let one = frame_few held start i (first + i) flag is (omega arith) (ap (frame_start held.memory.top) (sym there) ∙ begin 0 (omega arith)
+    ∙ ap (λ k. start + 4096 * k) (omega arith))
     (λ k below. ram k (omega arith)) refl in
     let later : first + (i + 1) ≡ suc (first + i) = omega arith in
     let rest = frames_few held start first (i + 1) n is (omega arith)
@@ -118,7 +123,8 @@ range_few held range first n is size inside begin ram =
     let here : first + 0 ≡ first = omega arith in
     let start : range.start + 4096 * 0 ≡ range.start = omega arith in
     let all = frames_few held range.start first 0 n is (omega (arith, inside))
-    (λ k below. let frame : first + 0 + k ≡ first + k = omega arith in ap (frame_start held.memory.top) frame ∙ begin k below ∙ ap (λ j. range.start + 4096 * j) (omega arith))
+    (λ k below. let frame : first + 0 + k ≡ first + k = omega arith in ap (frame_start held.memory.top) frame ∙ begin k below
+    ∙ ap (λ j. range.start + 4096 * j) (omega arith))
     (λ k below. subst (λ a. IsRam held.memory.top (a + k)) (sym start) (ram k below)) in
     omega (
       arith,
@@ -167,7 +173,8 @@ rows_of_ram held lawful is =
     (λ k below. inl (omega arith, omega arith)) in
     let second = range_few held bios 224 32 is refl (omega arith) (λ k below. start_low m.top (224 + k) (omega arith) ∙ omega arith)
     (λ k below. inr (inl (omega arith, omega arith))) in
-    let third = range_few held high 256 8192 is (omega (arith, lawful.top.at_least)) (omega arith) (λ k below. start_high m.top (256 + k) (omega arith) ∙ omega arith)
+    let third = range_few held high 256 8192 is (omega (arith, lawful.top.at_least)) (omega arith)
+    (λ k below. start_high m.top (256 + k) (omega arith) ∙ omega arith)
     (λ k below. inr (inr (inl (omega arith, omega (arith, lawful.top.at_least))))) in
     let all : length (flat_map (row_at m) (addresses_in low ++ (addresses_in bios ++ (addresses_in high ++ []))))
     ≡ length (flat_map (row_at m) (addresses_in low)) + (length (flat_map (row_at m) (addresses_in bios)) + length (flat_map (row_at m) (addresses_in high))) =

@@ -43,7 +43,8 @@ rows_text-filled m start (suc n) all =
     line_at-filled m start 0 m.fill (bytes_at m start 16) true (ap (λ (a : ℕ). bytes_at m a 16) here) refl (sym both.0) refl in
     let one : rows_text m start 1 ≡ [] = ap (λ (line : List ℕ). line ++ []) first in
     let rows : suc n ≡ 1 + n = omega arith in
-    ap (rows_text m start) rows ∙ rows_text-parts m start 1 n ∙ ap (λ (lines : List ℕ). lines ++ rows_text m (start + 16) n) one ∙ rows_text-filled m (start + 16) n both.1
+    ap (rows_text m start) rows ∙ rows_text-parts m start 1 n ∙ ap (λ (lines : List ℕ). lines ++ rows_text m (start + 16) n) one
+    ∙ rows_text-filled m (start + 16) n both.1
 
 -- each range of the RAM map is whole frames
 range_frames : (top k : ℕ) (other : AddressRange) → IsTop top → k < 3
@@ -58,7 +59,8 @@ range_frames top (suc (suc (suc k))) other lawful below = absurd (omega arith)
 pub range_text-frames : (m : Memory) (ranges : List AddressRange) (k : ℕ) (other : AddressRange) → IsTop m.top → ranges ≡ ram_ranges m.top → k < 3
     → rows_text m (get_or ranges k other).start (256 * (((get_or ranges k other).end - (get_or ranges k other).start) / 4096))
     ≡ range_text m (get_or ranges k other)
-range_text-frames m ranges k other lawful map below = rw map (ap (rows_text m (get_or (ram_ranges m.top) k other).start) (range_frames m.top k other lawful below))
+range_text-frames m ranges k other lawful map below = rw map (ap (rows_text m (get_or (ram_ranges m.top) k other).start)
+    (range_frames m.top k other lawful below))
 
 -- each of the frames is RAM
 pub frame_ram : (top start count k : ℕ) → IsRamRange top start (4096 * count) → k < count → IsRamRange top (start + 4096 * k) 4096

@@ -1,5 +1,6 @@
 -- Each front of a text but the whole is cut off.
-use Rattle.std.proofs.Common.{◌≡◌, ◌≢◌, ℕ, ◌+◌, ◌<◌, ◌⊎◌, inl, inr, ◌==◌, false, List, [], ◌∷◌, ◌++◌, length, Err, Some, refl, ap, sym, subst, ◌∙◌, arith, append_assoc, length-append}
+use Rattle.std.proofs.Common.{◌≡◌, ◌≢◌, ℕ, ◌+◌, ◌<◌, ◌⊎◌, inl, inr, ◌==◌, false, List, [], ◌∷◌, ◌++◌, length, Err, Some, refl, ap, sym, subst, ◌∙◌}
+use Rattle.std.proofs.Common.{arith, append_assoc, length-append}
 use Rattle.std.specs.List.{flat_map}
 use Rattle.std.proofs.lemmas.List.{append-nil}
 use Rattle.vt_bytes.specs.Memory.{Memory, IsMemory, IsTop, with_bytes}
@@ -11,7 +12,8 @@ use Rattle.memory_dump.specs.declared.row.Row.{Row}
 use Rattle.memory_dump.specs.declared.fault.DumpFault.TheVariants.{Truncated}
 use Rattle.memory_dump.proofs.ReadDigits.{HasNoFeed}
 use Rattle.memory_dump.proofs.Lines.{lines_of-none}
-use Rattle.memory_dump.proofs.Spelled.{header_front, header_line-front, header_no_feed, last_front, last_line-front, last_no_feed, length-row, row_front, row_no_feed, row_of-spelled, row_text-front}
+use Rattle.memory_dump.proofs.Spelled.{header_front, header_line-front, header_no_feed, last_front, last_line-front, last_no_feed, length-row}
+use Rattle.memory_dump.proofs.Spelled.{row_front, row_no_feed, row_of-spelled, row_text-front}
 use Rattle.memory_dump.proofs.Said.{fault-none, read-cut, rows-taken, said-cut, said-line}
 use Rattle.memory_dump.proofs.PutRows.{blank_lawful}
 use Rattle.memory_dump.proofs.RowsTell.{rows_are_lawful}

@@ -43,5 +43,6 @@ begun bytes text header m is behind lawful top fill all =
     ∙ ap (behind_so m 2 0) (sym behind)
 
 -- a memory that is read is the one of the text
-pub read_so_only : (bytes : List ℕ) (out m : Memory) → read_so bytes ≡ Ok out → IsMemory m → HoldsBytes m → dump m ≡ bytes → ◌≡◌ {A = Result Memory DumpFault} (Ok m) (Ok out)
+pub read_so_only : (bytes : List ℕ) (out m : Memory) → read_so bytes ≡ Ok out → IsMemory m → HoldsBytes m → dump m ≡ bytes
+    → ◌≡◌ {A = Result Memory DumpFault} (Ok m) (Ok out)
 read_so_only bytes out m read lawful holds is = sym (text_read bytes m lawful holds is) ∙ read

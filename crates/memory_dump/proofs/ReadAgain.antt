@@ -1,5 +1,6 @@
 -- Bytes are read as a memory exactly where they are its text.
-use Rattle.std.proofs.Common.{◌≡◌, ℕ, ◌+◌, ◌<◌, ◌≤◌, ◌^◌, ◌==◌, Bool, true, false, cond, List, [], ◌∷◌, ◌++◌, length, Option, Some, None, Result, Ok, refl, ap, sym, subst, ◌∙◌, arith, append_assoc}
+use Rattle.std.proofs.Common.{◌≡◌, ℕ, ◌+◌, ◌<◌, ◌≤◌, ◌^◌, ◌==◌, Bool, true, false, cond, List, [], ◌∷◌, ◌++◌, length, Option, Some, None, Result, Ok}
+use Rattle.std.proofs.Common.{refl, ap, sym, subst, ◌∙◌, arith, append_assoc}
 use Rattle.std.specs.List.{flat_map}
 use Rattle.std.specs.Str.{bytes_eq}
 use Rattle.std.proofs.lemmas.List.{append-nil}
@@ -8,13 +9,15 @@ use Rattle.vt_bytes.specs.Memory.{Memory, IsMemory, IsTop, IsRam, with_bytes}
 use Rattle.memory_dump.specs.Dump.{dump, header_line, last_line}
 use Rattle.guest_memory.specs.Bytes.{HoldsBytes}
 use Rattle.memory_dump.specs.Rows.{AreRows, Ascend, Rows, blank, memory_of, rows_of, text_of, text_of_row, with_rows}
-use Rattle.memory_dump.specs.Reading.{Lines, ◌>>=◌, behind_so, dump_so, ended, fault_of_row, header_of, in_front, lines_of, or_fault, read_so, row_of, row_so, rows_so, unless}
+use Rattle.memory_dump.specs.Reading.{Lines, ◌>>=◌, behind_so, dump_so, ended, fault_of_row, header_of, in_front, lines_of, or_fault, read_so, row_of}
+use Rattle.memory_dump.specs.Reading.{row_so, rows_so, unless}
 use Rattle.memory_dump.specs.declared.row.Row.{Row}
 use Rattle.memory_dump.specs.declared.header.Header.{Header}
 use Rattle.memory_dump.specs.declared.fault.DumpFault.{DumpFault}
 use Rattle.memory_dump.specs.declared.fault.DumpFault.TheVariants.{BadHeader, BadLine}
 use Rattle.memory_dump.proofs.Lines.{lines_of-line}
-use Rattle.memory_dump.proofs.Spelled.{header_front, header_line-front, header_no_feed, header_of-only, header_of-spelled, length-row, row_front, row_no_feed, row_of-only, row_of-spelled, row_text-front}
+use Rattle.memory_dump.proofs.Spelled.{header_front, header_line-front, header_no_feed, header_of-only, header_of-spelled, length-row, row_front}
+use Rattle.memory_dump.proofs.Spelled.{row_no_feed, row_of-only, row_of-spelled, row_text-front}
 use Rattle.memory_dump.proofs.Said.{fault-none, length-last, rows-taken, said-end, said-line, taken-none}
 use Rattle.memory_dump.proofs.PutRows.{blank_holds, blank_lawful, holds_rows, lawful_rows, rows_again}
 use Rattle.memory_dump.proofs.RowsTell.{rows_are_lawful, same_memories}

@@ -1,5 +1,6 @@
 -- What the lines behind the first one say, by the first of them.
-use Rattle.std.proofs.Common.{◌≡◌, ◌≢◌, ℕ, ◌+◌, ◌<◌, ◌≤◌, ◌==◌, Bool, true, false, not, cond, List, [], ◌∷◌, ◌++◌, length, take, drop, Option, Some, None, Result, Ok, Err, refl, ap, sym, subst, ◌∙◌, arith, min, length-append, length-take}
+use Rattle.std.proofs.Common.{◌≡◌, ◌≢◌, ℕ, ◌+◌, ◌<◌, ◌≤◌, ◌==◌, Bool, true, false, not, cond, List, [], ◌∷◌, ◌++◌, length, take, drop, Option, Some}
+use Rattle.std.proofs.Common.{None, Result, Ok, Err, refl, ap, sym, subst, ◌∙◌, arith, min, length-append, length-take}
 use Rattle.std.specs.Prelude.{nat_lt, IfErr, IsErrAnd}
 use Rattle.std.specs.Str.{bytes_eq}
 use Rattle.std.proofs.lemmas.Bool.Decides.{nat_tests}
@@ -9,14 +10,16 @@ use Rattle.vt_bytes.specs.Memory.{Memory, IsRam, is_ram, with_bytes}
 use Rattle.vt_bytes.proofs.Seen.{ram_tested, ram_from_test}
 use Rattle.memory_dump.specs.Dump.{last_line}
 use Rattle.memory_dump.specs.Rows.{IsSpelled, blank, is_fill}
-use Rattle.memory_dump.specs.Reading.{Lines, ◌>>=◌, behind_so, dump_so, ended, fault_of_row, header_of, in_front, lines_of, or_fault, read_so, row_of, row_so, rows_so, unless}
+use Rattle.memory_dump.specs.Reading.{Lines, ◌>>=◌, behind_so, dump_so, ended, fault_of_row, header_of, in_front, lines_of, or_fault, read_so, row_of}
+use Rattle.memory_dump.specs.Reading.{row_so, rows_so, unless}
 use Rattle.memory_dump.specs.declared.row.Row.{Row}
 use Rattle.memory_dump.specs.declared.header.Header.{Header}
 use Rattle.memory_dump.specs.declared.fault.DumpFault.{DumpFault}
 use Rattle.memory_dump.specs.declared.fault.DumpFault.TheVariants.{BadHeader, BadLine, OutOfOrder, AllFill, NotRam, Truncated}
 use Rattle.memory_dump.proofs.ReadDigits.{HasNoFeed}
 use Rattle.memory_dump.proofs.Lines.{first_line, lines_of-line}
-use Rattle.memory_dump.proofs.Spelled.{header_front, header_line-front, header_no_feed, header_of-only, last_front, last_line-front, last_no_feed, length-header, length-row, row_front, row_no_feed, row_of-only, row_text-front}
+use Rattle.memory_dump.proofs.Spelled.{header_front, header_line-front, header_no_feed, header_of-only, last_front, last_line-front, last_no_feed}
+use Rattle.memory_dump.proofs.Spelled.{length-header, length-row, row_front, row_no_feed, row_of-only, row_text-front}
 
 -- ---- whether a row is taken
 

@@ -1,5 +1,6 @@
 -- Which lines are spelled as a row's, and as the first of a dump.
-use Rattle.std.proofs.Common.{◌≡◌, ℕ, ◌+◌, ◌*◌, ◌%◌, ◌<◌, ◌^◌, ◌==◌, Bool, true, false, cond, List, [], ◌∷◌, ◌++◌, length, take, drop, slice_index, Option, Some, None, refl, ap, sym, subst, ◌∙◌, arith, append_assoc, length-append, length-take, length-drop}
+use Rattle.std.proofs.Common.{◌≡◌, ℕ, ◌+◌, ◌*◌, ◌%◌, ◌<◌, ◌^◌, ◌==◌, Bool, true, false, cond, List, [], ◌∷◌, ◌++◌, length, take, drop, slice_index}
+use Rattle.std.proofs.Common.{Option, Some, None, refl, ap, sym, subst, ◌∙◌, arith, append_assoc, length-append, length-take, length-drop}
 use Rattle.std.specs.Prelude.{codes}
 use Rattle.std.specs.Int.{w32, to_be_bytes, from_be_bytes}
 use Rattle.std.specs.Str.{bytes_eq}
@@ -112,11 +113,13 @@ read_back address bytes small size are =
     let whole : line ≡ digits_of_address address ++ (codes " " ++ (encode_lower bytes ++ 10 ∷ [])) =
     row_text-front address bytes ∙ append_assoc (digits_of_address address ++ codes " ") (encode_lower bytes) (10 ∷ [])
     ∙ append_assoc (digits_of_address address) (codes " ") (encode_lower bytes ++ 10 ∷ []) in
-    let nine : length (digits_of_address address ++ codes " ") ≡ 9 = omega (arith, length-append (digits_of_address address) (codes " "), length-address address) in
+    let nine : length (digits_of_address address ++ codes " ") ≡ 9 =
+    omega (arith, length-append (digits_of_address address) (codes " "), length-address address) in
     let first : take 8 line ≡ digits_of_address address =
     ap (take 8) whole ∙ take_at (digits_of_address address) (codes " " ++ (encode_lower bytes ++ 10 ∷ [])) 8 (length-address address) in
     let second : take 32 (drop 9 line) ≡ encode_lower bytes =
-    ap (λ (text : List ℕ). take 32 (drop 9 text)) (row_text-front address bytes ∙ append_assoc (digits_of_address address ++ codes " ") (encode_lower bytes) (10 ∷ []))
+    ap (λ (text : List ℕ). take 32 (drop 9 text)) (row_text-front address bytes ∙ append_assoc (digits_of_address address ++ codes " ")
+    (encode_lower bytes) (10 ∷ []))
     ∙ ap (take 32) (drop_at (digits_of_address address ++ codes " ") (encode_lower bytes ++ 10 ∷ []) 9 nine)
     ∙ take_at (encode_lower bytes) (10 ∷ []) 32 (omega (arith, size, length-encode_with lower_digits bytes)) in
     let number : from_be_bytes w32 (bytes_of (take 8 line)) ≡ address =

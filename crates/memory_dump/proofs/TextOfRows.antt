@@ -32,7 +32,8 @@ range_rows : (m : Memory) (range : AddressRange) → flat_map (λ a. flat_map te
 unfolding addresses_in rows_text
 range_rows m range =
     flat_map-map (λ a. flat_map text_of_row (row_at m a)) (λ k. range.start + 16 * k) (range_with_len 0 ((range.end - range.start) / 16))
-    ∙ flat_same (λ k. flat_map text_of_row (row_at m (range.start + 16 * k))) (λ k. row_line m.fill (range.start + 16 * k) (bytes_at m (range.start + 16 * k) 16))
+    ∙ flat_same (λ k. flat_map text_of_row (row_at m (range.start + 16 * k)))
+    (λ k. row_line m.fill (range.start + 16 * k) (bytes_at m (range.start + 16 * k) 16))
     (λ k. row_text_at m (range.start + 16 * k)) (range_with_len 0 ((range.end - range.start) / 16))
 
 all_rows_text : (m : Memory) → flat_map text_of_row (flat_map (row_at m) (row_addresses m.top)) ≡ ranges_text m (ram_ranges m.top)

@@ -53,10 +53,13 @@ module _ {M : Type 1} {𝓤 : Ura M} (𝓛 : Logic 𝓤) (N b o : ℕ) (xs : Lis
   on : m + n ≤ N → length xs ≡ N → at o 1 (length front) ≡ m + o
   on le whole = at_byte o (length front) ∙ ap (λ (k : ℕ). k + o) (length-take-le m xs (omega arith))
 
-  pub part_out : m + n ≤ N → ent 𝓤 (sem 𝓛 (part_at (Array u8 N) full_share xs b o)) (guard 𝓤 ((length xs ≡ N) × (length mid ≡ n)) (sep 𝓤 (sem 𝓛 (cells (mem u8) mid b (m + o))) (sem 𝓛 Others)))
-  part_out le = qed 𝓛 (‵ (part_at (Array u8 N) full_share xs b o) ∷ []) ∵ use1 𝓛 (given (length xs ≡ N) (‵ (cells (mem u8) xs b o))) (array_out 𝓛 N b xs o) $ learn ! (λ whole.
+  pub part_out : m + n ≤ N → ent 𝓤 (sem 𝓛 (part_at (Array u8 N) full_share xs b o))
+      (guard 𝓤 ((length xs ≡ N) × (length mid ≡ n)) (sep 𝓤 (sem 𝓛 (cells (mem u8) mid b (m + o))) (sem 𝓛 Others)))
+  part_out le = qed 𝓛 (‵ (part_at (Array u8 N) full_share xs b o) ∷ []) ∵ use1 𝓛 (given (length xs ≡ N) (‵ (cells (mem u8) xs b o)))
+      (array_out 𝓛 N b xs o) $ learn ! (λ whole.
       rewrite ! 0 (λ (l : List ℕ). ‵ (cells (mem u8) l b o)) (in_three xs m n) refl $
-      use1 𝓛 (‵ (cells (mem u8) front b o) ⊛ ‵ (cells (mem u8) (mid ++ back) b (at o 1 (length front)))) (cut_app 𝓛 (mem u8) front (mid ++ back) b o) $ split ! $ move ! (1 ∷ []) $
+      use1 𝓛 (‵ (cells (mem u8) front b o) ⊛ ‵ (cells (mem u8) (mid ++ back) b (at o 1 (length front)))) (cut_app 𝓛 (mem u8) front (mid ++ back) b o)
+      $ split ! $ move ! (1 ∷ []) $
       rewrite ! 0 (λ (k : ℕ). ‵ (cells (mem u8) (mid ++ back) b k)) (on le whole) refl $
       use1 𝓛 (‵ (cells (mem u8) mid b (m + o)) ⊛ ‵ (cells (mem u8) back b (at (m + o) 1 (length mid)))) (cut_app 𝓛 (mem u8) mid back b (m + o)) $ split ! $
       move ! (2 ∷ 1 ∷ []) $ fjoin ! $ move ! (1 ∷ []) $ check ! (whole, long le whole) $ done !)

@@ -43,10 +43,12 @@ module _ {M : Type 1} {𝓤 : Ura M} (𝓛 : Logic 𝓤) (block : ℕ) where
 
   row_cut : (front back : Slots) (from to : ℕ) → to ≡ length front * 4096 + from
       → ent 𝓤 (sem 𝓛 (row_owns block from (front ++ back))) (sep 𝓤 (sem 𝓛 (row_owns block from front)) (sem 𝓛 (row_owns block to back)))
-  row_cut [] back from to e = qed 𝓛 (‵ (row_owns block from back) ∷ []) ∵ rewrite ! 0 (λ (k : ℕ). ‵ (row_owns block k back)) {x = to} (omega arith) refl $ nothing ! $ done !
+  row_cut [] back from to e = qed 𝓛 (‵ (row_owns block from back) ∷ []) ∵ rewrite ! 0 (λ (k : ℕ). ‵ (row_owns block k back)) {x = to} (omega arith)
+      refl $ nothing ! $ done !
   row_cut (slot ∷ front) back from to e =
       qed 𝓛 (‵ (row_owns block from (slot ∷ front ++ back)) ∷ []) ∵ fsplit ! $ move ! (1 ∷ []) $
-      use1 𝓛 (‵ (row_owns block (from + 4096) front) ⊛ ‵ (row_owns block to back)) (row_cut front back (from + 4096) to (omega arith)) $ split ! $ move ! (2 ∷ 0 ∷ []) $ fjoin ! $ done !
+      use1 𝓛 (‵ (row_owns block (from + 4096) front) ⊛ ‵ (row_owns block to back)) (row_cut front back (from + 4096) to (omega arith)) $ split ! $
+      move ! (2 ∷ 0 ∷ []) $ fjoin ! $ done !
 
   row_glue : (front back : Slots) (from to : ℕ) → to ≡ length front * 4096 + from
       → ent 𝓤 (sep 𝓤 (sem 𝓛 (row_owns block from front)) (sem 𝓛 (row_owns block to back))) (sem 𝓛 (row_owns block from (front ++ back)))
@@ -69,35 +71,42 @@ module _ {M : Type 1} {𝓤 : Ura M} (𝓛 : Logic 𝓤) (block : ℕ) where
     slot_out within =
         let rest : Slots = get_or slots index None ∷ drop (suc index) slots in
         qed 𝓛 (‵ (row_owns block from slots) ∷ []) ∵ rewrite ! 0 (λ (l : Slots). ‵ (row_owns block from l)) (parted slots index within) refl $
-        use1 𝓛 (‵ (row_owns block from (take index slots)) ⊛ ‵ (row_owns block (index * 4096 + from) rest)) (row_cut (take index slots) rest from (index * 4096 + from) (starts within)) $
+        use1 𝓛 (‵ (row_owns block from (take index slots)) ⊛ ‵ (row_owns block (index * 4096 + from) rest))
+        (row_cut (take index slots) rest from (index * 4096 + from) (starts within)) $
         split ! $ move ! (1 ∷ []) $ fsplit ! $ move ! (2 ∷ 1 ∷ []) $ fjoin ! $ move ! (1 ∷ []) $ done !
 
     pub slot_in : index < length slots → (slot : Option (List ℕ))
         → ent 𝓤 (sep 𝓤 (sem 𝓛 (place_owns block (index * 4096 + from) slot)) (sem 𝓛 Besides)) (sem 𝓛 (row_owns block from (set slots index slot)))
     slot_in within slot =
         let rest : Slots = slot ∷ drop (suc index) slots in
-        qed 𝓛 (‵ (place_owns block (index * 4096 + from) slot) ∷ ‵ Besides ∷ []) ∵ move ! (1 ∷ []) $ fsplit ! $ move ! (2 ∷ 1 ∷ []) $ fjoin ! $ move ! (1 ∷ 0 ∷ []) $
+        qed 𝓛 (‵ (place_owns block (index * 4096 + from) slot) ∷ ‵ Besides ∷ []) ∵ move ! (1 ∷ []) $ fsplit ! $ move ! (2 ∷ 1 ∷ []) $ fjoin ! $
+        move ! (1 ∷ 0 ∷ []) $
         use2 𝓛 (‵ (row_owns block from (take index slots ++ rest))) (row_glue (take index slots) rest from (index * 4096 + from) (starts within)) $
         rewrite ! 0 (λ (l : Slots). ‵ (row_owns block from l)) (sym (set_split slots index slot within)) refl $ done !
 
   module _ (κ : Lft) where
-    lent_behind : (front back : Slots) (from to : ℕ) → to ≡ length front * 4096 + from → ent 𝓤 (sem 𝓛 (row_lends block from (front ++ back) κ)) (sem 𝓛 (row_lends block to back κ))
-    lent_behind [] back from to e = let same : from ≡ to = omega arith in subst (λ (k : ℕ). ent 𝓤 (sem 𝓛 (row_lends block from back κ)) (sem 𝓛 (row_lends block k back κ))) same (id⊢ 𝓤 _)
+    lent_behind : (front back : Slots) (from to : ℕ) → to ≡ length front * 4096 + from
+        → ent 𝓤 (sem 𝓛 (row_lends block from (front ++ back) κ)) (sem 𝓛 (row_lends block to back κ))
+    lent_behind [] back from to e = let same : from ≡ to = omega arith in
+        subst (λ (k : ℕ). ent 𝓤 (sem 𝓛 (row_lends block from back κ)) (sem 𝓛 (row_lends block k back κ))) same (id⊢ 𝓤 _)
     lent_behind (slot ∷ front) back from to e =
-        let rest = sem 𝓛 (row_lends block (from + 4096) (front ++ back) κ) in via 𝓤 rest (snd∗ 𝓤 (sem 𝓛 (place_lends block from slot κ)) rest) (lent_behind front back (from + 4096) to (omega arith))
+        let rest = sem 𝓛 (row_lends block (from + 4096) (front ++ back) κ) in
+        via 𝓤 rest (snd∗ 𝓤 (sem 𝓛 (place_lends block from slot κ)) rest) (lent_behind front back (from + 4096) to (omega arith))
 
     pub slot_seen : (from : ℕ) (slots : Slots) (index : ℕ) → index < length slots
         → ent 𝓤 (sem 𝓛 (row_lends block from slots κ)) (sem 𝓛 (place_lends block (index * 4096 + from) (get_or slots index None) κ))
     slot_seen from slots index within =
         let rest : Slots = get_or slots index None ∷ drop (suc index) slots in
         qed 𝓛 (‵ (row_lends block from slots κ) ∷ []) ∵ rewrite ! 0 (λ (l : Slots). ‵ (row_lends block from l κ)) (parted slots index within) refl $
-        use1 𝓛 (‵ (row_lends block (index * 4096 + from) rest κ)) (lent_behind (take index slots) rest from (index * 4096 + from) (starts from slots index within)) $ fsplit ! $ keep ! (0 ∷ []) $ done !
+        use1 𝓛 (‵ (row_lends block (index * 4096 + from) rest κ)) (lent_behind (take index slots) rest from (index * 4096 + from)
+        (starts from slots index within)) $ fsplit ! $ keep ! (0 ∷ []) $ done !
 
   pub empty_row : (count from : ℕ) → ent 𝓤 (H.room (ty_array frame_ty count) block from) (sem 𝓛 (row_owns block from (replicate count None)))
   empty_row zero from = qed 𝓛 (‵ (froom (ty_array frame_ty 0) block from) ∷ []) ∵ keep ! [] $ done !
   empty_row (suc count) from =
       qed 𝓛 (‵ (froom (ty_array frame_ty (suc count)) block from) ∷ []) ∵
-      use1 𝓛 (‵ (froom frame_ty block from) ⊛ ‵ (froom (ty_array frame_ty count) block (from + 4096))) (𝓛.laws.room_uncons frame_ty count block from) $ split ! $
+      use1 𝓛 (‵ (froom frame_ty block from) ⊛ ‵ (froom (ty_array frame_ty count) block (from + 4096))) (𝓛.laws.room_uncons frame_ty count block from)
+      $ split ! $
       use1 𝓛 (‵ (place_owns block from None)) (𝓛.laws.room-raw frame_ty block from) $ frame ! $ by ! (empty_row count (from + 4096))
 
   place_room : (slot : Option (List ℕ)) (at : ℕ) → ent 𝓤 (sem 𝓛 (place_owns block at slot)) (H.room frame_ty block at)
@@ -107,5 +116,7 @@ module _ {M : Type 1} {𝓤 : Ura M} (𝓛 : Logic 𝓤) (block : ℕ) where
   pub row_room : (slots : Slots) (from : ℕ) → ent 𝓤 (sem 𝓛 (row_owns block from slots)) (H.room (ty_array frame_ty (length slots)) block from)
   row_room [] from = 𝓛.laws.room_nil frame_ty block from
   row_room (slot ∷ slots) from =
-      qed 𝓛 (‵ (place_owns block from slot) ∷ ‵ (row_owns block (from + 4096) slots) ∷ []) ∵ use1 𝓛 (‵ (froom frame_ty block from)) (place_room slot from) $ move ! (1 ∷ []) $
-      use1 𝓛 (‵ (froom (ty_array frame_ty (length slots)) block (from + 4096))) (row_room slots (from + 4096)) $ move ! (1 ∷ []) $ by ! (𝓛.laws.room_cons frame_ty (length slots) block from)
+      qed 𝓛 (‵ (place_owns block from slot) ∷ ‵ (row_owns block (from + 4096) slots) ∷ []) ∵ use1 𝓛 (‵ (froom frame_ty block from))
+      (place_room slot from) $ move ! (1 ∷ []) $
+      use1 𝓛 (‵ (froom (ty_array frame_ty (length slots)) block (from + 4096))) (row_room slots (from + 4096)) $ move ! (1 ∷ []) $
+      by ! (𝓛.laws.room_cons frame_ty (length slots) block from)

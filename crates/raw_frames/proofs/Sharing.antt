@@ -40,4 +40,5 @@ module _ (laws : Laws Frame) where
     pub block-made : (first : Ptr) (slots : List (Option (List ℕ))) → Lends 𝓛 (block_owns first slots) (block_lends first slots) span
     block-made null_ptr slots = Lends-false 𝓛 (said ffalse) span
     block-made (block_ptr block at) slots =
-        Lends-both 𝓛 (is_short slots) (row_owns block at slots) (said (is_short slots)) (row_lends block at slots) span (Lends-said 𝓛 (is_short slots) tt span) (row-made block at slots)
+        Lends-both 𝓛 (is_short slots) (row_owns block at slots) (said (is_short slots)) (row_lends block at slots) span
+        (Lends-said 𝓛 (is_short slots) tt span) (row-made block at slots)

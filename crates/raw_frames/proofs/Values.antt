@@ -61,10 +61,12 @@ ClaimFields A g = Struct (shape (C-type.the_type A g))
 
 module _ {M : Type 1} {𝓤 : Ura M} (𝓛 : Logic 𝓤) where
   pub start_made : (first : Ptr) → ent 𝓤 (emp 𝓤) (sem 𝓛 (S-type.the_row.own_val (record { first = first }) (word first ∷ [])))
-  start_made first = Struct-Makes 𝓛 (Declared.shape S-type.the_type) (RawPtr-plain, tt) (first, tt) (word first ∷ []) ((ptr_val first ∷ [], tt), (refl, (refl, tt)))
+  start_made first = Struct-Makes 𝓛 (Declared.shape S-type.the_type) (RawPtr-plain, tt) (first, tt) (word first ∷ [])
+      ((ptr_val first ∷ [], tt), (refl, (refl, tt)))
 
   pub places_made : ent 𝓤 (emp 𝓤) (sem 𝓛 (PlacesFields.own_val tt (places_val ∷ [])))
   places_made = Struct-Makes 𝓛 (shape P-type.the_type) tt tt (places_val ∷ []) (tt, (refl, tt))
 
   pub claim_made : (A : RattleType) (g : Ghosts A.Denot) → ent 𝓤 (emp 𝓤) (sem 𝓛 ((ClaimFields A g).own_val (tt, tt) (claim_val ∷ [])))
-  claim_made A g = Struct-Makes 𝓛 (shape (C-type.the_type A g)) (field_plain (marker.the_type RawPtr) tt, tt) (tt, tt) (claim_val ∷ []) ((vstruct vnil ∷ [], tt), (refl, ((tt, (refl, tt)), tt)))
+  claim_made A g = Struct-Makes 𝓛 (shape (C-type.the_type A g)) (field_plain (marker.the_type RawPtr) tt, tt) (tt, tt) (claim_val ∷ [])
+      ((vstruct vnil ∷ [], tt), (refl, ((tt, (refl, tt)), tt)))

@@ -57,7 +57,8 @@ pub(crate) fn take<A: Allocator>(
     count: usize,
 ) -> Result<(Start, Places, Claim<A>), AllocError>
     requires { count * 4096 < 2 ^ 63 }
-    ensures { IfOk result (λ r. (r.1.at ≡ r.0.first) × (r.1.slots ≡ replicate count None) × (r.2.at ≡ r.0.first) × (r.2.count ≡ count) × (r.2.alloc ≡ alloc.now)) }
+    ensures { IfOk result (λ r. (r.1.at ≡ r.0.first) × (r.1.slots ≡ replicate count None)
+        × (r.2.at ≡ r.0.first) × (r.2.count ≡ count) × (r.2.alloc ≡ alloc.now)) }
 {
     // A byte may lie anywhere, so the block is aligned to one byte.
     match alloc.allocate(count * FRAME_BYTES, 1) {

@@ -15,9 +15,11 @@ use Rattle.resource_decode.proofs.OneRecord.{laid_back, laid_stands}
 -- one that is written is read, whatever follows it
 pub item_back : (item : ResourceItem) (more : List ℕ) → FitsItem item → first_item (item_bytes item ++ more) ≡ Some item
 item_back (Port p) more fits =
-    ap (option_map Port) (laid_back 6 io_port_fields io_port_made p (record { back = refl; shaped = refl; counted = refl; readable = refl }) refl refl more fits)
+    ap (option_map Port) (laid_back 6 io_port_fields io_port_made p (record { back = refl; shaped = refl; counted = refl; readable = refl }) refl refl
+    more fits)
 item_back (Irq i) more fits =
-    ap (option_map Irq) (laid_back 2 irq_mask_fields irq_mask_made i (record { back = refl; shaped = refl; counted = refl; readable = refl }) refl refl more fits)
+    ap (option_map Irq) (laid_back 2 irq_mask_fields irq_mask_made i (record { back = refl; shaped = refl; counted = refl; readable = refl }) refl
+    refl more fits)
 item_back (Memory m) more fits =
     ap (option_map Memory)
     (laid_back 5 fixed_memory_fields fixed_memory_made m (record { back = refl; shaped = refl; counted = refl; readable = refl }) refl refl more fits)

@@ -42,13 +42,17 @@ item_back (Port p) more fits =
 item_back (Irq i) more fits =
     ap (item_of Irq) (written_read 2 irq_mask_fields irq_mask_made i (record { back = refl; shaped = refl; counted = refl; readable = refl }) refl more fits)
 item_back (Memory m) more fits =
-    ap (item_of Memory) (written_read 5 fixed_memory_fields fixed_memory_made m (record { back = refl; shaped = refl; counted = refl; readable = refl }) refl more fits)
+    ap (item_of Memory) (written_read 5 fixed_memory_fields fixed_memory_made m
+    (record { back = refl; shaped = refl; counted = refl; readable = refl }) refl more fits)
 item_back (Word s) more fits =
-    ap (item_of Word) (written_read 10 word_space_fields word_space_made s (record { back = refl; shaped = refl; counted = refl; readable = refl }) refl more fits)
+    ap (item_of Word) (written_read 10 word_space_fields word_space_made s (record { back = refl; shaped = refl; counted = refl; readable = refl })
+    refl more fits)
 item_back (Dword s) more fits =
-    ap (item_of Dword) (written_read 10 dword_space_fields dword_space_made s (record { back = refl; shaped = refl; counted = refl; readable = refl }) refl more fits)
+    ap (item_of Dword) (written_read 10 dword_space_fields dword_space_made s (record { back = refl; shaped = refl; counted = refl; readable = refl })
+    refl more fits)
 item_back (Qword s) more fits =
-    ap (item_of Qword) (written_read 10 qword_space_fields qword_space_made s (record { back = refl; shaped = refl; counted = refl; readable = refl }) refl more fits)
+    ap (item_of Qword) (written_read 10 qword_space_fields qword_space_made s (record { back = refl; shaped = refl; counted = refl; readable = refl })
+    refl more fits)
 
 -- so no item is without bytes, or begins as the End Tag does
 none_there : (item : ResourceItem) (bytes more : List ℕ) → FitsItem item → item_in bytes ≡ Err TooShort → bytes ≡ item_bytes item ++ more → ⊥

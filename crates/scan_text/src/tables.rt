@@ -1,6 +1,7 @@
 ghost use Rattle.std.specs.Prelude.{◌≡◌, OnOk, OnErr};
 ghost use Rattle.vt_outside.specs.Stream.{Took, TookFront};
-ghost use Rattle.scan_text.specs.List.{acpi_lines, foreign_dsdt, known_lines, known_tables, length_line, length_lines, line_if_there, oem_line, table_line, unread_lines};
+ghost use Rattle.scan_text.specs.List.{acpi_lines, foreign_dsdt, known_lines, known_tables, length_line, length_lines, line_if_there, oem_line};
+ghost use Rattle.scan_text.specs.List.{table_line, unread_lines};
 
 use crate::shown::push_shown;
 use crate::writing::write_line;

@@ -1,9 +1,8 @@
 -- How many bytes structures have.
-use Rattle.std.proofs.Common.{◌≡◌, ℕ, ◌+◌, ◌<◌, ◌≤◌, Bool, true, false, not, cond, min, max, List, [], ◌∷◌, ◌++◌, length, take, get_or, ◌==◌}
-use Rattle.std.proofs.Common.{if◌then◌else◌, arith, refl, ap, sym, ◌∙◌, subst, length-append}
+use Rattle.std.proofs.Common.{◌≡◌, ℕ, ◌+◌, ◌<◌, ◌≤◌, min, max, List, [], ◌∷◌, ◌++◌, length, take, get_or}
+use Rattle.std.proofs.Common.{arith, refl, ap, sym, ◌∙◌, subst, length-append}
 use Rattle.std.specs.List.{AllByRecursion}
 use Rattle.std.proofs.lemmas.List.{take_more, append-nil}
-use Rattle.std.proofs.lemmas.List.Elements.{filter-append}
 use Rattle.std.proofs.lemmas.Grind.{flat_map-append}
 use Rattle.vt_bytes.specs.Numbers.{le_bytes}
 use Rattle.vt_layout.specs.Fields.{Field, field_rows, field_texts, field_bytes, field_strings}
@@ -31,32 +30,6 @@ length-string_set (text ∷ texts) each =
     let last = length-append (with_nuls (text ∷ texts)) (0 ∷ []) in
     let first = length-append (text ++ 0 ∷ []) (with_nuls texts) in
     omega (arith, each.0.0, last, first, length-append text (0 ∷ []))
-
--- one text with its NUL, which is empty and then no string, or not
-length-one : (empty : Bool) (text : List ℕ) → length (with_nuls (cond (not empty) (text ∷ []) [])) ≡ cond empty 0 (length text + 1)
-length-one true text = refl
-length-one false text = omega (arith, length-append (text ++ 0 ∷ []) [], length-append text (0 ∷ []))
-
--- one text more
-length-with_nuls-more : (texts : List (List ℕ)) (text : List ℕ)
-    → length (with_nuls (strings_of (texts ++ text ∷ [])))
-    ≡ length (with_nuls (strings_of texts)) + (if length text == 0 then 0 else length text + 1)
-length-with_nuls-more texts text =
-    let last : List (List ℕ) = strings_of (text ∷ []) in
-    ap (λ strings. length (with_nuls strings)) (filter-append (λ (t : List ℕ). not (length t == 0)) texts (text ∷ []))
-    ∙ ap length (flat_map-append (λ (t : List ℕ). t ++ 0 ∷ []) (strings_of texts) last)
-    ∙ length-append (with_nuls (strings_of texts)) (with_nuls last)
-    ∙ ap (λ n. length (with_nuls (strings_of texts)) + n) (length-one (length text == 0) text)
-
--- the strings of one text more are counted
-pub one_counted : (texts : List (List ℕ)) (count total after most : ℕ) → count < length texts
-    → total ≡ min (length (with_nuls (strings_of (take count texts)))) most
-    → after ≡ min (total + (if length (get_or texts count []) == 0 then 0 else length (get_or texts count []) + 1)) most
-    → after ≡ min (length (with_nuls (strings_of (take (count + 1) texts)))) most
-one_counted texts count total after most within was is =
-    let more : take (count + 1) texts ≡ take count texts ++ get_or texts count [] ∷ [] = take_more texts count [] within in
-    let sizes = ap (λ front. length (with_nuls (strings_of front))) more ∙ length-with_nuls-more (take count texts) (get_or texts count []) in
-    omega (arith, sizes)
 
 -- a structure is counted by its area and its strings
 counted : (number handle : ℕ) (bytes : List ℕ) (texts : List (List ℕ)) (area strings total most : ℕ) → AllByRecursion IsString texts

@@ -1,5 +1,5 @@
 -- The bytes of a structure, part by part.
-use Rattle.std.proofs.Common.{◌≡◌, ℕ, ◌+◌, ◌^◌, ◌%◌, ◌<◌, ◌≤◌, List, [], ◌∷◌, ◌++◌, length, drop, Result, true, arith, ap, sym, ◌∙◌, subst, append_assoc}
+use Rattle.std.proofs.Common.{◌≡◌, ℕ, ◌+◌, ◌%◌, ◌≤◌, List, [], ◌∷◌, ◌++◌, length, drop, Result, true, arith, ap, sym, ◌∙◌, subst, append_assoc}
 use Rattle.std.specs.List.{list_all, AllByRecursion}
 use Rattle.std.specs.Result.{OnOk}
 use Rattle.std.proofs.lemmas.Result.{on_ok_weaker}
@@ -14,12 +14,10 @@ use Rattle.vt_layout.specs.Records.{is_readable, are_readable}
 use Rattle.vt_layout.proofs.ReadableFields.{all_readable}
 use Rattle.vt_layout.proofs.Sizes.{length-spelled}
 use Rattle.vt_layout.specs.Rows.{size as size_of_rows}
-use Rattle.smbios_model.specs.declared.smbios.Structure.{Structure}
 use Rattle.vt_layout.specs.Strings.{IsString, numbers_from, strings_of, string_set}
 use Rattle.vt_layout.specs.Numbered.{numbered}
-use Rattle.smbios_model.specs.Structures.{number_of, layout_of}
 use Rattle.smbios_model.specs.Smbios.{formatted}
-use Rattle.smbios_build.specs.Buildable.{IsPut, IsPutAs}
+use Rattle.smbios_build.specs.Buildable.{IsPutAs}
 use Rattle.smbios_build.proofs.Texts.{strings_of-strings}
 
 -- a header, the rows, and the strings of a set
@@ -56,17 +54,6 @@ fields_put number handle fields rows texts old new result readable rows_are text
       written = new_is ∙ ap (λ all. old ++ (formatted number handle (spelled all) ++ string_set (strings_of texts))) rows_are
           ∙ ap (λ all. old ++ (formatted number handle (spelled (numbered_rows fields)) ++ string_set (strings_of all))) texts_are;
       fits = fields_fit (numbers_from 1 (field_texts fields)) fields (all_readable fields readable) (subst (AllByRecursion IsRow) rows_are fit);
-    })
-    put
-
--- a structure is put
-pub put_as : (s : Structure) (old new : List ℕ) (result : Result (Unit {0}) OutOfMemory) → s.handle < 2 ^ 16
-    → OnOk result (IsPutAs (number_of s.body) s.handle (layout_of s.body).rows (layout_of s.body).texts old new) → OnOk result (IsPut s old new)
-put_as s old new result handle_fits put =
-    on_ok_weaker result
-    (λ (done : IsPutAs (number_of s.body) s.handle (layout_of s.body).rows (layout_of s.body).texts old new). record {
-      written = done.written;
-      fits = record { handle = handle_fits; rows = done.fits };
     })
     put
 

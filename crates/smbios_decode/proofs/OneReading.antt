@@ -1,5 +1,6 @@
 -- Bytes begin with one list of structures, or have one first fault, and not both.
-use Rattle.std.proofs.Common.{◌≡◌, ℕ, ◌+◌, List, [], ◌∷◌, ◌++◌, length, Result, Ok, Err, IfOk, IfErr, ◌⊎◌, inl, inr, ⊎_elim, length-append, arith, ap, sym, ◌∙◌, subst, append_assoc}
+use Rattle.std.proofs.Common.{◌≡◌, ℕ, ◌+◌, List, [], ◌∷◌, ◌++◌, length, Result, Ok, Err, IfOk, IfErr, ◌⊎◌, inl, inr, ⊎_elim, length-append, arith, ap}
+use Rattle.std.proofs.Common.{sym, ◌∙◌, subst, append_assoc}
 use Rattle.smbios_model.specs.declared.smbios.Structure.{Structure}
 use Rattle.smbios_model.specs.Smbios.{AreStructures}
 use Rattle.smbios_model.proofs.OneStructure.{one_structure}

@@ -1,5 +1,6 @@
 -- Structures that are read one after the other.
-use Rattle.std.proofs.Common.{◌≡◌, ◌≢◌, ℕ, zero, suc, ◌+◌, ◌-◌, ◌<◌, ◌≤◌, ◌⊎◌, inl, inr, ⊎_elim, true, false, List, [], ◌∷◌, ◌++◌, length, drop, ◌==◌, arith, refl, ap, sym, ◌∙◌, subst}
+use Rattle.std.proofs.Common.{◌≡◌, ◌≢◌, ℕ, zero, suc, ◌+◌, ◌-◌, ◌<◌, ◌≤◌, ◌⊎◌, inl, inr, ⊎_elim, true, false, List, [], ◌∷◌, ◌++◌, length, drop, ◌==◌}
+use Rattle.std.proofs.Common.{arith, refl, ap, sym, ◌∙◌, subst}
 use Rattle.std.proofs.Common.{append_assoc, length-append, length-drop}
 use Rattle.std.proofs.lemmas.Bool.{eqb-true, eqb-false}
 use Rattle.std.proofs.lemmas.List.{drop-drop, drop_at, nil_from_length}
@@ -97,7 +98,8 @@ not_last bytes place structures found is within goes_on next =
     record {
       within = within;
       read = λ more are.
-          let whole = is.read (found.structure ∷ more) (read_more (drop place bytes) next.first rest next.number found.structure more next.split other next.stands are) in
+          let whole = is.read (found.structure ∷ more) (read_more (drop place bytes) next.first rest next.number found.structure more next.split other
+          next.stands are) in
           subst (IsRead bytes) (sym (append_assoc structures (found.structure ∷ []) more)) whole;
       refused = λ before fault are.
           let there : AreRefused (place + length next.first) rest before fault =

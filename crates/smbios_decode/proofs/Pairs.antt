@@ -1,5 +1,6 @@
 -- The pairs of neighbours among bytes, and those that are two NULs.
-use Rattle.std.proofs.Common.{◌≡◌, ℕ, zero, suc, ◌+◌, ◌<◌, ◌≤◌, List, [], ◌∷◌, length, take, drop, Option, Some, None, MatchOption, IfSome, get_or, arith, refl, ap, sym, ◌∙◌, subst}
+use Rattle.std.proofs.Common.{◌≡◌, ℕ, zero, suc, ◌+◌, ◌<◌, ◌≤◌, List, [], ◌∷◌, length, take, drop, Option, Some, None, MatchOption, IfSome, get_or}
+use Rattle.std.proofs.Common.{arith, refl, ap, sym, ◌∙◌, subst}
 use Rattle.std.specs.List.{HoldsAt, AllWithin, slice_get}
 use Rattle.std.specs.Slice.Iter.{windows_rest, windows_size, windows_steps}
 use Rattle.std.proofs.lemmas.Iterator.{YieldsList}

@@ -1,5 +1,6 @@
 -- Bytes up to the first two NULs in a row, split at their NULs.
-use Rattle.std.proofs.Common.{◌≡◌, ℕ, zero, suc, ◌+◌, ◌<◌, ◌≤◌, Bool, true, false, not, List, [], ◌∷◌, ◌++◌, length, take, ◌==◌, Some, Result, Ok, Err, OnErr, arith, refl, ap, sym, ◌∙◌, subst}
+use Rattle.std.proofs.Common.{◌≡◌, ℕ, zero, suc, ◌+◌, ◌<◌, ◌≤◌, Bool, true, false, not, List, [], ◌∷◌, ◌++◌, length, take, ◌==◌, Some, Result, Ok}
+use Rattle.std.proofs.Common.{Err, OnErr, arith, refl, ap, sym, ◌∙◌, subst}
 use Rattle.std.proofs.Common.{append_assoc, append-nil, length-append}
 use Rattle.std.specs.List.{slice_get, slice_split, onto_first, list_all, AllByRecursion}
 use Rattle.std.proofs.lemmas.Bool.{eqb-true, and_from, not_from_false}

@@ -110,7 +110,8 @@ fitted_down number = grind (arith, nat_tests)
 pub kib_down : (i : MappedInfo) → (i.start ≡ 0xFFFFFFFF → ⊥) → (range_in i).size_mib * 1024 ≤ i.end - i.start + 1
 kib_down i low =
     let other : (i.start == 0xFFFFFFFF) ≡ false = grind (arith, nat_tests) in
-    let is = ap (λ (r : MemRange). r.size_mib) (cond-false (i.start == 0xFFFFFFFF) (told_in 0x100000 i.ext_start i.ext_end) (told_in 1024 i.start i.end) other) in
+    let is = ap (λ (r : MemRange). r.size_mib) (cond-false (i.start == 0xFFFFFFFF) (told_in 0x100000 i.ext_start i.ext_end)
+    (told_in 1024 i.start i.end) other) in
     omega (arith, is, fitted_down ((i.end - i.start + 1) / 1024))
 
 pub bytes_down : (i : MappedInfo) → i.start ≡ 0xFFFFFFFF → (range_in i).size_mib * 0x100000 ≤ i.ext_end - i.ext_start + 1

@@ -74,7 +74,8 @@ pub is_known : (body : Body) → IsOfKind body → IsKnownBody body (layout_of b
 is_known (Bios i) known = known_record 12 0 bios_fields bios_in Bios i (record { back = refl; shaped = refl; counted = refl; readable = refl }) refl
 is_known (System i) known = known_record 8 1 system_fields system_in System i (record { back = refl; shaped = refl; counted = refl; readable = refl }) refl
 is_known (Chassis i) known = known_record 15 3 chassis_fields chassis_in Chassis i (record { back = refl; shaped = refl; counted = refl; readable = refl }) refl
-is_known (Processor i) known = known_record 26 4 processor_fields processor_in Processor i (record { back = refl; shaped = refl; counted = refl; readable = refl }) refl
+is_known (Processor i) known = known_record 26 4 processor_fields processor_in Processor i
+    (record { back = refl; shaped = refl; counted = refl; readable = refl }) refl
 is_known (Slot i) known = known_record 11 9 slot_fields slot_in Slot i (record { back = refl; shaped = refl; counted = refl; readable = refl }) refl
 is_known (OemStrings texts) known =
     record { listed = refl; shaped = refl; plain = (tt, tt); back = λ numbers. refl; named = counted_texts 1 texts known }

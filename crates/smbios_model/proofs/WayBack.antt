@@ -20,7 +20,8 @@ use Rattle.smbios_model.specs.ToldParts.{oem_strings_in, the_system_in, the_firm
 use Rattle.smbios_model.proofs.GotBack.{system_back, slot_back, dimm_back, range_back}
 use Rattle.smbios_model.proofs.LawfulParts.{always, each_true, lawful_slots}
 use Rattle.smbios_model.proofs.PartsByType.{bodies_in, are_typed, of_type}
-use Rattle.smbios_model.proofs.ToldByType.{IsToldBy, told_of_type, firmware_type, system_type, chassis_type, socket_type, slot_type, texts_type, dimm_type, range_type}
+use Rattle.smbios_model.proofs.ToldByType.{IsToldBy, told_of_type, firmware_type, system_type, chassis_type, socket_type, slot_type, texts_type}
+use Rattle.smbios_model.proofs.ToldByType.{dimm_type, range_type}
 
 -- the node of a range, and a range on the first one
 abbrev node_of : MemRange → ℕ
@@ -106,7 +107,8 @@ ranges_back m accepted = ap (on_nodes (map node_of m.ranges)) (ranges_but_nodes 
 pub machine_back : (m : Machine) → IsAccepted m → HasFittingUuids m → machine_in m (structures_of m) ≡ m
 machine_back m accepted fits =
     let firmware = any_back m accepted 0 bios_body firmware_told firmware_type (option_to_list m.firmware) refl (λ f. refl) in
-    let system = got_back m accepted 1 system_body system_told system_type (m.system ∷ []) refl (ap Some (system_back m.system fits.system (own_uuid m accepted)), tt) in
+    let system = got_back m accepted 1 system_body system_told system_type (m.system ∷ []) refl
+    (ap Some (system_back m.system fits.system (own_uuid m accepted)), tt) in
     let chassis = any_back m accepted 3 chassis_body chassis_told chassis_type (option_to_list m.chassis) refl (λ c. refl) in
     let sockets = any_back m accepted 4 processor_body socket_told socket_type m.sockets refl (λ s. refl) in
     let slots = got_back m accepted 9 slot_body slot_told slot_type m.slots refl

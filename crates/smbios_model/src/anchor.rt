@@ -8,15 +8,15 @@ use vt_layout::{Row, ShortBytes};
 /// What the anchor of SMBIOS structures tells, without their address (DSP0134 5.2.2).
 #[derive(Clone, Copy, Debug, PartialEq, Eq)]
 pub struct Anchor {
-    /// How many bytes the anchor has.
+    /// How many bytes the anchor has. Offset 0x06, byte.
     pub length: u8,
-    /// The major version of the standard.
+    /// The major version of the standard. Offset 0x07, byte.
     pub major: u8,
-    /// The minor version.
+    /// The minor version. Offset 0x08, byte.
     pub minor: u8,
-    /// The revision of the document.
+    /// The revision of the document. Offset 0x09, byte.
     pub docrev: u8,
-    /// The most bytes that the structures have.
+    /// The most bytes that the structures have. Offset 0x0C, dword.
     pub maximum_size: u32,
 }
 

@@ -9,29 +9,29 @@ use vt_outside::{OutOfMemory, Text};
 /// BIOS Information (DSP0134 7.1). An empty text is no text.
 #[derive(Debug, Drop)]
 pub struct BiosInfo {
-    /// The vendor.
+    /// The vendor. Offset 0x04, string.
     pub vendor: Text,
-    /// The version.
+    /// The version. Offset 0x05, string.
     pub version: Text,
-    /// The segment of the address at which the BIOS begins.
+    /// The segment of the address at which the BIOS begins. Offset 0x06, word.
     pub segment: u16,
-    /// When it was released.
+    /// When it was released. Offset 0x08, string.
     pub date: Text,
-    /// The size of its ROM: so many times 64 KiB, and 64 KiB more.
+    /// The size of its ROM: so many times 64 KiB, and 64 KiB more. Offset 0x09, byte.
     pub rom_size: u8,
-    /// What it supports, a bit each (7.1.1).
+    /// What it supports, a bit each (7.1.1). Offset 0x0A, qword.
     pub characteristics: u64,
-    /// More of what it supports (7.1.2.1).
+    /// More of what it supports (7.1.2.1). Offset 0x12, byte.
     pub ext1: u8,
-    /// More of what it supports (7.1.2.2).
+    /// More of what it supports (7.1.2.2). Offset 0x13, byte.
     pub ext2: u8,
-    /// The major number of its release.
+    /// The major number of its release. Offset 0x14, byte.
     pub major: u8,
-    /// The minor number of its release.
+    /// The minor number of its release. Offset 0x15, byte.
     pub minor: u8,
-    /// The major number of the release of the embedded controller's firmware, or 0xFF for none.
+    /// The major number of the release of the embedded controller's firmware, or 0xFF for none. Offset 0x16, byte.
     pub ec_major: u8,
-    /// The minor number of that release, or 0xFF for none.
+    /// The minor number of that release, or 0xFF for none. Offset 0x17, byte.
     pub ec_minor: u8,
 }
 

@@ -6,7 +6,7 @@ use vt_layout::{Laid, RowList, Values};
 /// System Boot Information (DSP0134 7.33).
 #[derive(Clone, Copy, Debug, PartialEq, Eq)]
 pub struct BootInfo {
-    /// The status of the boot (7.33.1).
+    /// The status of the boot (7.33.1). Offset 0x0A, byte.
     pub status: u8,
 }
 

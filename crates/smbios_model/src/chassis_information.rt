@@ -9,35 +9,35 @@ use vt_outside::{OutOfMemory, Text};
 /// System Enclosure or Chassis (DSP0134 7.4). An empty text is no text.
 #[derive(Debug, Drop)]
 pub struct ChassisInfo {
-    /// The manufacturer.
+    /// The manufacturer. Offset 0x04, string.
     pub manufacturer: Text,
-    /// The type (7.4.1).
+    /// The type (7.4.1). Offset 0x05, byte.
     pub kind: u8,
-    /// The version.
+    /// The version. Offset 0x06, string.
     pub version: Text,
-    /// The serial number.
+    /// The serial number. Offset 0x07, string.
     pub serial: Text,
-    /// The asset tag.
+    /// The asset tag. Offset 0x08, string.
     pub asset: Text,
-    /// Its state when it was last booted (7.4.2).
+    /// Its state when it was last booted (7.4.2). Offset 0x09, byte.
     pub boot: u8,
-    /// The state of its power supplies (7.4.2).
+    /// The state of its power supplies (7.4.2). Offset 0x0A, byte.
     pub supply: u8,
-    /// Its thermal state (7.4.2).
+    /// Its thermal state (7.4.2). Offset 0x0B, byte.
     pub thermal: u8,
-    /// Its security (7.4.3).
+    /// Its security (7.4.3). Offset 0x0C, byte.
     pub security: u8,
-    /// What its maker says of it.
+    /// What its maker says of it. Offset 0x0D, dword.
     pub oem: u32,
-    /// Its height in rack units, or 0 where it is unknown.
+    /// Its height in rack units, or 0 where it is unknown. Offset 0x11, byte.
     pub height: u8,
-    /// How many power cords it has, or 0 where that is unknown.
+    /// How many power cords it has, or 0 where that is unknown. Offset 0x12, byte.
     pub cords: u8,
-    /// How many contained elements are listed.
+    /// How many contained elements are listed. Offset 0x13, byte.
     pub elements: u8,
-    /// How many bytes each of them has.
+    /// How many bytes each of them has. Offset 0x14, byte.
     pub element_length: u8,
-    /// The stock keeping unit.
+    /// The stock keeping unit. Offset 0x15, string.
     pub sku: Text,
 }
 

@@ -4,7 +4,7 @@
 //! The definitions say which records bytes are read as, and which table a view shows (DSP0134, 5.2.2, 6.1.2 and chapter 7). The
 //! contract is that each record, what it puts into its area and its strings and what is taken of them, and the structures of an accepted
 //! machine are those of the definitions; and the laws are that the area and the strings of a structure, as they are written, are read
-//! as its texts, and that each part of a machine is got back from its record.
+//! as its texts, and that each part of a machine is got back from its record, a range of memory but for its node.
 #![tactic(auto)]
 
 mod anchor;

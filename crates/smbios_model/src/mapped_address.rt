@@ -12,17 +12,17 @@ const EXTENDED_ADDRESS: u32 = 0xFFFF_FFFF;
 /// Memory Array Mapped Address (DSP0134 7.20).
 #[derive(Clone, Copy, Debug, PartialEq, Eq)]
 pub struct MappedInfo {
-    /// The first KiB, or 0xFFFFFFFF where the extended fields tell.
+    /// The first KiB, or 0xFFFFFFFF where the extended fields tell. Offset 0x04, dword.
     pub start: u32,
-    /// The last KiB, or 0xFFFFFFFF where the extended fields tell.
+    /// The last KiB, or 0xFFFFFFFF where the extended fields tell. Offset 0x08, dword.
     pub end: u32,
-    /// The handle of the array whose memory it is.
+    /// The handle of the array whose memory it is. Offset 0x0C, word.
     pub array: u16,
-    /// How many devices form a row of it.
+    /// How many devices form a row of it. Offset 0x0E, byte.
     pub width: u8,
-    /// The address of the first byte, or 0 where the first fields tell.
+    /// The address of the first byte, or 0 where the first fields tell. Offset 0x0F, qword.
     pub ext_start: u64,
-    /// The address of the last byte, or 0 where the first fields tell.
+    /// The address of the last byte, or 0 where the first fields tell. Offset 0x17, qword.
     pub ext_end: u64,
 }
 

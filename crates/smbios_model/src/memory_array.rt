@@ -17,19 +17,19 @@ const EXTENDED_CAPACITY: u32 = 0x8000_0000;
 /// Physical Memory Array (DSP0134 7.17).
 #[derive(Clone, Copy, Debug, PartialEq, Eq)]
 pub struct ArrayInfo {
-    /// Where it is (7.17.1).
+    /// Where it is (7.17.1). Offset 0x04, byte.
     pub location: u8,
-    /// What it is used for (7.17.2).
+    /// What it is used for (7.17.2). Offset 0x05, byte.
     pub purpose: u8,
-    /// How it corrects errors (7.17.3).
+    /// How it corrects errors (7.17.3). Offset 0x06, byte.
     pub correction: u8,
-    /// The greatest capacity in KiB, or 0x80000000 where the second field tells.
+    /// The greatest capacity in KiB, or 0x80000000 where the second field tells. Offset 0x07, dword.
     pub capacity: u32,
-    /// The handle of what tells of its errors, or 0xFFFE where there is none.
+    /// The handle of what tells of its errors, or 0xFFFE where there is none. Offset 0x0B, word.
     pub error: u16,
-    /// How many memory devices it has.
+    /// How many memory devices it has. Offset 0x0D, word.
     pub devices: u16,
-    /// The greatest capacity in bytes, or 0 where the first field tells.
+    /// The greatest capacity in bytes, or 0 where the first field tells. Offset 0x0F, qword.
     pub extended: u64,
 }
 

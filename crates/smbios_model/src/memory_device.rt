@@ -13,50 +13,50 @@ const EXTENDED_SIZE: u16 = 0x7FFF;
 /// Memory Device (DSP0134 7.18). An empty text is no text.
 #[derive(Debug, Drop)]
 pub struct DeviceInfo {
-    /// The handle of its array.
+    /// The handle of its array. Offset 0x04, word.
     pub array: u16,
-    /// The handle of what tells of its errors, or 0xFFFE where there is none.
+    /// The handle of what tells of its errors, or 0xFFFE where there is none. Offset 0x06, word.
     pub error: u16,
-    /// Its width in bits with those of error correction, or 0xFFFF where it is unknown.
+    /// Its width in bits with those of error correction, or 0xFFFF where it is unknown. Offset 0x08, word.
     pub total_width: u16,
-    /// Its width in bits without them, or 0xFFFF where it is unknown.
+    /// Its width in bits without them, or 0xFFFF where it is unknown. Offset 0x0A, word.
     pub data_width: u16,
     /// Its size in MiB, or in KiB with bit 15 set; 0 where none is installed, 0x7FFF where the second field tells, and 0xFFFF
-    /// where it is unknown.
+    /// where it is unknown. Offset 0x0C, word.
     pub size: u16,
-    /// Its form (7.18.1).
+    /// Its form (7.18.1). Offset 0x0E, byte.
     pub form: u8,
-    /// The set of devices that it belongs to, or 0 for none.
+    /// The set of devices that it belongs to, or 0 for none. Offset 0x0F, byte.
     pub set: u8,
-    /// What is printed at its socket.
+    /// What is printed at its socket. Offset 0x10, string.
     pub locator: Text,
-    /// What is printed at its bank.
+    /// What is printed at its bank. Offset 0x11, string.
     pub bank: Text,
-    /// The type of its memory (7.18.2).
+    /// The type of its memory (7.18.2). Offset 0x12, byte.
     pub kind: u8,
-    /// More of its type, a bit each (7.18.3).
+    /// More of its type, a bit each (7.18.3). Offset 0x13, word.
     pub detail: u16,
-    /// The greatest speed in MT/s, or 0 where it is unknown.
+    /// The greatest speed in MT/s, or 0 where it is unknown. Offset 0x15, word.
     pub speed: u16,
-    /// The manufacturer.
+    /// The manufacturer. Offset 0x17, string.
     pub manufacturer: Text,
-    /// The serial number.
+    /// The serial number. Offset 0x18, string.
     pub serial: Text,
-    /// The asset tag.
+    /// The asset tag. Offset 0x19, string.
     pub asset: Text,
-    /// The part number.
+    /// The part number. Offset 0x1A, string.
     pub part: Text,
-    /// Its rank, or 0 where it is unknown.
+    /// Its rank, or 0 where it is unknown. Offset 0x1B, byte.
     pub attributes: u8,
-    /// Its size in MiB, or 0 where the first field tells (7.18.4).
+    /// Its size in MiB, or 0 where the first field tells (7.18.4). Offset 0x1C, dword.
     pub extended: u32,
-    /// The speed in MT/s to which it is set, or 0 where it is unknown.
+    /// The speed in MT/s to which it is set, or 0 where it is unknown. Offset 0x20, word.
     pub configured: u16,
-    /// Its least voltage in mV, or 0 where it is unknown.
+    /// Its least voltage in mV, or 0 where it is unknown. Offset 0x22, word.
     pub min_voltage: u16,
-    /// Its greatest voltage in mV, or 0 where it is unknown.
+    /// Its greatest voltage in mV, or 0 where it is unknown. Offset 0x24, word.
     pub max_voltage: u16,
-    /// The voltage in mV to which it is set, or 0 where it is unknown.
+    /// The voltage in mV to which it is set, or 0 where it is unknown. Offset 0x26, word.
     pub voltage: u16,
 }
 

@@ -9,57 +9,57 @@ use vt_outside::{OutOfMemory, Text};
 /// Processor Information (DSP0134 7.5). An empty text is no text.
 #[derive(Debug, Drop)]
 pub struct ProcessorInfo {
-    /// What is printed at the socket.
+    /// What is printed at the socket. Offset 0x04, string.
     pub designation: Text,
-    /// The type of the processor (7.5.1).
+    /// The type of the processor (7.5.1). Offset 0x05, byte.
     pub kind: u8,
-    /// Its family (7.5.2), or 0xFE where the second field has it.
+    /// Its family (7.5.2), or 0xFE where the second field has it. Offset 0x06, byte.
     pub family: u8,
-    /// The manufacturer.
+    /// The manufacturer. Offset 0x07, string.
     pub manufacturer: Text,
-    /// What the processor itself tells of its model and its features (7.5.3).
+    /// What the processor itself tells of its model and its features (7.5.3). Offset 0x08, qword.
     pub id: u64,
-    /// The version.
+    /// The version. Offset 0x10, string.
     pub version: Text,
-    /// The voltage (7.5.4).
+    /// The voltage (7.5.4). Offset 0x11, byte.
     pub voltage: u8,
-    /// The external clock in MHz, or 0 where it is unknown.
+    /// The external clock in MHz, or 0 where it is unknown. Offset 0x12, word.
     pub clock: u16,
-    /// The greatest speed in MHz that the socket supports, or 0 where it is unknown.
+    /// The greatest speed in MHz that the socket supports, or 0 where it is unknown. Offset 0x14, word.
     pub max_speed: u16,
-    /// The speed in MHz at boot.
+    /// The speed in MHz at boot. Offset 0x16, word.
     pub speed: u16,
-    /// Whether the socket is populated, and the state of its processor (7.5).
+    /// Whether the socket is populated, and the state of its processor (7.5). Offset 0x18, byte.
     pub status: u8,
-    /// The socket's form (7.5.5).
+    /// The socket's form (7.5.5). Offset 0x19, byte.
     pub upgrade: u8,
-    /// The handle of its level 1 cache, or 0xFFFF where none is told.
+    /// The handle of its level 1 cache, or 0xFFFF where none is told. Offset 0x1A, word.
     pub l1: u16,
-    /// The handle of its level 2 cache, or 0xFFFF where none is told.
+    /// The handle of its level 2 cache, or 0xFFFF where none is told. Offset 0x1C, word.
     pub l2: u16,
-    /// The handle of its level 3 cache, or 0xFFFF where none is told.
+    /// The handle of its level 3 cache, or 0xFFFF where none is told. Offset 0x1E, word.
     pub l3: u16,
-    /// The serial number.
+    /// The serial number. Offset 0x20, string.
     pub serial: Text,
-    /// The asset tag.
+    /// The asset tag. Offset 0x21, string.
     pub asset: Text,
-    /// The part number.
+    /// The part number. Offset 0x22, string.
     pub part: Text,
-    /// How many cores it has, or 0xFF where the second field tells (7.5.6).
+    /// How many cores it has, or 0xFF where the second field tells (7.5.6). Offset 0x23, byte.
     pub cores: u8,
-    /// How many of them are enabled, or 0xFF where the second field tells (7.5.7).
+    /// How many of them are enabled, or 0xFF where the second field tells (7.5.7). Offset 0x24, byte.
     pub enabled: u8,
-    /// How many threads it has, or 0xFF where the second field tells (7.5.8).
+    /// How many threads it has, or 0xFF where the second field tells (7.5.8). Offset 0x25, byte.
     pub threads: u8,
-    /// What it supports, a bit each (7.5.9).
+    /// What it supports, a bit each (7.5.9). Offset 0x26, word.
     pub characteristics: u16,
-    /// Its family (7.5.2).
+    /// Its family (7.5.2). Offset 0x28, word.
     pub family2: u16,
-    /// How many cores it has.
+    /// How many cores it has. Offset 0x2A, word.
     pub cores2: u16,
-    /// How many of them are enabled.
+    /// How many of them are enabled. Offset 0x2C, word.
     pub enabled2: u16,
-    /// How many threads it has.
+    /// How many threads it has. Offset 0x2E, word.
     pub threads2: u16,
 }
 

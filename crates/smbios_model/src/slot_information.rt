@@ -8,27 +8,27 @@ use vt_outside::{OutOfMemory, Text};
 /// System Slots (DSP0134 7.10), one of them. An empty text is no text.
 #[derive(Debug, Drop)]
 pub struct SlotInfo {
-    /// What is printed at the slot.
+    /// What is printed at the slot. Offset 0x04, string.
     pub designation: Text,
-    /// Its type (7.10.1).
+    /// Its type (7.10.1). Offset 0x05, byte.
     pub kind: u8,
-    /// Its data bus width (7.10.2).
+    /// Its data bus width (7.10.2). Offset 0x06, byte.
     pub width: u8,
-    /// Whether it is used (7.10.3): 3 is free, 4 is used.
+    /// Whether it is used (7.10.3): 3 is free, 4 is used. Offset 0x07, byte.
     pub usage: u8,
-    /// Its length (7.10.4).
+    /// Its length (7.10.4). Offset 0x08, byte.
     pub length: u8,
-    /// Its id (7.10.5).
+    /// Its id (7.10.5). Offset 0x09, word.
     pub id: u16,
-    /// What it supports, a bit each (7.10.6).
+    /// What it supports, a bit each (7.10.6). Offset 0x0B, byte.
     pub char1: u8,
-    /// More of what it supports (7.10.7).
+    /// More of what it supports (7.10.7). Offset 0x0C, byte.
     pub char2: u8,
-    /// The number of its PCI segment group.
+    /// The number of its PCI segment group. Offset 0x0D, word.
     pub segment: u16,
-    /// The number of its PCI bus.
+    /// The number of its PCI bus. Offset 0x0F, byte.
     pub bus: u8,
-    /// Its device number times 8, and its function number.
+    /// Its device number times 8, and its function number. Offset 0x10, byte.
     pub device_function: u8,
 }
 

@@ -37,7 +37,7 @@ pub struct SmbiosTable {
 /// A structure (DSP0134 6.1.2).
 #[derive(Debug, Drop)]
 pub struct Structure {
-    /// Its handle.
+    /// Its handle. Offset 0x02, word.
     pub handle: u16,
     /// What it says.
     pub body: Body,

@@ -9,21 +9,21 @@ use vt_outside::{OutOfMemory, Text};
 /// System Information (DSP0134 7.2). An empty text is no text.
 #[derive(Debug, Drop)]
 pub struct SystemInfo {
-    /// The manufacturer.
+    /// The manufacturer. Offset 0x04, string.
     pub manufacturer: Text,
-    /// The product's name.
+    /// The product's name. Offset 0x05, string.
     pub product: Text,
-    /// The version.
+    /// The version. Offset 0x06, string.
     pub version: Text,
-    /// The serial number.
+    /// The serial number. Offset 0x07, string.
     pub serial: Text,
-    /// The UUID, whose first three fields are little-endian; sixteen zeros mean none (7.2.1).
+    /// The UUID, whose first three fields are little-endian; sixteen zeros mean none (7.2.1). Offset 0x08, 16 bytes.
     pub uuid: [u8; 16],
-    /// Why the machine woke up (7.2.2).
+    /// Why the machine woke up (7.2.2). Offset 0x18, byte.
     pub wake_up: u8,
-    /// The stock keeping unit.
+    /// The stock keeping unit. Offset 0x19, string.
     pub sku: Text,
-    /// The family.
+    /// The family. Offset 0x1A, string.
     pub family: Text,
 }
 

@@ -1,5 +1,5 @@
 -- What the answer of a candidate says, by what was found of its items.
-use Rattle.std.proofs.Common.{◌≡◌, ℕ, ◌⊎◌, Option, Some, None, Result, Ok, Err, IfOk, IfErr, MatchOption, inl, inr, refl, sym, ap, ◌∙◌}
+use Rattle.std.proofs.Common.{◌≡◌, ℕ, ◌⊎◌, Option, Some, None, Result, Ok, Err, IfOk, IfErr, MatchOption, inl, inr, refl, ap, ◌∙◌}
 use Rattle.vt_outside.specs.declared.fault.OutOfMemory.{OutOfMemory}
 use Rattle.machine_desc.specs.declared.machine.Machine.{Machine}
 use Rattle.machine_desc.specs.Rules.{IsAccepted}
@@ -20,12 +20,6 @@ pub accepted_answer : (i : Inventory) (m : Machine) (found : Result (Option ℕ)
 accepted_answer i m (Ok None) told = told.0
 accepted_answer i m (Ok (Some item)) told = tt
 accepted_answer i m (Err fault) told = tt
-
-pub its_answer : (i : Inventory) (m : Machine) (found : Result (Option ℕ) OutOfMemory) → IsFound i m found
-    → IfOk (answered m found) (λ machine. inventory_of machine ≡ i)
-its_answer i m (Ok None) told = sym told.1
-its_answer i m (Ok (Some item)) told = tt
-its_answer i m (Err fault) told = tt
 
 pub found_answer : (i : Inventory) (m : Machine) (found : Result (Option ℕ) OutOfMemory) → m ≡ candidate i → IsFound i m found → (machine : Machine)
     → IsAccepted machine → HasFittingFields machine → inventory_of machine ≡ i

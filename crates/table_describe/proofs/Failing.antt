@@ -41,7 +41,8 @@ agree_in_all a b same = subst (AgreeInAll items a) same (refl, (refl, (refl, (re
 pub none_fails : (i : Inventory) (m : Machine) (item : ℕ) → IsAccepted m → HasFittingFields m → inventory_of m ≡ i → IsFirstFailing i item → ⊥
 none_fails i m item accepted fits is failing =
     let its : candidate i ≡ m = ap candidate (sym is) ∙ machine_back m accepted fits in
-    fails (subst (λ (those : Machine). ((item ≡ 0) × (IsAccepted those → ⊥)) ⊎ (IsAccepted those × IsFirstDifference 1 items i (inventory_of those) item)) its failing)
+    fails (subst (λ (those : Machine). ((item ≡ 0) × (IsAccepted those → ⊥)) ⊎
+    (IsAccepted those × IsFirstDifference 1 items i (inventory_of those) item)) its failing)
   where
     fails : ((item ≡ 0) × (IsAccepted m → ⊥)) ⊎ (IsAccepted m × IsFirstDifference 1 items i (inventory_of m) item) → ⊥
     fails (inl unlawful) = unlawful.1 accepted

@@ -1,5 +1,6 @@
 -- The candidate of an accepted machine's inventory is the machine.
-use Rattle.std.proofs.Common.{◌≡◌, ℕ, ◌*◌, ◌/◌, ◌<◌, ◌^◌, List, [], length, map, Option, Some, None, IfSome, option_map, option_and_then, refl, arith, sym, ap, ap₂, ◌∙◌}
+use Rattle.std.proofs.Common.{◌≡◌, ℕ, ◌*◌, ◌/◌, ◌<◌, ◌^◌, List, [], length, map, Option, Some, None, IfSome, option_map, option_and_then, refl, arith}
+use Rattle.std.proofs.Common.{sym, ap, ap₂, ◌∙◌}
 use Rattle.machine_desc.specs.declared.machine.Machine.{Machine}
 use Rattle.machine_desc.specs.declared.machine.Acpi.{Acpi}
 use Rattle.machine_desc.specs.declared.acpi_parts.Power.{Power}
@@ -55,7 +56,8 @@ none_back m told bridge uarts none accepted fits = record {
   power = ap (option_map (power_told told.rtc told.keyboard)) (no_fadt m none accepted fits) ∙ sym none;
 }
 
-some_back : (m : Machine) (told : DsdtDevices) → told ≡ record { bridge = option_map without_ecam m.bridge; uarts = m.uarts; rtc = has_clock m.power; keyboard = has_keyboard m.power }
+some_back : (m : Machine) (told : DsdtDevices)
+    → told ≡ record { bridge = option_map without_ecam m.bridge; uarts = m.uarts; rtc = has_clock m.power; keyboard = has_keyboard m.power }
     → IsAccepted m → HasFittingFields m → AreBack m told
 some_back m told is accepted fits = record {
   bridge = ap (λ (d : DsdtDevices). d.bridge) is;

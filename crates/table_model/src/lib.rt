@@ -2,7 +2,7 @@
 //!
 //! The records of SMBIOS structures are those of `smbios_model`, and those of ACPI tables are those of `acpi_model`; both are passed
 //! on. The contract is that `inventory_of` gives the inventory of a machine exactly, and the laws are that a view shows at most one
-//! inventory, and that no two machines have the same one.
+//! inventory, and that no two accepted machines, whose UUIDs and last buses fit their types, have the same one.
 #![tactic(auto)]
 
 mod inventory;

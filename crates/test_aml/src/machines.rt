@@ -177,7 +177,8 @@ static POWERS: [(&str, &[u8]); 4] = [
     ),
     // a device of each kind
     (
-        " }\nbridge = {}\nuart = [{ port = 0x3F8, irq = 4 }]\nhpet = {}\napic = {}\ncpu = [{ apic = 0 }]\ngeneration = '8A6E9C4A-6E6B-4B0E-9C2E-1D0F5A3B7C91'\n",
+        " }\nbridge = {}\nuart = [{ port = 0x3F8, irq = 4 }]\nhpet = {}\napic = {}\ncpu = [{ apic = 0 }]\n\
+         generation = '8A6E9C4A-6E6B-4B0E-9C2E-1D0F5A3B7C91'\n",
         b"\x10\x47\x14\x5c_SB_\
           \x5b\x82\x3ePCI0\x08_HID\x0c\x41\xd0\x0a\x03\x08_UID\x00\x08_BBN\x00\
           \x08_CRS\x11\x15\x0a\x12\

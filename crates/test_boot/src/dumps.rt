@@ -16,19 +16,25 @@ static SPELLINGS: [&str; 9] = [
     // an inline table, a literal string, an escape, and a UUID with no hyphens in upper case
     "version = 1\ntop_mib = 64\nsystem = { manufacturer = 'ACME', product = \"V\\u004d\", uuid = \"00112233445566778899AABBCCDDEEFF\" }\n",
     // quoted and dotted keys, hexadecimal numbers, a multi-line string, a comment, and a UUID in braces
-    "\"version\" = 0x1 # the first\ntop_mib = 0x40\nsystem.manufacturer = \"\"\"\nACME\"\"\"\nsystem . \"product\" = 'VM'\n'system'.uuid = '{00112233-4455-6677-8899-aabbccddeeff}'\n",
+    "\"version\" = 0x1 # the first\ntop_mib = 0x40\nsystem.manufacturer = \"\"\"\nACME\"\"\"\nsystem . \"product\" = 'VM'\n\
+     'system'.uuid = '{00112233-4455-6677-8899-aabbccddeeff}'\n",
     // a line that goes on, a multi-line literal string, an escape of eight digits, and a UUID as a URN
-    "version = 1\ntop_mib = 64\n[system]\nuuid = \"urn:uuid:00112233-4455-6677-8899-aabbccddeeff\"\nproduct = '''\nVM'''\nmanufacturer = \"\"\"AC\\\n    \\U0000004dE\"\"\"\n",
+    "version = 1\ntop_mib = 64\n[system]\nuuid = \"urn:uuid:00112233-4455-6677-8899-aabbccddeeff\"\nproduct = '''\nVM'''\n\
+     manufacturer = \"\"\"AC\\\n    \\U0000004dE\"\"\"\n",
     // an underscore, a sign, CRLF, no spaces and many, an empty text, hyphens with upper case, and no last line feed
-    "top_mib = 6_4\r\nversion = +1\r\n\r\n [ system ] \r\nproduct=\"VM\"\r\n\tmanufacturer   =   \"ACME\"   \r\nserial=\"\"\r\nuuid=\"00112233-4455-6677-8899-AABBCCDDEEFF\"",
+    "top_mib = 6_4\r\nversion = +1\r\n\r\n [ system ] \r\nproduct=\"VM\"\r\n\tmanufacturer   =   \"ACME\"   \r\nserial=\"\"\r\n\
+     uuid=\"00112233-4455-6677-8899-AABBCCDDEEFF\"",
     // binary and octal numbers, empty texts of each form, and comments
-    "# a machine\nversion = 0b1\ntop_mib = 0o100\n# its product\n[system]\nmanufacturer = \"ACME\"\nproduct = \"VM\" # \"no VM\"\nversion = \"\"\nsku = ''\nserial = \"\"\"\"\"\"\nfamily = ''''''\nuuid = \"00112233-4455-6677-8899-aabbccddeeff\"\n",
+    "# a machine\nversion = 0b1\ntop_mib = 0o100\n# its product\n[system]\nmanufacturer = \"ACME\"\nproduct = \"VM\" # \"no VM\"\n\
+     version = \"\"\nsku = ''\nserial = \"\"\"\"\"\"\nfamily = ''''''\nuuid = \"00112233-4455-6677-8899-aabbccddeeff\"\n",
     // a byte order mark
     "\u{feff}version = 1\ntop_mib = 64\n[system]\nmanufacturer = \"ACME\"\nproduct = \"VM\"\nuuid = \"00112233-4455-6677-8899-aabbccddeeff\"\n",
     // an escape in a quoted key
-    "\"vers\\u0069on\" = 1\n\"top_mib\" = 64\nsystem.\"pro\\U00000064uct\" = \"VM\"\nsystem.manufacturer = \"ACME\"\nsystem.uuid = \"00112233-4455-6677-8899-aabbccddeeff\"\n",
+    "\"vers\\u0069on\" = 1\n\"top_mib\" = 64\nsystem.\"pro\\U00000064uct\" = \"VM\"\nsystem.manufacturer = \"ACME\"\n\
+     system.uuid = \"00112233-4455-6677-8899-aabbccddeeff\"\n",
     // a table's quoted header, and digits with more underscores
-    "version = 0x0_1\ntop_mib = 0b100_0000\n[ \"system\" ]\n'manufacturer' = \"\\u0041\\u0043\\u004D\\u0045\"\n\"product\" = \"VM\"\nuuid = \"{00112233-4455-6677-8899-AABBCCDDEEFF}\"\n",
+    "version = 0x0_1\ntop_mib = 0b100_0000\n[ \"system\" ]\n'manufacturer' = \"\\u0041\\u0043\\u004D\\u0045\"\n\
+     \"product\" = \"VM\"\nuuid = \"{00112233-4455-6677-8899-AABBCCDDEEFF}\"\n",
     // keys in another order
     "system.uuid = \"00112233-4455-6677-8899-aabbccddeeff\"\ntop_mib = 64\nsystem.product = \"VM\"\nversion = 1\nsystem.manufacturer = \"ACME\"\n",
 ];

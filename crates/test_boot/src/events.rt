@@ -1,10 +1,8 @@
-//! The policies and the seeds of a boot, and the events of a plan: what the guest's other processors write is left where nothing guards it,
-//! and changes nothing else.
+//! The highest places, and the events of a plan: what the guest's other processors write is left where nothing guards it, and changes
+//! nothing else.
 
 use firmware_load::{Event, ListSchedule};
-use fixtures::{
-    BOOTED, Ending, MINIMAL, MINIMAL_DUMP, Run, SEEDED_ROOM, boot, booted, ends, ends_over, plan_of,
-};
+use fixtures::{Ending, MINIMAL, MINIMAL_DUMP, Run, boot, booted, ends, ends_over, plan_of};
 use std::alloc::Global;
 use std::test::Fail;
 use vmtables::World;
@@ -61,7 +59,7 @@ fn ends_over_plan(alloc: Global, plan: &mut ListSchedule, ending: &Ending) -> Re
 
 // The table of 42 bytes at the highest place below 0x04000000 that 16 divides, and the anchor of 24 bytes at the highest below 0x00100000.
 // The bytes of the table's address sum to d1 in place of 03, so that the checksum is ce less.
-const AT_THE_TOP_DUMP: &str = "top 04000000 fill 00
+pub(crate) const AT_THE_TOP_DUMP: &str = "top 04000000 fill 00
 000fffe0 5f534d335f581803000001002a000000
 000ffff0 d0ffff03000000000000000000000000
 03ffffd0 011b0001010200003322110055447766
@@ -97,30 +95,6 @@ fn places_at_the_top(rt: HostRuntime) -> Result<(), Fail> {
     Ok(())
 }
 
-static POLICIES: [&str; 3] = ["low", "top", "scatter"];
-
-static SEEDS: [&str; 4] = ["0", "1", "77", "18446744073709551615"];
-
-#[test]
-fn each_policy_with_seeds(rt: HostRuntime) -> Result<(), Fail> {
-    for policy in &POLICIES {
-        all_boot(rt.alloc(), policy)?;
-    }
-    Ok(())
-}
-
-fn all_boot(alloc: Global, policy: &str) -> Result<(), Fail> {
-    for seed in &SEEDS {
-        ends_in_words(
-            alloc,
-            policy,
-            &["boot", "--policy", policy, "--seed", seed],
-            &BOOTED,
-        )?;
-    }
-    Ok(())
-}
-
 // The minimal machine, booted by these words, ends so.
 fn ends_in_words<'a>(
     alloc: Global,
@@ -130,7 +104,6 @@ fn ends_in_words<'a>(
 ) -> Result<(), Fail> {
     let run = Run {
         words,
-        room: SEEDED_ROOM,
         ..boot(case, MINIMAL.as_bytes())
     };
     ends(alloc, &run, ending)

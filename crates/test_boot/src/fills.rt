@@ -5,20 +5,19 @@ use fixtures::{MINIMAL, MINIMAL_DUMP, Run, boot, booted, ends};
 use std::alloc::Global;
 use std::test::Fail;
 
-// Two digits, and the dump. Of the bytes 52, 53 and 5f the marks of an RSDP and an anchor begin.
-static DUMPS: [(&str, &str); 5] = [
-    ("00", MINIMAL_DUMP),
-    (
-        "a5",
-        "top 04000000 fill a5
+pub(crate) const FILLED_WITH_A5_DUMP: &str = "top 04000000 fill a5
 000f0000 5f534d335f261803000001002a000000
 000f0010 0000000300000000a5a5a5a5a5a5a5a5
 03000000 011b0001010200003322110055447766
 03000010 8899aabbccddeeff06000041434d4500
 03000020 564d00007f04007f0000a5a5a5a5a5a5
 end
-",
-    ),
+";
+
+// Two digits, and the dump. Of the bytes 52, 53 and 5f the marks of an RSDP and an anchor begin.
+static DUMPS: [(&str, &str); 5] = [
+    ("00", MINIMAL_DUMP),
+    ("a5", FILLED_WITH_A5_DUMP),
     (
         "ff",
         "top 04000000 fill ff

@@ -1,8 +1,11 @@
 //! What the host is told of the id of a machine's generation: the item `etc/vmgenid_addr` of fw_cfg holds the address, and there the id stands
 //! in memory.
 
+use crate::generation_dumps::{AT_THE_TOP_DUMP, AT_THE_TOP_OF_SEED_1_DUMP, OF_SEED_7_DUMP};
 use cfg_dma::{Finished, Kind};
-use fixtures::{BOOTED, Run, SEEDED_ROOM, WITH_GENERATION, boot, ends_in, is_same};
+use fixtures::{
+    Ending, Run, SEEDED_ROOM, WITH_GENERATION, WITH_GENERATION_DUMP, boot, booted, ends_in, is_same,
+};
 use std::alloc::Global;
 use std::test::Fail;
 use vmtables::{State, World};
@@ -15,36 +18,50 @@ const ID_ITEM: u16 = 0x26;
 // Its first three fields stand low byte first.
 const ID: [u8; 16] = *b"\x0c\x5e\x1a\x6f\x4d\x2b\x7e\x4c\x9a\x38\x0d\x5c\x1b\x7e\x42\xf9";
 
-// Words of a boot, and the address of the id: at 40 in the file `etc/vmgenid_guid`, the second in high memory.
-static BOOTS: [(&[&str], u64); 4] = [
-    (&["boot"], 0x300_1028),
-    (&["boot", "--fill", "a5", "--seed", "7"], 0x300_1028),
-    (&["boot", "--policy", "top"], 0x3FF_E028),
-    (&["boot", "--policy", "top", "--seed", "1"], 0x3FF_E028),
+// Words of a boot, the address of the id, and the dump. The id is at 40 in the file `etc/vmgenid_guid`, the second in high memory.
+static BOOTS: [(&[&str], u64, &str); 4] = [
+    (&["boot"], 0x300_1028, WITH_GENERATION_DUMP),
+    (
+        &["boot", "--fill", "a5", "--seed", "7"],
+        0x300_1028,
+        OF_SEED_7_DUMP,
+    ),
+    (&["boot", "--policy", "top"], 0x3FF_E028, AT_THE_TOP_DUMP),
+    (
+        &["boot", "--policy", "top", "--seed", "1"],
+        0x3FF_E028,
+        AT_THE_TOP_OF_SEED_1_DUMP,
+    ),
 ];
 
 #[test]
 fn the_host_is_told(rt: HostRuntime) -> Result<(), Fail> {
-    for (words, address) in &BOOTS {
-        tells(rt.alloc(), words, *address)?;
+    for (words, address, dump) in &BOOTS {
+        tells(rt.alloc(), words, *address, &booted(dump))?;
     }
     Ok(())
 }
 
-fn tells(alloc: Global, words: &[&str], address: u64) -> Result<(), Fail> {
+fn tells(alloc: Global, words: &[&str], address: u64, ending: &Ending) -> Result<(), Fail> {
     let mut world = World::idle();
-    let told = tells_in(alloc, words, &mut world, address);
+    let told = tells_in(alloc, words, &mut world, address, ending);
     drop(world);
     told
 }
 
-fn tells_in(alloc: Global, words: &[&str], world: &mut World, address: u64) -> Result<(), Fail> {
+fn tells_in(
+    alloc: Global,
+    words: &[&str],
+    world: &mut World,
+    address: u64,
+    ending: &Ending,
+) -> Result<(), Fail> {
     let run = Run {
         words,
         room: SEEDED_ROOM,
         ..boot("an id", WITH_GENERATION.as_bytes())
     };
-    ends_in(alloc, &run, world, &BOOTED)?;
+    ends_in(alloc, &run, world, ending)?;
     holds_the_address(world, address)?;
     is_same("an id", "memory", &id_at(world, address), &Some(ID))
 }
@@ -121,7 +138,7 @@ fn the_last_transfers(rt: HostRuntime) -> Result<(), Fail> {
 
 fn ends_with_a_write(alloc: Global, world: &mut World) -> Result<(), Fail> {
     let run = boot("an id", WITH_GENERATION.as_bytes());
-    ends_in(alloc, &run, world, &BOOTED)?;
+    ends_in(alloc, &run, world, &booted(WITH_GENERATION_DUMP))?;
     match world.state() {
         State::Done => is_same(
             "an id",

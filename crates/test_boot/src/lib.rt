@@ -14,6 +14,8 @@ mod events;
 #[cfg(test)]
 mod fills;
 #[cfg(test)]
+mod generation_dumps;
+#[cfg(test)]
 mod generations;
 #[cfg(test)]
 mod limits;
@@ -25,6 +27,8 @@ mod places;
 mod refused_systems;
 #[cfg(test)]
 mod says;
+#[cfg(test)]
+mod seeds;
 #[cfg(test)]
 mod sinks;
 #[cfg(test)]

@@ -1,11 +1,9 @@
 //! Descriptions with every part that SMBIOS tells, and the dumps of the machines that they describe.
 
 use crate::dumps::is_dumped;
-use fixtures::{BOOTED, EVERY_PART, EVERY_PART_DUMP, Run, boot, copy_of, ends_in, is_same};
+use fixtures::{EVERY_PART, EVERY_PART_DUMP};
 use std::alloc::Global;
 use std::test::Fail;
-use vmtables::{State, World};
-use vt_outside::{Bytes, OutOfMemory};
 
 // Counts of cores at the border of their byte; sizes of modules at the border of their field, and the greatest one; ranges that end below
 // 4 TiB, at 4 TiB, and at the greatest address.
@@ -110,100 +108,4 @@ fn parts_and_their_dumps(rt: HostRuntime) -> Result<(), Fail> {
 
 fn has_dump(alloc: Global, description: &str, dump: &str) -> Result<(), Fail> {
     is_dumped(alloc, description, description.as_bytes(), dump)
-}
-
-// A machine with 256 sockets and 256 modules, each of whose texts has 64 bytes.
-#[test]
-fn the_greatest_machine(rt: HostRuntime) -> Result<(), Fail> {
-    let description = greatest(rt.alloc())?;
-    ends_as_the_greatest(rt.alloc(), description.as_slice())
-}
-
-// Each socket has 0x30 bytes, six texts with a NUL each, and a NUL, and each module 0x28 with as many; System Information has 0x1B bytes and two
-// NULs, the array 0x17 and two, the range 0x1F and two, and the end 4 and two. These are 222,813 bytes, which the anchor tells.
-const SIZE_OF_ITS_STRUCTURES: [u8; 4] = [0x5D, 0x66, 0x03, 0x00];
-
-fn ends_as_the_greatest(alloc: Global, description: &[u8]) -> Result<(), Fail> {
-    let mut world = World::idle();
-    let shown = shows_the_greatest(alloc, description, &mut world);
-    drop(world);
-    shown
-}
-
-fn shows_the_greatest(alloc: Global, description: &[u8], world: &mut World) -> Result<(), Fail> {
-    let run = Run {
-        room: 0x10_0000,
-        ..boot("the greatest machine", description)
-    };
-    ends_in(alloc, &run, world, &BOOTED)?;
-    is_same(
-        run.case,
-        "size",
-        &size_in_anchor(world),
-        &Some(SIZE_OF_ITS_STRUCTURES),
-    )
-}
-
-// How many bytes of structures the anchor tells, where a machine is loaded (DSP0134 5.2.2).
-fn size_in_anchor(world: &World) -> Option<[u8; 4]> {
-    match world.state() {
-        State::Done => Some([
-            world.memory().read(0xF_000C),
-            world.memory().read(0xF_000D),
-            world.memory().read(0xF_000E),
-            world.memory().read(0xF_000F),
-        ]),
-        _ => None,
-    }
-}
-
-fn greatest(alloc: Global) -> Result<Bytes, OutOfMemory> {
-    let mut text = copy_of(
-        alloc,
-        b"version = 1\ntop_mib = 64\nsystem = {}\nrange = [{ base_mib = 0, size_mib = 64 }]\n",
-    )?;
-    put_parts(&mut text)?;
-    Ok(text)
-}
-
-fn put_parts(text: &mut Bytes) -> Result<(), OutOfMemory> {
-    for _ in 0..256 {
-        put_socket(text)?;
-        put_dimm(text)?;
-    }
-    Ok(())
-}
-
-fn put_socket(text: &mut Bytes) -> Result<(), OutOfMemory> {
-    text.extend(b"[[socket]]\ncores = 8\nthreads = 16\n")?;
-    put_texts(text, &SOCKET_TEXTS)
-}
-
-fn put_dimm(text: &mut Bytes) -> Result<(), OutOfMemory> {
-    text.extend(b"[[dimm]]\nsize_mib = 16384\n")?;
-    put_texts(text, &DIMM_TEXTS)
-}
-
-static SOCKET_TEXTS: [&str; 6] = [
-    "designation",
-    "manufacturer",
-    "version",
-    "serial",
-    "asset",
-    "part",
-];
-
-static DIMM_TEXTS: [&str; 6] = ["locator", "bank", "manufacturer", "serial", "asset", "part"];
-
-// A line for each key, with a text of 64 bytes.
-fn put_texts(text: &mut Bytes, keys: &[&str]) -> Result<(), OutOfMemory> {
-    for key in keys {
-        put_line(text, key)?;
-    }
-    Ok(())
-}
-
-fn put_line(text: &mut Bytes, key: &str) -> Result<(), OutOfMemory> {
-    text.extend(key.as_bytes())?;
-    text.extend(b" = \"0123456789abcdef0123456789abcdef0123456789abcdef0123456789abcdef\"\n")
 }

@@ -1,11 +1,23 @@
 //! What becomes of a world over many runs.
 
-use fixtures::{BOOTED, Ending, MINIMAL, READ_FAULT, Run, USAGE, boot, ends_in, is_same};
+use fixtures::{
+    BOOTED, Ending, MINIMAL, MINIMAL_DUMP, READ_FAULT, Run, USAGE, boot, ends_in, is_same,
+};
 use std::alloc::Global;
 use std::test::Fail;
 use vmtables::{LoadFault, State, Status, World};
 
 const LARGER: &str = "version = 1\ntop_mib = 65\nsystem = {}\n";
+
+// Its dump, made by a program apart from this one, from DSP0134.
+const LARGER_DUMP: &str = "top 04100000 fill 00
+000f0000 5f534d335f1d18030000010023000000
+000f0010 00001003000000000000000000000000
+03100000 011b0001000000000000000000000000
+03100010 000000000000000006000000007f0400
+03100020 7f000000000000000000000000000000
+end
+";
 
 const OF_VERSION_2: &str = "version = 2\ntop_mib = 65\nsystem = {}\n";
 
@@ -29,13 +41,15 @@ const LARGER_LOADED: Seen = Seen::Loaded {
     checksum: 0x1D,
 };
 
-// A run of the top call: its words, its description and the reads that fail, and how it ends in a world in which nothing was begun.
+// A run of the top call: its words, its description and the reads that fail, how it ends in a world in which nothing was begun, and what it
+// writes.
 struct Step {
     case: &'static str,
     words: &'static [&'static str],
     description: &'static str,
     failing_reads: &'static [u32],
     ending: Ending<'static>,
+    out: &'static str,
 }
 
 const LOADS: Step = Step {
@@ -44,11 +58,13 @@ const LOADS: Step = Step {
     description: MINIMAL,
     failing_reads: &[],
     ending: BOOTED,
+    out: MINIMAL_DUMP,
 };
 
 const LOADS_LARGER: Step = Step {
     case: "a larger machine",
     description: LARGER,
+    out: LARGER_DUMP,
     ..LOADS
 };
 
@@ -61,6 +77,7 @@ const IS_REFUSED: Step = Step {
         say: b"description: out of range root 0 version\n",
         state: State::Idle,
     },
+    out: "",
     ..LOADS
 };
 
@@ -69,6 +86,7 @@ const FAILS: Step = Step {
     case: "a read that fails",
     failing_reads: &[0],
     ending: READ_FAULT,
+    out: "",
     ..LOADS
 };
 
@@ -78,6 +96,7 @@ const FAILS_AT_THE_END: Step = Step {
     description: LARGER,
     failing_reads: &[1],
     ending: READ_FAULT,
+    out: "",
     ..LOADS
 };
 
@@ -85,6 +104,7 @@ const IS_MISSPELLED: Step = Step {
     case: "a word in another case",
     words: &["Boot"],
     ending: USAGE,
+    out: "",
     ..LOADS
 };
 
@@ -97,6 +117,7 @@ const HAS_TWO_WORDS: Step = Step {
     case: "two words",
     words: &["boot", "boot"],
     ending: USAGE,
+    out: "",
     ..LOADS
 };
 
@@ -104,6 +125,7 @@ const HAS_NO_WORD: Step = Step {
     case: "no word",
     words: &[],
     ending: USAGE,
+    out: "",
     ..LOADS
 };
 
@@ -145,6 +167,7 @@ fn leaves(alloc: Global, step: &Step, world: &mut World, seen: &Seen) -> Result<
     let run = run_of(step);
     let ending = Ending {
         state: state_of(seen),
+        out: Some(step.out.as_bytes()),
         ..step.ending
     };
     ends_in(alloc, &run, world, &ending)?;

@@ -66,7 +66,7 @@ pub(crate) fn is_file(item: &Item, name: &str, size: usize) -> Result<(), Fail> 
     is_same(name, "size", &item.bytes.len(), &size)
 }
 
-fn minimal_container(alloc: Global) -> Result<Bytes, OutOfMemory> {
+pub(crate) fn minimal_container(alloc: Global) -> Result<Bytes, OutOfMemory> {
     let mut bytes = Bytes::new(alloc);
     put_directory(&mut bytes)?;
     put_contents(&mut bytes)?;

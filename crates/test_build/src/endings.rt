@@ -1,6 +1,9 @@
 //! How `build` ends, and that it leaves the world as it was.
 
-use fixtures::{BOOTED, Ending, MINIMAL, READ_FAULT, ROOM, Run, boot, ends, ends_in, refused};
+use crate::containers::minimal_container;
+use fixtures::{
+    Ending, MINIMAL, MINIMAL_DUMP, READ_FAULT, ROOM, Run, boot, booted, ends, ends_in, refused,
+};
 use std::alloc::Global;
 use std::test::Fail;
 use vmtables::{State, Status, World};
@@ -107,7 +110,22 @@ fn a_world_that_was_booted(rt: HostRuntime) -> Result<(), Fail> {
 }
 
 fn boots_and_builds(alloc: Global, world: &mut World) -> Result<(), Fail> {
+    let container = minimal_container(alloc)?;
+    boots_and_builds_so(alloc, world, container.as_slice())
+}
+
+// A boot leaves the machine in the world, and a build leaves it there.
+fn boots_and_builds_so(alloc: Global, world: &mut World, container: &[u8]) -> Result<(), Fail> {
     let description = MINIMAL.as_bytes();
-    ends_in(alloc, &boot("boot", description), world, &BOOTED)?;
-    ends_in(alloc, &build("build", description), world, &BOOTED)
+    ends_in(
+        alloc,
+        &boot("boot", description),
+        world,
+        &booted(MINIMAL_DUMP),
+    )?;
+    let ending = Ending {
+        state: State::Done,
+        ..built(container)
+    };
+    ends_in(alloc, &build("build", description), world, &ending)
 }

@@ -1,10 +1,11 @@
-//! The machine with as much of everything as a description may have. Where its parts have no texts, it is built and booted, and its files have
-//! as many bytes as was worked out by hand; where each has the longest, its image is too large.
+//! The machine with as much of everything as a description may have. Where its parts have no texts, it is built and booted: its files have as many
+//! bytes as was worked out by hand, and its container and its dump have the bytes that another program made; where each part has the longest
+//! texts, its image is too large.
 
 use crate::containers::is_file;
 use crate::endings::build;
 use cfg_directory::{Item, read_image};
-use fixtures::{BOOTED, Ending, ROOM, Run, boot, ends, is_same, put_text, sink, source, status_of};
+use fixtures::{Ending, ROOM, boot, ends, is_same, put_text, sink, source, status_of};
 use std::alloc::Global;
 use std::test::Fail;
 use vmtables::{State, Status, World};
@@ -12,6 +13,14 @@ use vt_outside::{Bytes, ListSink, ListSource, SureSink};
 
 // More bytes than its container, and than its dump.
 const MUCH_ROOM: usize = 2_000_000;
+
+// What is made of a large machine: its files, with their bytes, and of the container and of the dump the number of bytes and their hash. The hashes
+// are of bytes that a program in Python, apart from this one, made from docs/FORMATS.md.
+pub(crate) struct Whole {
+    pub(crate) files: &'static [(&'static str, usize)],
+    pub(crate) container: (usize, u64),
+    pub(crate) dump: (usize, u64),
+}
 
 // What stands above the first array of tables, but for texts and for distances.
 const HEAD: &str =
@@ -65,20 +74,24 @@ pub(crate) const TEXT: [u8; 64] = [b'x'; 64];
 // structures: 24 + 2 of the firmware, 27 + 2 of the system, 22 + 2 of the chassis, 256 * (48 + 2) of sockets, 64 * (17 + 2) of slots,
 // 5 + 32 * 65 + 1 of the maker's texts, 25 of the array, 256 * (40 + 2) of modules, 64 * 33 of ranges, 13 of the boot and 6 of the end. The
 // script has 29 commands: five files are placed, twelve pointers filled and eleven sums, and the host is told where the id is.
-static FILES: [(&str, usize); 7] = [
-    ("etc/acpi/rsdp", 36),
-    ("etc/acpi/tables", 298_308),
-    ("etc/smbios/smbios-anchor", 24),
-    ("etc/smbios/smbios-tables", 29_089),
-    ("etc/table-loader", 3_712),
-    ("etc/vmgenid_addr", 8),
-    ("etc/vmgenid_guid", 4_096),
-];
+static GREATEST: Whole = Whole {
+    files: &[
+        ("etc/acpi/rsdp", 36),
+        ("etc/acpi/tables", 298_308),
+        ("etc/smbios/smbios-anchor", 24),
+        ("etc/smbios/smbios-tables", 29_089),
+        ("etc/table-loader", 3_712),
+        ("etc/vmgenid_addr", 8),
+        ("etc/vmgenid_guid", 4_096),
+    ],
+    container: (335_732, 0xEE31_A441_D80B_80F4),
+    dump: (852_121, 0xC08B_9A00_AACB_4B23),
+};
 
 #[test]
 fn the_greatest_machine(rt: HostRuntime) -> Result<(), Fail> {
     let description = greatest(rt.alloc(), b"")?;
-    let told = is_whole(rt.alloc(), description.as_slice(), &FILES);
+    let told = is_whole(rt.alloc(), description.as_slice(), &GREATEST);
     drop(description);
     told
 }
@@ -103,55 +116,82 @@ pub(crate) fn is_too_large(alloc: Global, description: &[u8]) -> Result<(), Fail
     ends(alloc, &boot("booted", description), &ending)
 }
 
-// Tells where the machine that a text describes isn't built, as a container of these files, or isn't booted.
-pub(crate) fn is_whole(
-    alloc: Global,
-    description: &[u8],
-    files: &[(&str, usize)],
-) -> Result<(), Fail> {
-    is_booted(alloc, description)?;
+// Tells where the machine that a text describes isn't built and booted so.
+pub(crate) fn is_whole(alloc: Global, description: &[u8], whole: &Whole) -> Result<(), Fail> {
+    is_booted(alloc, description, whole.dump)?;
     let mut container = sink(alloc, MUCH_ROOM, &[])?;
-    let told = is_built_into(alloc, description, &mut container, files);
+    let told = is_built_into(alloc, description, &mut container, whole);
     drop(container);
     told
 }
 
-fn is_booted(alloc: Global, description: &[u8]) -> Result<(), Fail> {
-    let run = Run {
-        room: MUCH_ROOM,
-        ..boot("a large machine", description)
-    };
-    ends(alloc, &run, &BOOTED)
+fn is_booted(alloc: Global, description: &[u8], hashed: (usize, u64)) -> Result<(), Fail> {
+    let mut dump = sink(alloc, MUCH_ROOM, &[])?;
+    let told = is_booted_into(alloc, description, &mut dump, hashed);
+    drop(dump);
+    told
+}
+
+fn is_booted_into(
+    alloc: Global,
+    description: &[u8],
+    dump: &mut ListSink,
+    hashed: (usize, u64),
+) -> Result<(), Fail> {
+    carry_out(alloc, "boot", description, dump)?;
+    is_same("a large machine", "dump", &hashed_of(dump.taken()), &hashed)
 }
 
 fn is_built_into(
     alloc: Global,
     description: &[u8],
     container: &mut ListSink,
-    files: &[(&str, usize)],
+    whole: &Whole,
 ) -> Result<(), Fail> {
-    build_into(alloc, description, container)?;
-    has_files(alloc, container.taken(), files)
+    carry_out(alloc, "build", description, container)?;
+    has_files(alloc, container.taken(), whole.files)?;
+    is_same(
+        "a large machine",
+        "container",
+        &hashed_of(container.taken()),
+        &whole.container,
+    )
 }
 
-fn build_into(alloc: Global, description: &[u8], container: &mut ListSink) -> Result<(), Fail> {
-    let mut source = source(alloc, description, ROOM, &[])?;
-    let status = status_of_build(alloc, &mut source, container);
-    drop(source);
-    is_same("a large machine", "status", &status?, &Status::Ok)
+// How many bytes there are, and their hash, which is FNV-1a of 64 bits.
+fn hashed_of(bytes: &[u8]) -> (usize, u64) {
+    let mut hash = 0xCBF2_9CE4_8422_2325u64;
+    for byte in bytes {
+        hash = (hash ^ u64::from(*byte)).wrapping_mul(0x100_0000_01B3);
+    }
+    (bytes.len(), hash)
 }
 
-fn status_of_build(
+// Carries out a command on a description, which is done, into `out`.
+fn carry_out(
     alloc: Global,
+    word: &str,
+    description: &[u8],
+    out: &mut ListSink,
+) -> Result<(), Fail> {
+    let mut source = source(alloc, description, ROOM, &[])?;
+    let status = status_in_a_world(alloc, word, &mut source, out);
+    drop(source);
+    is_same(word, "status", &status?, &Status::Ok)
+}
+
+fn status_in_a_world(
+    alloc: Global,
+    word: &str,
     source: &mut ListSource,
-    container: &mut ListSink,
+    out: &mut ListSink,
 ) -> Result<Status, Fail> {
     let mut world = World::idle();
     let status = status_of(
         alloc,
-        &["build"],
+        &[word],
         source,
-        container,
+        out,
         &mut SureSink::new(),
         &mut world,
     );

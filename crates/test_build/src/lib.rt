@@ -1,5 +1,5 @@
-//! Tests of the command `build`: the containers that it writes, and how it ends otherwise; and of the top call beside its commands: words that
-//! are none, and the numbers of the statuses that it answers with.
+//! Tests of the command `build`: the containers that it writes, and how it ends otherwise; of large machines, whose containers and dumps are
+//! compared by their hashes; and of the top call beside its commands: words that are none, and the numbers of the statuses that it answers with.
 #![tactic(auto)]
 
 #[cfg(test)]

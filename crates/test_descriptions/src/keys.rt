@@ -2,7 +2,8 @@
 
 /// A line for each key, in the order in which keys are looked at: its table, its number, its name, its kind, and what is read where it is
 /// left out. A number behind a `u` is how many bits an integer has, the version is the
-/// integer 1, and a `word` is one of `io`, `mem32` and `mem64`. `!` marks a key that must be there, and `none` one without which the machine has nothing there. Behind these stands the
+/// integer 1, and a `word` is one of `io`, `mem32` and `mem64`. `!` marks a key that must be there, and `none` one without
+/// which the machine has nothing there. Behind these stands the
 /// rule that the description with every key breaks where this key has the most that it may have, and behind `without` the rule that it
 /// breaks where this key is left out, if it breaks one.
 pub(crate) const KEYS: &str = r#"root 0 version 1 !

@@ -2,7 +2,7 @@
 //! (hw/acpi/bios-linker-loader.c).
 
 use crate::files::{FILES, items_of};
-use crate::rig::{End, Held, bytes_changed, ends_without_events};
+use crate::rig::{End, Held, ends_without_events};
 use crate::scripts::Line;
 use cfg_directory::Items;
 use firmware_load::LoadFault;
@@ -15,7 +15,7 @@ use std::test::Fail;
 pub(crate) struct Case<'a> {
     pub(crate) script: &'a [Line],
     pub(crate) answer: Result<(), LoadFault>,
-    pub(crate) left: &'a [Held],
+    pub(crate) left: &'a [Held<'a>],
 }
 
 /// Each case ends as it says.
@@ -55,6 +55,6 @@ pub(crate) fn end_of<'a>(case: &Case<'a>) -> End<'a> {
         transfers: &[],
         contents: &[],
         left: case.left,
-        changed: Some(bytes_changed(case.left)),
+        others: false,
     }
 }

@@ -18,7 +18,7 @@ static BEFORE: [Line; 2] = [
 
 static BEHIND: Line = Allocate("etc/ones", 16, HIGH);
 
-static LEFT: [Held; 2] = [
+static LEFT: [Held<'static>; 2] = [
     Held(0x300_0000, b"\x11\x22\x08\0\0\0\x33\x44\x55"),
     Held(0x300_0010, b"\xff\xff\xff\xfc\0\0\0\xfd"),
 ];

@@ -20,7 +20,7 @@ pub(crate) const SMALL: Case<'static> = Case {
     left: SMALL_LEFT,
 };
 
-const SMALL_LEFT: &[Held] = &[
+const SMALL_LEFT: &[Held<'static>] = &[
     Held(0x300_0000, b"\x1c\x22\x48\0\0\x03\x33\x44\x55"),
     Held(0x300_0040, b"\xa1\xa2\xa3"),
 ];

@@ -2,7 +2,7 @@
 
 use crate::files::{File, LOADER, SMALL_FILES, items_of, items_with};
 use crate::plans::{PADDING, PLACE_ANCHOR, PLACE_TABLES, TABLES, first_reads};
-use crate::rig::{End, FILL, Held, bytes_changed, ends_without_events};
+use crate::rig::{End, FILL, Held, ends_without_events};
 use crate::scripts::HIGH;
 use crate::scripts::Line::{self, AddPointer, Allocate};
 use cfg_directory::Items;
@@ -57,9 +57,9 @@ const TOO_FAR: Line = AddPointer("etc/tables", "etc/tables", 4, 1);
 const PLACE_SPARE: Line = Allocate("etc/spare", 1, HIGH);
 
 // The first file as it is in the device, and the second one's place where it isn't placed.
-const PLAIN: Held = Held(0xF_0000, b"\x41\x42\x05\0\0\0\x77\x88\0");
+const PLAIN: Held<'static> = Held(0xF_0000, b"\x41\x42\x05\0\0\0\x77\x88\0");
 
-const NO_TABLES: Held = Held(0x300_0000, &[FILL; 5]);
+const NO_TABLES: Held<'static> = Held(0x300_0000, &[FILL; 5]);
 
 // The command behind the Allocates of both files, the calls for a place that are refused, why the load ends, how many of the small
 // load's transfers are over then, and what is left.
@@ -68,7 +68,7 @@ struct Refusal {
     fails: &'static [u32],
     fault: LoadFault,
     count: usize,
-    left: &'static [Held],
+    left: &'static [Held<'static>],
 }
 
 static REFUSED: [Refusal; 4] = [
@@ -149,7 +149,7 @@ fn ends_so(
         transfers: first_reads(count),
         contents: &[],
         left,
-        changed: Some(bytes_changed(left)),
+        others: false,
     };
     ends_without_events(rt, alloc, items, fails, &end)
 }

@@ -30,6 +30,8 @@ mod lists;
 #[cfg(test)]
 mod most_writes;
 #[cfg(test)]
+mod others;
+#[cfg(test)]
 mod plans;
 #[cfg(test)]
 mod reads;

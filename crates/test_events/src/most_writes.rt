@@ -44,7 +44,7 @@ fn all_are_done(
             Held(0x300_1000, &[0; 4095]),
             Held(0x300_1FFF, b"\xa5"),
         ],
-        changed: None,
+        others: false,
     };
     ends_without_events(rt, alloc, items, &[], &end)
 }

@@ -30,9 +30,9 @@ pub(crate) const SUM: Line = AddChecksum("etc/anchor", 8, 0, 9);
 pub(crate) const PADDING: Line = Zeros(128);
 
 /// What the small load leaves: 5 + 0x3000000 is 0x3000005, and 0x41 + 0x42 + 5 + 3 + 0x77 + 0x88 + 0x76 is 0x200.
-pub(crate) const ANCHOR: Held = Held(0xF_0000, b"\x41\x42\x05\0\0\x03\x77\x88\x76");
+pub(crate) const ANCHOR: Held<'static> = Held(0xF_0000, b"\x41\x42\x05\0\0\x03\x77\x88\x76");
 
-pub(crate) const TABLES: Held = Held(0x300_0000, b"\xc1\xc2\xc3\xc4\xc5");
+pub(crate) const TABLES: Held<'static> = Held(0x300_0000, b"\xc1\xc2\xc3\xc4\xc5");
 
 /// Makes the files of the small load's device.
 pub(crate) fn small_items(alloc: Global) -> Result<Items, Fail> {
@@ -88,7 +88,7 @@ const WRITTEN: [u64; 7] = [
 ];
 
 // The guarded places that hold no table keep the fill byte, and the others what was written last, in round 21.
-const UNWRITTEN: [Held; 5] = [
+const UNWRITTEN: [Held<'static>; 5] = [
     ANCHOR,
     TABLES,
     Held(0xE_0000, &[FILL]),
@@ -96,7 +96,7 @@ const UNWRITTEN: [Held; 5] = [
     Held(0x3FF_FFFF, &[FILL]),
 ];
 
-const LEFT: [Held; 7] = [
+const LEFT: [Held<'static>; 7] = [
     ANCHOR,
     TABLES,
     Held(0x1_2345, &[21]),
@@ -112,7 +112,7 @@ struct Plan {
     count: u16,
     bytes: u32,
     addresses: &'static [u64],
-    left: &'static [Held],
+    left: &'static [Held<'static>],
     events: u32,
 }
 
@@ -188,7 +188,7 @@ fn small_load_ends(
         transfers: first_reads(5),
         contents: &[],
         left,
-        changed: None,
+        others: false,
     };
     let items = small_items(alloc)?;
     ends(rt, alloc, items, &[], schedule, &end)

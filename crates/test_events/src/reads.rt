@@ -39,7 +39,7 @@ fn several_reads(rt: HostRuntime) -> Result<(), Fail> {
         transfers: &READS,
         contents: &[],
         left: &[ANCHOR, TABLES],
-        changed: Some(14),
+        others: false,
     };
     ends_without_events(&rt, rt.alloc(), items, &[], &end)
 }

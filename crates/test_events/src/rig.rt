@@ -36,24 +36,22 @@ pub(crate) enum Transfer {
 #[derive(Clone, Copy)]
 pub(crate) struct Content<'a>(pub(crate) u16, pub(crate) &'a [u8]);
 
-/// Bytes that memory holds from an address on.
+/// Bytes that memory holds from an address on. Lists of them have no byte twice.
 #[derive(Clone, Copy)]
-pub(crate) struct Held(pub(crate) u64, pub(crate) &'static [u8]);
+pub(crate) struct Held<'a>(pub(crate) u64, pub(crate) &'a [u8]);
 
-/// The work range, a descriptor and a buffer, as it is before a load.
-pub(crate) const NO_DESCRIPTOR: Held = Held(0x7000, &[FILL; 16]);
-
-pub(crate) const NO_BUFFER: Held = Held(0x8000, &[FILL; 4096]);
-
-/// How a load ends: its answer, the transfers that are over, what files of the device hold, bytes that are left in memory, and how many
-/// bytes of RAM outside of the work range aren't the fill byte. Where no transfer is listed, or no number, they aren't looked at.
+/// How a load ends: its answer, the transfers that are over, what files of the device hold, and what is left in memory. Where no transfer is
+/// listed they aren't looked at.
+///
+/// Each byte of RAM that `left` doesn't list is the fill byte, but for the work range where the load was refused, and where `others` says so for
+/// memory below 640 KiB, in which other processors wrote.
 #[derive(Clone, Copy)]
 pub(crate) struct End<'a> {
     pub(crate) answer: Result<(), LoadFault>,
     pub(crate) transfers: &'a [Transfer],
     pub(crate) contents: &'a [Content<'a>],
-    pub(crate) left: &'a [Held],
-    pub(crate) changed: Option<u64>,
+    pub(crate) left: &'a [Held<'a>],
+    pub(crate) others: bool,
 }
 
 /// Begins a load of `items` in a world, below [`TOP`].
@@ -157,6 +155,7 @@ pub(crate) fn ends_placed<A: ZoneAlloc, C: Schedule>(
 ) -> Result<(), Fail>
     requires fresh { IsSomeAnd world.old.load (λ w. IsBegun w.attached.device.items (memory_of w).top (memory_of w).fill w) }
     requires top { IfSome world.old.load (λ w. (memory_of w).top ≡ 0x4000000) }
+    ensures { OnOk result (IsSome world.new.load) }
 {
     begin_zones(alloc, place, by)?;
     ends_as(rt, world, place, plan, end);
@@ -204,70 +203,116 @@ fn is_moved(rt: &impl Abort, device: &Device, end: &End<'_>) {
     contain(rt, device, end.contents);
 }
 
-// A load that is done leaves the fill byte in the work range.
+// No byte but those that are listed is another than the fill byte. A load that is done leaves that in the work range, too.
 fn is_left(rt: &impl Abort, memory: &GuestMemory, end: &End<'_>) {
     are_held(rt, memory, end.left);
     if end.answer.is_ok() {
         assert_eq!(rt; count_working(memory), 0);
     }
-    if let Some(changed) = end.changed {
-        assert_eq!(rt; count_changed(memory), changed);
+    let listed = count_left(end.left, memory.fill());
+    assert_eq!(rt; changed_but(memory, end.others), listed);
+}
+
+// How many bytes of RAM outside of the work range aren't the fill byte: of all, or but of those below 640 KiB, where others wrote.
+fn changed_but(memory: &GuestMemory, others: bool) -> u64 {
+    if others {
+        count_changed(memory, LOW_FRAMES, ALL_FRAMES)
+    } else {
+        count_changed(memory, 0, ALL_FRAMES).saturating_sub(count_working(memory))
     }
 }
 
-/// How many of these bytes aren't the fill byte.
-pub(crate) fn bytes_changed(left: &[Held]) -> u64 {
+/// Memory holds these bytes, those of two lists, and the fill byte wherever none is listed.
+pub(crate) fn are_all(rt: &impl Abort, memory: &GuestMemory, held: &[Held], more: &[Held]) {
+    are_held(rt, memory, held);
+    are_held(rt, memory, more);
+    let listed = count_listed(held, memory.fill()).saturating_add(count_listed(
+        more,
+        memory.fill(),
+    ));
+    assert_eq!(rt; count_changed(memory, 0, ALL_FRAMES), listed);
+}
+
+// How many of these bytes aren't the fill byte.
+fn count_listed(held: &[Held], fill: u8) -> u64 {
+    let mut count = 0u64;
+    for held in held {
+        count = count.saturating_add(count_in(held.1, fill));
+    }
+    count
+}
+
+// How many of these bytes outside of the work range aren't.
+fn count_left(left: &[Held], fill: u8) -> u64 {
     let mut count = 0u64;
     for held in left {
-        count = count.saturating_add(count_in(held.1));
+        if !is_working(held.0) {
+            count = count.saturating_add(count_in(held.1, fill));
+        }
     }
     count
 }
 
-fn count_in(bytes: &[u8]) -> u64 {
+/// Whether an address is in the work range.
+pub(crate) fn is_working(address: u64) -> bool {
+    (0x7000..0x7010).contains(&address) || (0x8000..0x9000).contains(&address)
+}
+
+fn count_in(bytes: &[u8], fill: u8) -> u64 {
     let mut count = 0u64;
     for byte in bytes {
-        count = count.saturating_add(u64::from(*byte != FILL));
+        count = count.saturating_add(u64::from(*byte != fill));
     }
     count
 }
 
-/// How many bytes of RAM outside of the work range aren't the fill byte.
-pub(crate) fn count_changed(memory: &GuestMemory) -> u64 {
-    let filled = [memory.fill(); 4096];
-    let mut count = 0u64;
-    for frame in 0..memory.top() / 4096 {
-        let others = count_unlike(memory, u64::from(frame) * 4096, &filled);
-        count = count.saturating_add(others);
-    }
-    count.saturating_sub(count_working(memory))
+// How many frames of 4,096 bytes there are below 640 KiB, and in all.
+const LOW_FRAMES: u32 = 160;
+
+const ALL_FRAMES: u32 = 8448;
+
+/// How many bytes of RAM below 640 KiB aren't the fill byte.
+pub(crate) fn count_low(memory: &GuestMemory) -> u64 {
+    count_changed(memory, 0, LOW_FRAMES)
 }
 
-// How many bytes of the work range aren't.
+// How many bytes of RAM in these frames, up to one that isn't among them, aren't the fill byte. A frame that isn't touched holds the fill byte
+// alone.
+fn count_changed(memory: &GuestMemory, first: u32, end: u32) -> u64 {
+    let mut count = 0u64;
+    for frame in first..end.min(ALL_FRAMES) {
+        if memory.touched(frame) {
+            count = count.saturating_add(count_in_frame(memory, frame));
+        }
+    }
+    count
+}
+
+fn count_in_frame(memory: &GuestMemory, frame: u32) -> u64 {
+    count_at(memory, address_of(frame, memory.top()), 4096)
+}
+
+// The first 256 frames are those of the first MiB, and the others those of the 32 MiB that end at the top.
+fn address_of(frame: u32, top: u32) -> u64 {
+    let address = u64::from(frame) * 4096;
+    if frame < 0x100 {
+        address
+    } else {
+        (address + u64::from(top)).saturating_sub(8448 * 4096)
+    }
+}
+
+// How many bytes of the work range aren't the fill byte.
 fn count_working(memory: &GuestMemory) -> u64 {
-    let filled = [memory.fill(); 4096];
-    count_unlike(memory, 0x7000, &filled[..16]).saturating_add(count_unlike(
-        memory, 0x8000, &filled,
-    ))
+    count_at(memory, 0x7000, 16).saturating_add(count_at(memory, 0x8000, 4096))
 }
 
-// How many bytes from an address on, in one frame, differ from others, where it is RAM.
-fn count_unlike(memory: &GuestMemory, address: u64, others: &[u8]) -> u64 {
-    if others.len() > 4096
-        || address % 4096 + others.len() as u64 > 4096
-        || !memory.is_ram(address)
-    {
+// How many of so many bytes from an address on, in one frame, aren't the fill byte, where it is RAM.
+fn count_at(memory: &GuestMemory, address: u64, len: u32) -> u64 {
+    if len > 4096 || address % 4096 + u64::from(len) > 4096 || !memory.is_ram(address) {
         return 0;
     }
-    let bytes = memory.window(address, others.len() as u32);
-    if bytes == others {
-        return 0;
-    }
-    let mut count = 0u64;
-    for (byte, other) in bytes.iter().zip(others) {
-        count = count.saturating_add(u64::from(byte != other));
-    }
-    count
+    count_in(memory.window(address, len), memory.fill())
 }
 
 fn state_after(answer: Result<(), LoadFault>) -> State {
@@ -326,8 +371,8 @@ fn contains(rt: &impl Abort, device: &Device, content: &Content<'_>) {
     assert_eq!(rt; item.bytes.as_slice(), bytes, "of {select}");
 }
 
-/// Memory holds these bytes.
-pub(crate) fn are_held(rt: &impl Abort, memory: &GuestMemory, left: &[Held]) {
+// Memory holds these bytes.
+fn are_held(rt: &impl Abort, memory: &GuestMemory, left: &[Held]) {
     for held in left {
         is_held(rt, memory, held);
     }

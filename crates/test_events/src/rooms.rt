@@ -1,9 +1,9 @@
 //! Files that have no place, and an allocator that refuses some.
 
-use crate::cases::{Case, all_end, case_ends};
+use crate::cases::{Case, all_end, case_ends, items_end};
 use crate::done::SMALL;
 use crate::files::{FILES, File, LOADER, items_with};
-use crate::rig::{End, FILL, Held, ends_without_events};
+use crate::rig::Held;
 use crate::scripts::Line::{self, AddPointer, Allocate, Zeros};
 use crate::scripts::{FSEG, HIGH, script_of};
 use cfg_directory::Items;
@@ -12,7 +12,7 @@ use loader_script::Cause;
 use std::alloc::Global;
 use std::process::Abort;
 use std::test::Fail;
-use vt_outside::{Bytes, OutOfMemory};
+use vt_outside::{Bytes, List, OutOfMemory};
 
 static NO_ROOM: [Case<'static>; 3] = [
     // No multiple of 2^31 is in high memory, and none of 0x20000 in the F segment.
@@ -96,41 +96,44 @@ const BYTE: u8 = 0x5C;
 
 static LARGE_SCRIPT: [Line; 1] = [Allocate("etc/large", 1, HIGH)];
 
-// Bytes of a file past 16 MiB, and how its load ends: both ends of high memory, and how many bytes of RAM are changed.
-static LARGE: [(u8, End<'static>); 2] = [
-    (
-        0,
-        End {
-            answer: Ok(()),
-            transfers: &[],
-            contents: &[],
-            left: &[Held(0x300_0000, &[BYTE; 16]), Held(0x3FF_FFF0, &[BYTE; 16])],
-            changed: Some(16_777_216),
-        },
-    ),
-    (
-        1,
-        End {
-            answer: Err(LoadFault::NoRoom { index: 0 }),
-            transfers: &[],
-            contents: &[],
-            left: &[Held(0x300_0000, &[FILL; 16]), Held(0x3FF_FFF0, &[FILL; 16])],
-            changed: Some(0),
-        },
-    ),
+// Bytes of a file past 16 MiB, how its load ends, and how many frames of high memory hold its bytes then.
+static LARGE: [(u8, Result<(), LoadFault>, u32); 2] = [
+    (0, Ok(()), 4096),
+    (1, Err(LoadFault::NoRoom { index: 0 }), 0),
 ];
 
 #[test]
 fn files_as_large_as_a_zone(rt: HostRuntime) -> Result<(), Fail> {
-    for (more, end) in &LARGE {
-        large_ends(&rt, rt.alloc(), *more, end)?;
+    for (more, answer, frames) in &LARGE {
+        large_ends(&rt, rt.alloc(), *more, *answer, *frames)?;
     }
     Ok(())
 }
 
-fn large_ends(rt: &impl Abort, alloc: Global, more: u8, end: &End<'_>) -> Result<(), Fail> {
+fn large_ends(
+    rt: &impl Abort,
+    alloc: Global,
+    more: u8,
+    answer: Result<(), LoadFault>,
+    frames: u32,
+) -> Result<(), Fail> {
+    let left = large_left(alloc, frames)?;
     let items = large_items(alloc, more)?;
-    ends_without_events(rt, alloc, items, &[], end)
+    let case = Case {
+        script: &[],
+        answer,
+        left: left.as_slice(),
+    };
+    items_end(rt, alloc, items, &[], &case)
+}
+
+// So many frames of high memory, from its first on.
+fn large_left(alloc: Global, frames: u32) -> Result<List<Held<'static>>, OutOfMemory> {
+    let mut left = List::new(alloc);
+    for frame in 0..frames {
+        left.push(Held(0x300_0000 + u64::from(frame) * 4096, &[BYTE; 4096]))?;
+    }
+    Ok(left)
 }
 
 // The files of a device: one of 16 MiB and some bytes more, and a script that places it.

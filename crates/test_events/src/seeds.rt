@@ -1,10 +1,11 @@
-//! The small load over the events of seeds, with each policy of an allocator. A begun world fills 33 MiB, so that no test takes more than
-//! some 200 seeds.
+//! The small load over the events of seeds, with each policy of an allocator, and all of memory then: both files, what other processors left
+//! below 640 KiB, and else the fill byte.
 
 ghost use Rattle.std.specs.Prelude.{◌≡◌, IfSome, IsSomeAnd};
 ghost use Rattle.load_states.specs.Loads.{IsBegun};
 ghost use Rattle.load_states.specs.LoadState.{memory_of};
 
+use crate::others::{are_written, events_taken};
 use crate::plans::{ANCHOR, TABLES, begin_small, reads_to};
 use crate::rig::{End, Held, ends_placed};
 use firmware_load::{Schedule, SeededSchedule, World};
@@ -16,14 +17,14 @@ use zone_alloc::{Policy, ShelfAlloc};
 
 // Both files are at the last multiples of their aligns. 5 + 0x3FFFFC0 is 0x3FFFFC5, and 0x41 + 0x42 + 0xC5 + 0xFF + 0xFF + 3 + 0x77 + 0x88
 // + 0xB8 is 0x500.
-static AT_TOP: [Held; 2] = [
+static AT_TOP: [Held<'static>; 2] = [
     Held(0xF_FFF0, b"\x41\x42\xc5\xff\xff\x03\x77\x88\xb8"),
     Held(0x3FF_FFC0, b"\xc1\xc2\xc3\xc4\xc5"),
 ];
 
 // The words of seed 0 begin with 11cdd903 and fc843fd7, so that the goals are 0xFD903 and 0x3843FD7. 5 + 0x3844000 is 0x3844005, and
 // 0x41 + 0x42 + 5 + 0x40 + 0x84 + 3 + 0x77 + 0x88 + 0xB2 is 0x300.
-static SCATTERED: [Held; 2] = [
+static SCATTERED: [Held<'static>; 2] = [
     Held(0xF_D910, b"\x41\x42\x05\x40\x84\x03\x77\x88\xb2"),
     Held(0x384_4000, b"\xc1\xc2\xc3\xc4\xc5"),
 ];
@@ -65,7 +66,7 @@ fn all_end(
         transfers: &reads_to(left[0].0, left[1].0),
         contents: &[],
         left,
-        changed: None,
+        others: true,
     };
     for seed in seeds {
         ends_over(rt, alloc, by, seed, &end)?;
@@ -100,7 +101,8 @@ fn ends_over_in(
     begun_ends_over(rt, alloc, world, by, seed, end)
 }
 
-fn begun_ends_over(
+/// The load that was begun ends so over the events of a seed, with the places of a policy, and memory below 640 KiB is as others left it.
+pub(crate) fn begun_ends_over(
     rt: &impl Abort,
     alloc: Global,
     world: &mut World,
@@ -116,5 +118,7 @@ fn begun_ends_over(
     let mut shelf = ShelfAlloc::new();
     let done = ends_placed(rt, alloc, world, &mut shelf, by, &mut plan, end);
     drop(shelf);
-    done
+    done?;
+    let taken = events_taken(&mut plan, seed);
+    are_written(rt, alloc, world.memory(), seed, taken)
 }

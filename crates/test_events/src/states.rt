@@ -8,7 +8,7 @@ ghost use Rattle.load_states.specs.LoadState.{memory_of};
 use crate::cases::{Case, end_of};
 use crate::done::SMALL;
 use crate::files::{FILES, items_of};
-use crate::rig::{FILL, Held, TOP, begin, count_changed, ends_as, ends_placed, is_in, no_events};
+use crate::rig::{FILL, Held, TOP, are_all, begin, ends_as, ends_placed, is_in, no_events};
 use crate::scripts::HIGH;
 use crate::scripts::Line::Allocate;
 use firmware_load::{LoadFault, State, World};
@@ -100,7 +100,7 @@ fn is_begun(rt: &impl Abort, world: &World)
 
 fn is_filled(rt: &impl Abort, memory: &GuestMemory) {
     assert_eq!(rt; (memory.top(), memory.fill()), (TOP, FILL));
-    assert_eq!(rt; count_changed(memory), 0);
+    are_all(rt, memory, &[], &[]);
 }
 
 // A top, an align, and the place of a file. The second align has a multiple in high memory only below the third top.

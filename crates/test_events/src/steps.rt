@@ -8,8 +8,7 @@ ghost use Rattle.load_states.specs.LoadState.{memory_of};
 
 use crate::plans::{ANCHOR, READS, TABLES, small_items};
 use crate::rig::{
-    Content, Held, NO_BUFFER, NO_DESCRIPTOR, TOP, Transfer, are_held, begin, begin_zones, contain,
-    has_moved, is_in,
+    Content, Held, TOP, Transfer, are_all, begin, begin_zones, contain, has_moved, is_in,
 };
 use cfg_directory::Items;
 use cfg_dma::Device as CfgDevice;
@@ -20,48 +19,55 @@ use std::process::Abort;
 use std::test::Fail;
 use zone_alloc::{Policy, ShelfAlloc, ZoneAlloc};
 
-/// What is seen of a world: its state, whether a transfer is in flight, how many of the load are over, bytes of memory, and what files of
-/// the device hold.
+/// What is seen of a world: its state, whether a transfer is in flight, how many of the load are over, what memory holds, and what files of the
+/// device hold. Each byte of RAM that neither `held` nor `buffer` lists is the fill byte.
 #[derive(Clone, Copy)]
-pub(crate) struct Seen(
-    pub(crate) State,
-    pub(crate) bool,
-    pub(crate) usize,
-    pub(crate) &'static [Held],
-    pub(crate) &'static [Content<'static>],
-);
+pub(crate) struct Seen {
+    pub(crate) state: State,
+    pub(crate) busy: bool,
+    pub(crate) count: usize,
+    pub(crate) held: &'static [Held<'static>],
+    pub(crate) buffer: &'static [Held<'static>],
+    pub(crate) contents: &'static [Content<'static>],
+}
 
 // Before its first step, and after a piece with nothing in flight.
-const BEGUN: Seen = Seen(State::Running, false, 0, &[NO_DESCRIPTOR, NO_BUFFER], &[]);
+const BEGUN: Seen = Seen {
+    state: State::Running,
+    busy: false,
+    count: 0,
+    held: &[],
+    buffer: &[],
+    contents: &[],
+};
 
 // The descriptor of a read of 4 bytes of the directory into the buffer.
-const ASKED: Seen = Seen(
-    State::Running,
-    true,
-    0,
-    &[Held(0x7000, b"\0\x19\0\x0a\0\0\0\x04\0\0\0\0\0\0\x80\0")],
-    &[],
-);
+const ASKED: Seen = Seen {
+    busy: true,
+    held: &[Held(0x7000, b"\0\x19\0\x0a\0\0\0\x04\0\0\0\0\0\0\x80\0")],
+    ..BEGUN
+};
+
+// Three of its bytes are there.
+const PARTLY: Seen = Seen {
+    buffer: &[Held(0x8000, b"\0\0\0")],
+    ..ASKED
+};
 
 // The transfer is over: its control word is 0, and the number of files is in the buffer.
-const OVER: Seen = Seen(
-    State::Running,
-    false,
-    1,
-    &[
-        Held(0x7000, b"\0\0\0\0\0\0\0\x04\0\0\0\0\0\0\x80\0"),
-        Held(0x8000, b"\0\0\0\x04\xa5"),
-    ],
-    &[],
-);
+const OVER: Seen = Seen {
+    count: 1,
+    held: &[Held(0x7000, b"\0\0\0\0\0\0\0\x04\0\0\0\0\0\0\x80\0")],
+    buffer: &[Held(0x8000, b"\0\0\0\x04")],
+    ..BEGUN
+};
 
-const DONE: Seen = Seen(
-    State::Done,
-    false,
-    5,
-    &[NO_DESCRIPTOR, NO_BUFFER, ANCHOR, TABLES],
-    &[],
-);
+const DONE: Seen = Seen {
+    state: State::Done,
+    count: 5,
+    held: &[ANCHOR, TABLES],
+    ..BEGUN
+};
 
 /// Events, how often they come in turn, and what is seen then.
 pub(crate) struct Turns(pub(crate) u8, pub(crate) &'static [Event], pub(crate) Seen);
@@ -82,7 +88,7 @@ static TURNS: [Turns; 7] = [
     Turns(0, &[], BEGUN),
     Turns(1, &[Device(7)], BEGUN),
     Turns(3, &[Firmware], ASKED),
-    Turns(3, &[Device(0), Device(1), Firmware], ASKED),
+    Turns(3, &[Device(0), Device(1), Firmware], PARTLY),
     Turns(1, &[Device(1)], OVER),
     Turns(13, &[Firmware, WHOLE], DONE),
     Turns(
@@ -229,11 +235,10 @@ fn take<A: ZoneAlloc>(rt: &impl Abort, world: &mut World, place: &mut A, event: 
 fn is_seen(rt: &impl Abort, world: &World, transfers: &[Transfer], seen: &Seen)
     requires { IsSome world.now.load }
 {
-    let Seen(state, busy, count, held, contents) = *seen;
-    is_in(rt, world, state);
-    are_held(rt, world.memory(), held);
-    has_come_to(rt, world.device(), busy, first(transfers, count));
-    contain(rt, world.device(), contents);
+    is_in(rt, world, seen.state);
+    are_all(rt, world.memory(), seen.held, seen.buffer);
+    has_come_to(rt, world.device(), seen.busy, first(transfers, seen.count));
+    contain(rt, world.device(), seen.contents);
 }
 
 fn has_come_to(rt: &impl Abort, device: &CfgDevice, busy: bool, transfers: &[Transfer]) {

@@ -5,8 +5,9 @@ ghost use Rattle.std.specs.Prelude.{◌≡◌, IfSome, IsSome, IsSomeAnd};
 ghost use Rattle.load_states.specs.Loads.{IsBegun};
 ghost use Rattle.load_states.specs.LoadState.{memory_of};
 
+use crate::others::events_taken;
 use crate::plans::begin_small;
-use crate::rig::begin_zones;
+use crate::rig::{begin_zones, is_working};
 use firmware_load::{Event, Schedule, SeededSchedule, World};
 use guest_memory::GuestMemory;
 use std::alloc::Global;
@@ -33,9 +34,6 @@ static PLACED: [(Policy, u64, [usize; 2]); 12] = [
 
 // The frames of the descriptor and of the buffer.
 const WORK: [usize; 2] = [7, 8];
-
-// How many events a seed has at most.
-const MOST_EVENTS: usize = 4096;
 
 #[test]
 fn loads_over_seeds(rt: HostRuntime) -> Result<(), Fail> {
@@ -91,24 +89,11 @@ fn load_by(
 {
     let mut plan = SeededSchedule::new();
     plan.begin(seed);
-    let all = count_left(&mut plan);
-    plan.begin(seed);
     let mut shelf = ShelfAlloc::new();
     begin_zones(alloc, &mut shelf, by)?;
     assert_eq!(rt; world.load(&mut shelf, &mut plan), Ok(()));
     drop(shelf);
-    Ok(all - count_left(&mut plan).min(all))
-}
-
-// Takes the events that are left, and counts them.
-fn count_left(plan: &mut SeededSchedule) -> usize {
-    let mut count: usize = 0;
-    for _event in 0..MOST_EVENTS {
-        if plan.next().is_some() {
-            count = count.saturating_add(1);
-        }
-    }
-    count
+    Ok(events_taken(&mut plan, seed))
 }
 
 fn note_all(frames: &mut Vec<bool>, touched: &[usize]) {
@@ -136,8 +121,7 @@ fn note_written(frames: &mut Vec<bool>, seed: u64, taken: usize) {
 }
 
 fn note_write(frames: &mut Vec<bool>, addr: u64) {
-    let works = (0x7000..0x7010).contains(&addr) || (0x8000..0x9000).contains(&addr);
-    if addr < 0xA_0000 && !works {
+    if addr < 0xA_0000 && !is_working(addr) {
         note(frames, (addr / 4096) as usize);
     }
 }

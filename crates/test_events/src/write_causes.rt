@@ -35,7 +35,7 @@ static CONTENTS: [Content<'static>; 3] = [
 ];
 
 // The descriptor of the write, which is over, its number and what is left of the first command behind it, and the placed file.
-static LEFT: [Held; 3] = [
+static LEFT: [Held<'static>; 3] = [
     Held(0x7000, b"\0\0\0\0\0\0\0\x04\0\0\0\0\0\0\x80\0"),
     Held(0x8000, b"\x03\0\0\x03etc/goal\0"),
     Held(0x300_0000, b"\xe1\xe2\xe3\xe4\xe5\xa5"),
@@ -138,7 +138,7 @@ fn is_refused(rt: &impl Abort, alloc: Global, line: &Line, cause: Cause) -> Resu
         transfers: &TRANSFERS,
         contents: &CONTENTS,
         left: &LEFT,
-        changed: None,
+        others: false,
     };
     let items = items_of(
         alloc,
@@ -156,7 +156,7 @@ static LOWEST: [Line; 2] = [
     WritePointer("etc/word", "etc/goal", 6, 0, 2),
 ];
 
-static LOWEST_LEFT: [Held; 4] = [
+static LOWEST_LEFT: [Held<'static>; 4] = [
     Held(0x7000, b"\0\0\0\0\0\0\0\x05\0\0\0\0\0\x0f\0\0"),
     Held(0x8000, b"\x01\0\0\0etc/goal\0"),
     Held(0xF_0000, b"\xe1\xe2\xe3\xe4\xe5\xa5"),
@@ -180,7 +180,7 @@ fn two_bytes_of_the_lowest_place(rt: HostRuntime) -> Result<(), Fail> {
         transfers: &LOWEST_TRANSFERS,
         contents: &[],
         left: &LOWEST_LEFT,
-        changed: None,
+        others: false,
     };
     let items = items_of(rt.alloc(), &WRITTEN_FILES, 0, &LOWEST)?;
     ends_without_events(&rt, rt.alloc(), items, &[], &end)

@@ -10,18 +10,18 @@ use std::alloc::Global;
 use std::process::Abort;
 use std::test::Fail;
 
-// A script, the transfers of its load, the script that its file spells then, and bytes that are left in memory.
+// A script, the transfers of its load, the script that its file spells then, and all that is left in memory.
 #[derive(Clone, Copy)]
 struct Rewritten {
     script: &'static [Line],
     transfers: &'static [Transfer],
     becomes: &'static [Line],
-    left: &'static [Held],
+    left: &'static [Held<'static>],
 }
 
 const PLACE_GOAL: Line = Allocate("etc/goal", 64, HIGH);
 
-const GOAL_COPY: Held = Held(0x300_0000, b"\xe1\xe2\xe3\xe4\xe5\xa5");
+const GOAL_COPY: Held<'static> = Held(0x300_0000, b"\xe1\xe2\xe3\xe4\xe5\xa5");
 
 const COUNT: Transfer = Read(0x19, 0, 4, 0x8000);
 
@@ -138,8 +138,23 @@ static REWRITTEN: [Rewritten; 4] = [
         ],
         left: &[
             GOAL_COPY,
-            Held(0xF_0000, b"\x01\0\0\0etc/goal\0"),
-            Held(0xF_003C, b"\0\0\0\x03\x01\0\0\0"),
+            Held(0xF_0000, b"\x01\0\0\0etc/goal"),
+            Held(0xF_000C, &[0; 48]),
+            Held(0xF_003C, b"\0\0\0\x03\x01"),
+            Held(0xF_0041, &[0; 63]),
+            Held(0xF_0080, b"\x04\0\0\0etc/table-loader"),
+            Held(0xF_0094, &[0; 40]),
+            Held(0xF_00BC, b"etc/goal"),
+            Held(0xF_00C4, &[0; 48]),
+            Held(0xF_00F4, b"\x3c\0\0\0\0\0\0\0\x04\0\0\0"),
+            Held(0xF_0100, b"\x01\0\0\0etc/table-loader"),
+            Held(0xF_0114, &[0; 40]),
+            Held(0xF_013C, b"\0\x01\0\0\x02"),
+            Held(0xF_0141, &[0; 63]),
+            Held(0xF_0180, b"\x04\0\0\0etc/table-loader"),
+            Held(0xF_0194, &[0; 40]),
+            Held(0xF_01BC, b"etc/table-loader"),
+            Held(0xF_01CC, &[0; 40]),
             Held(0xF_01F4, b"\xf4\x01\0\0\xff\0\0\0\x04\0\0\0\xa5"),
         ],
     },
@@ -171,7 +186,7 @@ fn becomes_so(
         transfers: rewritten.transfers,
         contents: &[Content(0x23, becomes)],
         left: rewritten.left,
-        changed: None,
+        others: false,
     };
     ends_without_events(rt, alloc, items, &[], &end)
 }

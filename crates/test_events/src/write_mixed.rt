@@ -3,14 +3,16 @@
 use crate::files::{WRITTEN_FILES, items_of};
 use crate::plans::{count_left, plan_of};
 use crate::rig::Transfer::{self, Read, Skip, Write};
-use crate::rig::{Content, End, Held, bytes_changed, ends, ends_without_events};
+use crate::rig::{Content, End, Held, begin, ends, ends_without_events};
 use crate::scripts::Line::{self, Allocate, WritePointer};
 use crate::scripts::{FSEG, HIGH};
+use crate::seeds::begun_ends_over;
 use cfg_directory::Items;
-use firmware_load::{ListSchedule, Schedule, SeededSchedule};
+use firmware_load::{ListSchedule, World};
 use std::alloc::Global;
 use std::process::Abort;
 use std::test::Fail;
+use zone_alloc::Policy;
 
 // A file that is placed before it is written, one that is placed behind, and two numbers in one field.
 static SCRIPT: [Line; 7] = [
@@ -48,7 +50,7 @@ static CONTENTS: [Content<'static>; 3] = [
     Content(0x22, b"\x01\0\0\x03\0\0\0\0"),
 ];
 
-static LEFT: [Held; 3] = [
+static LEFT: [Held<'static>; 3] = [
     Held(
         0xF_0000,
         b"\x10\x11\x12\x13\x14\x15\x16\x17\x18\x19\x1a\x1b\xa5",
@@ -61,26 +63,21 @@ fn mixed_items(alloc: Global) -> Result<Items, Fail> {
     items_of(alloc, &WRITTEN_FILES, 0, &SCRIPT)
 }
 
-// How the load ends, where other processors may have written elsewhere.
-fn mixed_end() -> End<'static> {
+// How the load ends, where other processors wrote below 640 KiB, or nowhere.
+fn mixed_end(others: bool) -> End<'static> {
     End {
         answer: Ok(()),
         transfers: &TRANSFERS,
         contents: &CONTENTS,
         left: &LEFT,
-        changed: None,
+        others,
     }
 }
 
-// Without events nothing else of RAM is changed.
 #[test]
 fn no_events_of_writes(rt: HostRuntime) -> Result<(), Fail> {
     let items = mixed_items(rt.alloc())?;
-    let end = End {
-        changed: Some(bytes_changed(&LEFT)),
-        ..mixed_end()
-    };
-    ends_without_events(&rt, rt.alloc(), items, &[], &end)
+    ends_without_events(&rt, rt.alloc(), items, &[], &mixed_end(false))
 }
 
 // The work range's first bytes: the descriptor, and the longest number.
@@ -127,7 +124,7 @@ fn ends_over(
     events: u32,
 ) -> Result<(), Fail> {
     let items = mixed_items(alloc)?;
-    ends(rt, alloc, items, &[], schedule, &mixed_end())?;
+    ends(rt, alloc, items, &[], schedule, &mixed_end(false))?;
     assert_eq!(rt; count_left(schedule), events);
     Ok(())
 }
@@ -141,8 +138,19 @@ fn seeds_of_writes(rt: HostRuntime) -> Result<(), Fail> {
 }
 
 fn ends_over_seed(rt: &impl Abort, alloc: Global, seed: u64) -> Result<(), Fail> {
-    let mut schedule = SeededSchedule::new();
-    schedule.begin(seed);
+    let mut world = World::idle();
+    let done = ends_over_seed_in(rt, alloc, &mut world, seed);
+    drop(world);
+    done
+}
+
+fn ends_over_seed_in(
+    rt: &impl Abort,
+    alloc: Global,
+    world: &mut World,
+    seed: u64,
+) -> Result<(), Fail> {
     let items = mixed_items(alloc)?;
-    ends(rt, alloc, items, &[], &mut schedule, &mixed_end())
+    begin(alloc, world, items)?;
+    begun_ends_over(rt, alloc, world, Policy::Low, seed, &mixed_end(true))
 }

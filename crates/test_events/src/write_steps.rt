@@ -2,7 +2,7 @@
 
 use crate::files::{WRITTEN_FILES, items_of};
 use crate::rig::Transfer::{self, Read, Skip, Write};
-use crate::rig::{Content, Held, NO_BUFFER, NO_DESCRIPTOR};
+use crate::rig::{Content, Held};
 use crate::scripts::HIGH;
 use crate::scripts::Line::{self, Allocate, WritePointer};
 use crate::steps::{Seen, Turns, WHOLE, Walk, walks};
@@ -35,76 +35,86 @@ const PARTLY: Content<'static> = Content(0x20, b"\x10\x11\x03\0\0\x15\x16\x17\x1
 
 const WHOLLY: Content<'static> = Content(0x20, b"\x10\x11\x03\0\0\x03\x16\x17\x18\x19\x1a\x1b");
 
-// The buffer begins with the script's first command, and then with the number and what is left of that.
-const COMMAND: Held = Held(0x8000, b"\x01\0\0\0etc/goal\0");
+// The placed file.
+const GOAL: Held<'static> = Held(0x300_0000, b"\xe1\xe2\xe3\xe4\xe5");
 
-const NUMBER: Held = Held(0x8000, b"\x03\0\0\x03etc/goal\0");
+// What the buffer holds of the script but for its first four bytes: the Allocate with its file, align and zone, and the WritePointer with its files,
+// offsets and size.
+const SCRIPT_READ: &[Held<'static>] = &[
+    Held(0x8004, b"etc/goal"),
+    Held(0x800C, &[0; 48]),
+    Held(0x803C, b"\x40\0\0\0\x01"),
+    Held(0x8041, &[0; 63]),
+    Held(0x8080, b"\x04\0\0\0etc/cell"),
+    Held(0x808C, &[0; 48]),
+    Held(0x80BC, b"etc/goal"),
+    Held(0x80C4, &[0; 48]),
+    Held(0x80F4, b"\x02\0\0\0\x03\0\0\0\x04\0\0\0"),
+];
+
+// These four bytes are the number of an Allocate, and then the number that is written.
+const COMMAND: Held<'static> = Held(0x8000, b"\x01\0\0\0");
+
+const NUMBER: Held<'static> = Held(0x8000, b"\x03\0\0\x03");
 
 // The file is placed, and its read is over.
-const PLACED: Seen = Seen(
-    State::Running,
-    false,
-    4,
-    &[
+const PLACED: Seen = Seen {
+    state: State::Running,
+    busy: false,
+    count: 4,
+    held: &[
         Held(0x7000, b"\0\0\0\0\0\0\0\x05\0\0\0\0\x03\0\0\0"),
         COMMAND,
+        GOAL,
     ],
-    &[UNWRITTEN],
-);
+    buffer: SCRIPT_READ,
+    contents: &[UNWRITTEN],
+};
 
 // The skip of 2 bytes is over at once.
-const SKIPPED: Seen = Seen(
-    State::Running,
-    false,
-    5,
-    &[Held(0x7000, b"\0\0\0\0\0\0\0\x02\0\0\0\0\0\0\0\0"), COMMAND],
-    &[UNWRITTEN],
-);
+const SKIPPED: Seen = Seen {
+    count: 5,
+    held: &[
+        Held(0x7000, b"\0\0\0\0\0\0\0\x02\0\0\0\0\0\0\0\0"),
+        COMMAND,
+        GOAL,
+    ],
+    ..PLACED
+};
 
-const ASKED: Seen = Seen(
-    State::Running,
-    true,
-    5,
-    &[
+const ASKED: Seen = Seen {
+    busy: true,
+    count: 5,
+    held: &[
         Held(0x7000, b"\0\0\0\x10\0\0\0\x04\0\0\0\0\0\0\x80\0"),
         NUMBER,
+        GOAL,
     ],
-    &[UNWRITTEN],
-);
+    ..PLACED
+};
 
-const IN_PIECES: Seen = Seen(
-    State::Running,
-    true,
-    5,
-    &[
-        Held(0x7000, b"\0\0\0\x10\0\0\0\x04\0\0\0\0\0\0\x80\0"),
-        NUMBER,
-    ],
-    &[PARTLY],
-);
+const IN_PIECES: Seen = Seen {
+    contents: &[PARTLY],
+    ..ASKED
+};
 
-const WRITTEN: Seen = Seen(
-    State::Running,
-    false,
-    6,
-    &[
+const WRITTEN: Seen = Seen {
+    count: 6,
+    held: &[
         Held(0x7000, b"\0\0\0\0\0\0\0\x04\0\0\0\0\0\0\x80\0"),
         NUMBER,
+        GOAL,
     ],
-    &[WHOLLY],
-);
+    contents: &[WHOLLY],
+    ..PLACED
+};
 
-const DONE: Seen = Seen(
-    State::Done,
-    false,
-    6,
-    &[
-        NO_DESCRIPTOR,
-        NO_BUFFER,
-        Held(0x300_0000, b"\xe1\xe2\xe3\xe4\xe5\xa5"),
-    ],
-    &[WHOLLY],
-);
+const DONE: Seen = Seen {
+    state: State::Done,
+    held: &[GOAL],
+    buffer: &[],
+    ..WRITTEN
+};
 
 // Writes of other processors, which have no effect: to the lowest byte of the control word, and to both ends of the number.
 const CONTROL: Event = Other {

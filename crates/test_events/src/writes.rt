@@ -9,13 +9,13 @@ use std::alloc::Global;
 use std::process::Abort;
 use std::test::Fail;
 
-// A script that is carried out, its transfers, what the files of the device hold then, and bytes that are left in memory.
+// A script that is carried out, its transfers, what the files of the device hold then, and all that is left in memory.
 #[derive(Clone, Copy)]
 struct Writes {
     script: &'static [Line],
     transfers: &'static [Transfer],
     contents: &'static [Content<'static>],
-    left: &'static [Held],
+    left: &'static [Held<'static>],
 }
 
 const PLACE_CELL: Line = Allocate("etc/cell", 16, FSEG);
@@ -29,12 +29,12 @@ const GOAL: Content<'static> = Content(0x21, b"\xe1\xe2\xe3\xe4\xe5");
 
 const WORD: Content<'static> = Content(0x22, b"\x71\x72\x73\x74\x75\x76\x77\x78");
 
-const CELL_COPY: Held = Held(
+const CELL_COPY: Held<'static> = Held(
     0xF_0000,
     b"\x10\x11\x12\x13\x14\x15\x16\x17\x18\x19\x1a\x1b\xa5",
 );
 
-const GOAL_COPY: Held = Held(0x300_0000, b"\xe1\xe2\xe3\xe4\xe5\xa5");
+const GOAL_COPY: Held<'static> = Held(0x300_0000, b"\xe1\xe2\xe3\xe4\xe5\xa5");
 
 // Each load first reads the number of files and the entries of four.
 const COUNT: Transfer = Read(0x19, 0, 4, 0x8000);
@@ -296,7 +296,7 @@ fn are_done(rt: &impl Abort, alloc: Global, writes: &Writes) -> Result<(), Fail>
         transfers: writes.transfers,
         contents: writes.contents,
         left: writes.left,
-        changed: None,
+        others: false,
     };
     let items = items_of(alloc, &WRITTEN_FILES, 0, writes.script)?;
     ends_without_events(rt, alloc, items, &[], &end)

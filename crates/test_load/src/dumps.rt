@@ -5,7 +5,7 @@
 
 use crate::containers::{ANCHOR, Command, TARGET, container_ends, files_end};
 use crate::endings::NO_ROWS;
-use fixtures::{BOOTED, Run, SEEDED_ROOM, booted, load};
+use fixtures::{Run, booted, load};
 use std::alloc::Global;
 use std::test::Fail;
 
@@ -109,28 +109,65 @@ fn dumps_of_containers(rt: HostRuntime) -> Result<(), Fail> {
     Ok(())
 }
 
-// Seeds have events of their own, and a scattered place is another for each.
-static SEEDED: [&[&str]; 3] = [
-    &["load", "--policy", "scatter", "--seed", "7"],
-    &["load", "--policy", "top", "--seed", "8"],
-    &["load", "--seed", "18446744073709551615"],
+// Seeds have events of their own, and a scattered place is another for each. The dumps were made by a program in Python, apart from this one, from
+// docs/FORMATS.md, "Loads and seeds": of seed 7 the load takes 46 events, of seed 8 52, and of the greatest seed 67, and memory has what other
+// processors wrote then, beside the files.
+static SEEDED: [(&[&str], &str); 3] = [
+    (
+        &["load", "--policy", "scatter", "--seed", "7"],
+        "top 04000000 fill 00
+000004b0 00000000000000060000000000000000
+000398d0 00000099000000000000000000000000
+0004b100 00000000000000006c00000000000000
+00081ca0 00000000300000000000000000000000
+000f5ef0 4142434465000000c41cae0300000000
+03ae1cc0 a1a2a3a4a50000000000000000000000
+end
+",
+    ),
+    (
+        &["load", "--policy", "top", "--seed", "8"],
+        "top 04000000 fill 00
+00015160 00006600000000000000000000000000
+00017cc0 00000000000000000000b00000000000
+0001aee0 00000000000000000000000000bf0000
+00056e60 0000c600000000000000000000000000
+0006bad0 0000000000b700000000000000000000
+00081510 00000000000000000000950000000000
+000815b0 b9000000000000000000000000000000
+0008d2b0 00000000000000000000000072000000
+000913d0 8d000000000000000000000000000000
+00091810 0000fa00000000000000000000000000
+00098990 00000000000000000000000047000000
+000ffff0 4142434431000000c4ffff0300000000
+03ffffc0 a1a2a3a4a50000000000000000000000
+end
+",
+    ),
+    (
+        &["load", "--seed", "18446744073709551615"],
+        "top 04000000 fill 00
+00004ae0 00340000000000000000000000000000
+00006640 00a30000000000000000000000000000
+000125c0 00000000000000000038000000000000
+0001e140 00000000000000000000000000390000
+00034810 0000000000000000ff00000000000000
+00038ab0 000000ea000000000000000000000000
+00045ea0 00000000000000000014000000000000
+0009cd00 00000045000000000000000000000000
+000f0000 41424344ef0000000400000300000000
+03000000 a1a2a3a4a50000000000000000000000
+end
+",
+    ),
 ];
 
 #[test]
 fn loads_with_seeds(rt: HostRuntime) -> Result<(), Fail> {
-    for words in &SEEDED {
-        is_loaded(rt.alloc(), words)?;
+    for (words, dump) in &SEEDED {
+        is_dumped(rt.alloc(), "a seed", words, &LINKED, dump)?;
     }
     Ok(())
-}
-
-fn is_loaded(alloc: Global, words: &[&str]) -> Result<(), Fail> {
-    let run = Run {
-        words,
-        room: SEEDED_ROOM,
-        ..load("a seed", &[])
-    };
-    files_end(alloc, &run, &LINKED, &BOOTED)
 }
 
 // The load of these commands with the files above is done, and is dumped so.

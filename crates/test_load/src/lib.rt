@@ -12,6 +12,8 @@ mod dumps;
 #[cfg(test)]
 mod endings;
 #[cfg(test)]
+mod first_faults;
+#[cfg(test)]
 mod machines;
 #[cfg(test)]
 mod places;

@@ -3,11 +3,12 @@
 use crate::containers::{
     ANCHOR, Command, FileOf, SCRIPT, TARGET, container_ends, container_of_files,
 };
-use crate::endings::{NO_ROWS, no_room_at};
+use crate::endings::no_room_at;
 use fixtures::{Ending, Run, booted, ends_with, failing_places, load};
 use std::alloc::Global;
 use std::test::Fail;
 use vmtables::World;
+use vt_outside::OutOfMemory;
 use zone_alloc::FailingAlloc;
 
 static COMMANDS: [Command; 3] = [
@@ -82,8 +83,7 @@ fn ends_with_places(
     done
 }
 
-// Two files of zeros, by their sizes and their zone, in which the last one that is asked for has no room; the index of its command, and
-// the line.
+// Two files, by their sizes and their zone, in which the last one that is asked for has no room; the index of its command, and the line.
 static SIZES: [(&str, usize, usize, u8, u32, &[u8]); 5] = [
     (
         "above the F segment",
@@ -141,22 +141,55 @@ fn files_that_are_too_large(rt: HostRuntime) -> Result<(), Fail> {
     Ok(())
 }
 
-// Files of zeros that fill their zone, or all of it but the last byte.
-static FITTING: [(&str, usize, usize, u8); 3] = [
-    ("the F segment", 65_520, 16, 2),
-    ("the F segment but for a byte", 65_520, 15, 2),
-    ("high memory", 16_777_200, 16, 1),
+// Files that fill their zone, or all of it but the last byte, by their sizes, and the dump, which shows both ends of each.
+static FITTING: [(&str, usize, usize, u8, &str); 3] = [
+    (
+        "the F segment",
+        65_520,
+        16,
+        2,
+        "top 04000000 fill 00
+000f0000 a1000000000000000000000000000000
+000fffe0 000000000000000000000000000000a2
+000ffff0 a10000000000000000000000000000a2
+end
+",
+    ),
+    (
+        "the F segment but for a byte",
+        65_520,
+        15,
+        2,
+        "top 04000000 fill 00
+000f0000 a1000000000000000000000000000000
+000fffe0 000000000000000000000000000000a2
+000ffff0 a100000000000000000000000000a200
+end
+",
+    ),
+    (
+        "high memory",
+        16_777_200,
+        16,
+        1,
+        "top 04000000 fill 00
+03000000 a1000000000000000000000000000000
+03ffffe0 000000000000000000000000000000a2
+03fffff0 a10000000000000000000000000000a2
+end
+",
+    ),
 ];
 
 #[test]
 fn files_that_fill_a_zone(rt: HostRuntime) -> Result<(), Fail> {
-    for (case, first, second, zone) in &FITTING {
-        ends_sized(rt.alloc(), case, (*first, *second), *zone, &booted(NO_ROWS))?;
+    for (case, first, second, zone, dump) in &FITTING {
+        ends_sized(rt.alloc(), case, (*first, *second), *zone, &booted(dump))?;
     }
     Ok(())
 }
 
-// Loads two files of zeros, of these sizes, into a zone.
+// Loads two files of these sizes into a zone.
 fn ends_sized(
     alloc: Global,
     case: &str,
@@ -164,12 +197,20 @@ fn ends_sized(
     zone: u8,
     ending: &Ending,
 ) -> Result<(), Fail> {
-    let zeros = vec![in alloc; 0; sizes.0.max(sizes.1)]?;
-    let files = [
-        ("etc/first", &zeros[..sizes.0]),
-        ("etc/second", &zeros[..sizes.1]),
-    ];
+    let first = file_of(alloc, sizes.0)?;
+    let second = file_of(alloc, sizes.1)?;
+    let files: [FileOf; 2] = [("etc/first", &first), ("etc/second", &second)];
     two_files_end(alloc, case, &files, zone, ending)
+}
+
+// So many zeros, with another byte at either end where there are two ends.
+fn file_of(alloc: Global, len: usize) -> Result<Vec<u8>, OutOfMemory> {
+    let mut bytes = vec![in alloc; 0; len]?;
+    if let [first, .., last] = bytes.as_mut_slice() {
+        *first = 0xA1;
+        *last = 0xA2;
+    }
+    Ok(bytes)
 }
 
 fn two_files_end(

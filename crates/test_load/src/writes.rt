@@ -3,7 +3,7 @@
 
 use crate::containers::{ANCHOR, CELL, Command, TARGET, container_of_files};
 use crate::dumps::{FILLED_DUMP, LINKED_DUMP, TOP_DUMP, is_dumped};
-use fixtures::{BOOTED, Run, SEEDED_ROOM, ends_in, is_same, load};
+use fixtures::{Ending, Run, booted, ends_in, is_same, load};
 use std::alloc::Global;
 use std::test::Fail;
 use vmtables::{State, World};
@@ -83,54 +83,91 @@ fn dumps_of_written_pointers(rt: HostRuntime) -> Result<(), Fail> {
     Ok(())
 }
 
-// Words, commands, and what the file holds then: the later number of each field. At a top of 64 MiB they are 0x03000001 and 0xF000B, at
-// 128 MiB 0x07000001 and 0xF000B, and at the highest places, over whatever events, 0x03FFFFC1 and 0xFFFFB.
-static HELD: [(&[&str], &[Command], &[u8]); 4] = [
-    (&["load"], &WRITTEN, b"\x01\0\0\x03\x0b\0\x0f\0"),
+const OF_128_MIB_DUMP: &str = "top 08000000 fill 00
+000f0000 41424344eb0000000400000700000000
+07000000 a1a2a3a4a50000000000000000000000
+end
+";
+
+// The same files as at the top, and what other processors wrote in the 136 events of seed 7 that the load takes. The dump was made by a program in
+// Python, apart from this one, from docs/FORMATS.md, "Loads and seeds".
+const OF_SEED_7_DUMP: &str = "top 04000000 fill 00
+000004b0 00000000000000060000000000000000
+00001a20 00000000000000000000000000d70000
+00002950 0000000000000000000000000000005e
+00007680 00ab0000000000000000000000000000
+0002a370 0000000000002d000000000000000000
+00035910 00000000003a00000000000000000000
+00037f60 000000000000000000000a0000000000
+000398d0 00000099000000000000000000000000
+0003a050 000000000000000000000000002e0000
+0003fb20 00000000000000000000005700000000
+000480e0 000000bf000000000000000000000000
+0004b100 00000000000000006c00000000000000
+00058930 00000000001e00000000000000000000
+0005b900 00000000000000090000000000000000
+000676d0 000000000000da000000000000000000
+0006b880 00000000000000790000000000000000
+00081ca0 00000000300000000000000000000000
+0009e1d0 000000000000000000000000000000ef
+000ffff0 4142434431000000c4ffff0300000000
+03ffffc0 a1a2a3a4a50000000000000000000000
+end
+";
+
+// Words, what the file holds then, which is the later number of each field, and the dump. At a top of 64 MiB the numbers are 0x03000001 and 0xF000B,
+// at 128 MiB 0x07000001 and 0xF000B, and at the highest places, over whatever events, 0x03FFFFC1 and 0xFFFFB.
+static HELD: [(&[&str], &[u8], &str); 4] = [
+    (&["load"], b"\x01\0\0\x03\x0b\0\x0f\0", LINKED_DUMP),
     (
         &["load", "--top", "128"],
-        &WRITTEN,
         b"\x01\0\0\x07\x0b\0\x0f\0",
+        OF_128_MIB_DUMP,
     ),
     (
         &["load", "--policy", "top"],
-        &WRITTEN,
         b"\xc1\xff\xff\x03\xfb\xff\x0f\0",
+        TOP_DUMP,
     ),
     (
         &["load", "--policy", "top", "--seed", "7"],
-        &WRITTEN,
         b"\xc1\xff\xff\x03\xfb\xff\x0f\0",
+        OF_SEED_7_DUMP,
     ),
 ];
 
 #[test]
 fn what_is_written(rt: HostRuntime) -> Result<(), Fail> {
-    for (words, commands, bytes) in &HELD {
-        writes(rt.alloc(), words, commands, bytes)?;
+    for (words, bytes, dump) in &HELD {
+        writes(rt.alloc(), words, bytes, &booted(dump))?;
     }
     Ok(())
 }
 
-fn writes(alloc: Global, words: &[&str], commands: &[Command], bytes: &[u8]) -> Result<(), Fail> {
-    let container = container_of_files(alloc, commands)?;
+fn writes(alloc: Global, words: &[&str], bytes: &[u8], ending: &Ending) -> Result<(), Fail> {
+    let container = container_of_files(alloc, &WRITTEN)?;
     let run = Run {
         words,
-        room: SEEDED_ROOM,
         ..load("written pointers", container.as_slice())
     };
-    run_writes(alloc, &run, bytes)
+    run_writes(alloc, &run, bytes, ending)
 }
 
-fn run_writes(alloc: Global, run: &Run, bytes: &[u8]) -> Result<(), Fail> {
+fn run_writes(alloc: Global, run: &Run, bytes: &[u8], ending: &Ending) -> Result<(), Fail> {
     let mut world = World::idle();
-    let done = writes_in(alloc, run, &mut world, bytes);
+    let done = writes_in(alloc, run, &mut world, bytes, ending);
     drop(world);
     done
 }
 
-fn writes_in(alloc: Global, run: &Run, world: &mut World, bytes: &[u8]) -> Result<(), Fail> {
-    ends_in(alloc, run, world, &BOOTED)?;
+fn writes_in(
+    alloc: Global,
+    run: &Run,
+    world: &mut World,
+    bytes: &[u8],
+    ending: &Ending,
+) -> Result<(), Fail> {
+    ends_in(alloc, run, world, ending)?;
     holds(world, bytes)
 }
 

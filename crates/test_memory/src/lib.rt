@@ -5,3 +5,5 @@
 mod frames;
 #[cfg(test)]
 mod memory;
+#[cfg(test)]
+mod sums;

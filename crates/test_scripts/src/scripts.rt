@@ -3,13 +3,13 @@
 ghost use Rattle.std.specs.Prelude.{◌≡◌, ◌+◌, ◌^◌, ◌≤◌, codes};
 
 use loader_script::{
-    Cause, Entry, FileInfo, ScriptFault, decode_entry, decode_script, encode_script, entry_size,
-    refusal,
+    Cause, Entry, FileInfo, NameOrder, ScriptFault, decode_entry, decode_script, encode_script,
+    entry_size, refusal,
 };
 use std::alloc::Global;
 use std::process::Abort;
 use std::test::Fail;
-use vt_outside::Name;
+use vt_outside::{Name, OutOfMemory};
 
 // ALLOCATE of "a" to a multiple of 0x10 of the F segment.
 fn allocate() -> [u8; 128] {
@@ -123,38 +123,42 @@ fn count_of(alloc: Global, bytes: &[u8]) -> Result<usize, ScriptFault> {
 }
 
 #[test]
-fn causes_of_refusal(rt: HostRuntime) {
-    assert_eq!(rt; refusal(&Entry::Skipped(9), &[], &[]), None);
+fn causes_of_refusal(rt: HostRuntime) -> Result<(), Fail> {
+    let order = NameOrder::of(rt.alloc(), &[])?;
+    assert_eq!(rt; refusal(&Entry::Skipped(9), &[], &[], &order), None);
     assert_eq!(rt;
-        refusal(&Entry::Misnamed(2), &[], &[]),
+        refusal(&Entry::Misnamed(2), &[], &[], &order),
         Some(Cause::BadName)
     );
     assert_eq!(rt;
-        refusal(&Entry::Misnamed(4), &[], &[]),
+        refusal(&Entry::Misnamed(4), &[], &[], &order),
         Some(Cause::BadName)
     );
+    Ok(())
 }
 
 // Of two files "a", of 16 bytes at an address, and "b", of 8 bytes, writable and not placed.
-pub(crate) fn cause_at(place: u64, entry: &Entry) -> Option<Cause>
+pub(crate) fn cause_at(
+    alloc: Global,
+    place: u64,
+    entry: &Entry,
+) -> Result<Option<Cause>, OutOfMemory>
     requires { place + 16 ≤ 2 ^ 32 }
 {
-    refusal(
-        entry,
-        &[
-            FileInfo {
-                name: a(),
-                size: 16,
-                writable: false,
-            },
-            FileInfo {
-                name: b(),
-                size: 8,
-                writable: true,
-            },
-        ],
-        &[Some(place), None],
-    )
+    let files = [
+        FileInfo {
+            name: a(),
+            size: 16,
+            writable: false,
+        },
+        FileInfo {
+            name: b(),
+            size: 8,
+            writable: true,
+        },
+    ];
+    let order = NameOrder::of(alloc, &files)?;
+    Ok(refusal(entry, &files, &[Some(place), None], &order))
 }
 
 pub(crate) fn a() -> Name
@@ -171,29 +175,38 @@ pub(crate) fn b() -> Name
 
 #[test]
 fn causes_with_files(rt: HostRuntime) -> Result<(), Fail> {
-    allocations(&rt, a(), b(), Name::of("etc/other")?);
-    pointers(&rt, a(), b());
+    allocations(&rt, rt.alloc(), a(), b(), Name::of("etc/other")?);
+    pointers(&rt, rt.alloc(), a(), b());
     Ok(())
 }
 
-fn allocations(rt: &impl Abort, a: Name, b: Name, other: Name) {
-    is_cause(rt, &allocate_of(a, 16, 1), Some(Cause::AlreadyPlaced));
-    is_cause(rt, &allocate_of(b, 16, 2), None);
-    is_cause(rt, &allocate_of(b, 24, 1), Some(Cause::BadAlign));
-    is_cause(rt, &allocate_of(b, 16, 3), Some(Cause::BadZone));
-    is_cause(rt, &allocate_of(other, 16, 1), Some(Cause::NoFile));
+fn allocations(rt: &impl Abort, alloc: Global, a: Name, b: Name, other: Name) {
+    is_cause(
+        rt,
+        alloc,
+        &allocate_of(a, 16, 1),
+        Some(Cause::AlreadyPlaced),
+    );
+    is_cause(rt, alloc, &allocate_of(b, 16, 2), None);
+    is_cause(rt, alloc, &allocate_of(b, 24, 1), Some(Cause::BadAlign));
+    is_cause(rt, alloc, &allocate_of(b, 16, 3), Some(Cause::BadZone));
+    is_cause(rt, alloc, &allocate_of(other, 16, 1), Some(Cause::NoFile));
 }
 
-fn pointers(rt: &impl Abort, a: Name, b: Name) {
-    is_cause(rt, &add_pointer(a, a, 8, 8), None);
-    is_cause(rt, &add_pointer(a, a, 9, 8), Some(Cause::OutOfRange));
-    is_cause(rt, &add_pointer(a, a, 8, 3), Some(Cause::BadSize));
-    is_cause(rt, &add_pointer(a, b, 8, 8), Some(Cause::NotPlaced));
+fn pointers(rt: &impl Abort, alloc: Global, a: Name, b: Name) {
+    is_cause(rt, alloc, &add_pointer(a, a, 8, 8), None);
+    is_cause(rt, alloc, &add_pointer(a, a, 9, 8), Some(Cause::OutOfRange));
+    is_cause(rt, alloc, &add_pointer(a, a, 8, 3), Some(Cause::BadSize));
+    is_cause(rt, alloc, &add_pointer(a, b, 8, 8), Some(Cause::NotPlaced));
 }
 
 // The command is refused for this cause, or not refused, where "a" is at 0x03000000.
-pub(crate) fn is_cause(rt: &impl Abort, entry: &Entry, cause: Option<Cause>) {
-    assert_eq!(rt; cause_at(0x0300_0000, entry), cause, "at {entry:?}");
+pub(crate) fn is_cause(rt: &impl Abort, alloc: Global, entry: &Entry, cause: Option<Cause>) {
+    assert_eq!(rt;
+        cause_at(alloc, 0x0300_0000, entry),
+        Ok(cause),
+        "at {entry:?}"
+    );
 }
 
 fn allocate_of(file: Name, align: u32, zone: u8) -> Entry {

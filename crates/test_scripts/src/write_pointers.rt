@@ -5,6 +5,7 @@ ghost use Rattle.loader_script.specs.Spelling.{CanBeWritten};
 
 use crate::scripts::{a, b, cause_at, is_cause};
 use loader_script::{Cause, Entry, decode_entry, encode_script, entry_size};
+use std::alloc::Global;
 use std::process::Abort;
 use std::test::Fail;
 use vt_outside::Name;
@@ -47,68 +48,176 @@ fn fields(rt: HostRuntime) -> Result<(), Fail> {
 // Each cause, and each before those that follow it. "a" has 16 bytes, and "b" 8, which the guest may write.
 #[test]
 fn causes(rt: HostRuntime) -> Result<(), Fail> {
-    files(&rt, a(), b(), Name::of("etc/other")?);
-    sizes(&rt, a(), b());
-    ranges(&rt, a(), b());
+    files(&rt, rt.alloc(), a(), b(), Name::of("etc/other")?);
+    sizes(&rt, rt.alloc(), a(), b());
+    ranges(&rt, rt.alloc(), a(), b());
     Ok(())
 }
 
-fn files(rt: &impl Abort, a: Name, b: Name, other: Name) {
-    is_cause(rt, &write_pointer(b, a, 0, 0, 8), None);
-    is_cause(rt, &write_pointer(other, a, 0, 0, 8), Some(Cause::NoFile));
-    is_cause(rt, &write_pointer(b, other, 0, 0, 8), Some(Cause::NoFile));
-    is_cause(rt, &write_pointer(other, b, 0, 0, 3), Some(Cause::NoFile));
-    is_cause(rt, &write_pointer(b, b, 0, 0, 8), Some(Cause::NotPlaced));
-    is_cause(rt, &write_pointer(b, b, 9, 9, 3), Some(Cause::NotPlaced));
-}
-
-fn sizes(rt: &impl Abort, a: Name, b: Name) {
-    is_cause(rt, &write_pointer(b, a, 0, 0, 0), Some(Cause::BadSize));
-    is_cause(rt, &write_pointer(b, a, 0, 0, 3), Some(Cause::BadSize));
-    is_cause(rt, &write_pointer(b, a, 0, 0, 16), Some(Cause::BadSize));
-    is_cause(rt, &write_pointer(a, a, 16, 16, 3), Some(Cause::BadSize));
-    is_cause(rt, &write_pointer(a, a, 0, 0, 8), Some(Cause::ReadOnly));
-    is_cause(rt, &write_pointer(a, a, 9, 0, 8), Some(Cause::ReadOnly));
-    is_cause(rt, &write_pointer(a, a, 0, 16, 8), Some(Cause::ReadOnly));
-    is_cause(rt, &write_pointer(a, a, 0, 0, 1), Some(Cause::ReadOnly));
-}
-
-fn ranges(rt: &impl Abort, a: Name, b: Name) {
-    is_cause(rt, &write_pointer(b, a, 1, 0, 8), Some(Cause::OutOfRange));
-    is_cause(rt, &write_pointer(b, a, 4, 0, 4), None);
-    is_cause(rt, &write_pointer(b, a, 5, 0, 4), Some(Cause::OutOfRange));
+fn files(rt: &impl Abort, alloc: Global, a: Name, b: Name, other: Name) {
+    is_cause(rt, alloc, &write_pointer(b, a, 0, 0, 8), None);
     is_cause(
         rt,
+        alloc,
+        &write_pointer(other, a, 0, 0, 8),
+        Some(Cause::NoFile),
+    );
+    is_cause(
+        rt,
+        alloc,
+        &write_pointer(b, other, 0, 0, 8),
+        Some(Cause::NoFile),
+    );
+    is_cause(
+        rt,
+        alloc,
+        &write_pointer(other, b, 0, 0, 3),
+        Some(Cause::NoFile),
+    );
+    is_cause(
+        rt,
+        alloc,
+        &write_pointer(b, b, 0, 0, 8),
+        Some(Cause::NotPlaced),
+    );
+    is_cause(
+        rt,
+        alloc,
+        &write_pointer(b, b, 9, 9, 3),
+        Some(Cause::NotPlaced),
+    );
+}
+
+fn sizes(rt: &impl Abort, alloc: Global, a: Name, b: Name) {
+    is_cause(
+        rt,
+        alloc,
+        &write_pointer(b, a, 0, 0, 0),
+        Some(Cause::BadSize),
+    );
+    is_cause(
+        rt,
+        alloc,
+        &write_pointer(b, a, 0, 0, 3),
+        Some(Cause::BadSize),
+    );
+    is_cause(
+        rt,
+        alloc,
+        &write_pointer(b, a, 0, 0, 16),
+        Some(Cause::BadSize),
+    );
+    is_cause(
+        rt,
+        alloc,
+        &write_pointer(a, a, 16, 16, 3),
+        Some(Cause::BadSize),
+    );
+    is_cause(
+        rt,
+        alloc,
+        &write_pointer(a, a, 0, 0, 8),
+        Some(Cause::ReadOnly),
+    );
+    is_cause(
+        rt,
+        alloc,
+        &write_pointer(a, a, 9, 0, 8),
+        Some(Cause::ReadOnly),
+    );
+    is_cause(
+        rt,
+        alloc,
+        &write_pointer(a, a, 0, 16, 8),
+        Some(Cause::ReadOnly),
+    );
+    is_cause(
+        rt,
+        alloc,
+        &write_pointer(a, a, 0, 0, 1),
+        Some(Cause::ReadOnly),
+    );
+}
+
+fn ranges(rt: &impl Abort, alloc: Global, a: Name, b: Name) {
+    is_cause(
+        rt,
+        alloc,
+        &write_pointer(b, a, 1, 0, 8),
+        Some(Cause::OutOfRange),
+    );
+    is_cause(rt, alloc, &write_pointer(b, a, 4, 0, 4), None);
+    is_cause(
+        rt,
+        alloc,
+        &write_pointer(b, a, 5, 0, 4),
+        Some(Cause::OutOfRange),
+    );
+    is_cause(
+        rt,
+        alloc,
         &write_pointer(b, a, 0xFFFF_FFFF, 0, 4),
         Some(Cause::OutOfRange),
     );
-    is_cause(rt, &write_pointer(b, a, 0, 15, 8), None);
-    is_cause(rt, &write_pointer(b, a, 0, 16, 8), Some(Cause::OutOfRange));
-    is_cause(rt, &write_pointer(b, a, 8, 0, 1), Some(Cause::OutOfRange));
-    is_cause(rt, &write_pointer(b, a, 0, 16, 1), Some(Cause::OutOfRange));
-    is_cause(rt, &write_pointer(b, a, 7, 0, 1), Some(Cause::TooFar));
-    is_cause(rt, &write_pointer(b, a, 6, 15, 2), Some(Cause::TooFar));
+    is_cause(rt, alloc, &write_pointer(b, a, 0, 15, 8), None);
+    is_cause(
+        rt,
+        alloc,
+        &write_pointer(b, a, 0, 16, 8),
+        Some(Cause::OutOfRange),
+    );
+    is_cause(
+        rt,
+        alloc,
+        &write_pointer(b, a, 8, 0, 1),
+        Some(Cause::OutOfRange),
+    );
+    is_cause(
+        rt,
+        alloc,
+        &write_pointer(b, a, 0, 16, 1),
+        Some(Cause::OutOfRange),
+    );
+    is_cause(
+        rt,
+        alloc,
+        &write_pointer(b, a, 7, 0, 1),
+        Some(Cause::TooFar),
+    );
+    is_cause(
+        rt,
+        alloc,
+        &write_pointer(b, a, 6, 15, 2),
+        Some(Cause::TooFar),
+    );
 }
 
 // The largest number that fits, and the next one. A placed file ends at or below 2^32, so what is in it fits 4 bytes.
 #[test]
 fn numbers_that_fit(rt: HostRuntime) {
-    is_cause_at(&rt, 0xF8, 7, 1, None);
-    is_cause_at(&rt, 0xF8, 8, 1, Some(Cause::TooFar));
-    is_cause_at(&rt, 0xFFF8, 7, 2, None);
-    is_cause_at(&rt, 0xFFF8, 8, 2, Some(Cause::TooFar));
-    is_cause_at(&rt, 0xFFFF_FFF0, 15, 4, None);
-    is_cause_at(&rt, 0xFFFF_FFF0, 16, 4, Some(Cause::OutOfRange));
-    is_cause_at(&rt, 0xFFFF_FFF0, 15, 8, None);
+    is_cause_at(&rt, rt.alloc(), 0xF8, 7, 1, None);
+    is_cause_at(&rt, rt.alloc(), 0xF8, 8, 1, Some(Cause::TooFar));
+    is_cause_at(&rt, rt.alloc(), 0xFFF8, 7, 2, None);
+    is_cause_at(&rt, rt.alloc(), 0xFFF8, 8, 2, Some(Cause::TooFar));
+    is_cause_at(&rt, rt.alloc(), 0xFFFF_FFF0, 15, 4, None);
+    is_cause_at(&rt, rt.alloc(), 0xFFFF_FFF0, 16, 4, Some(Cause::OutOfRange));
+    is_cause_at(&rt, rt.alloc(), 0xFFFF_FFF0, 15, 8, None);
 }
 
 // The place of "a" plus an offset is refused for this cause, or not refused, where "a" is at an address.
-fn is_cause_at(rt: &impl Abort, place: u64, src_offset: u32, size: u8, cause: Option<Cause>)
+fn is_cause_at(
+    rt: &impl Abort,
+    alloc: Global,
+    place: u64,
+    src_offset: u32,
+    size: u8,
+    cause: Option<Cause>,
+)
     requires { place + 16 ≤ 2 ^ 32 }
 {
     assert_eq!(rt;
-        cause_at(place, &write_pointer(b(), a(), 0, src_offset, size)),
-        cause,
+        cause_at(alloc, place, &write_pointer(b(), a(), 0, src_offset, size)),
+        Ok(cause),
         "at {place:#X} and {src_offset}"
     );
 }

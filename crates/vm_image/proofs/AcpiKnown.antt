@@ -81,7 +81,8 @@ none_put : (generation : Option ℕ) (begin : BlobState) → MayBegin generation
 none_put generation begin may = record { appended = none_appended begin may.linkable; blob = may.blob; pointers = tt }
 
 -- all is known of the files of tables that can be put there
-known_image : (generation : Option ℕ) (acpi : Acpi) (begin : BlobState) (tables : List Table) → FitsHead acpi → MayBegin generation begin → AllByRecursion CanBePut tables
+known_image : (generation : Option ℕ) (acpi : Acpi) (begin : BlobState) (tables : List Table) → FitsHead acpi → MayBegin generation begin
+    → AllByRecursion CanBePut tables
     → AreFew begin tables → IsAcpiImage acpi begin tables (acpi_files acpi begin tables)
 known_image generation acpi begin tables fits may can are_few =
     let few = are_few.bytes in

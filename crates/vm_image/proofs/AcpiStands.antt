@@ -39,7 +39,8 @@ module _ (m : Memory) (place_of : List ℕ → ℕ) (high : 0x4000000 ≤ m.top)
   acpi_clear_of_anchors machine (Some acpi) limit within known stand =
       let tables = stand.0 in
       let rsdp = stand.1.0 in
-      let held : LayoutHeld (seen m) place_of (place_of rsdp_name) (rsdp_rows (padded 6 acpi.oem_id) (table_pointer (xsdt_place (tables_begin machine acpi) (tables_of machine acpi)))) =
+      let held : LayoutHeld (seen m) place_of (place_of rsdp_name) (rsdp_rows (padded 6 acpi.oem_id)
+      (table_pointer (xsdt_place (tables_begin machine acpi) (tables_of machine acpi)))) =
       known.rsdp_held (seen m) (place_of rsdp_name) place_of rsdp.held in
       let clear = rsdp_clear m place_of limit (place_of rsdp_name) (padded 6 acpi.oem_id) (xsdt_place (tables_begin machine acpi) (tables_of machine acpi))
       (omega (arith, rsdp.aligned.1)) held in (
@@ -67,15 +68,18 @@ module _ (m : Memory) (place_of : List ℕ → ℕ) (high : 0x4000000 ≤ m.top)
       let rsdp_within = rsdp.within in
       let tables_from = tables.from in
       let file = (acpi_files acpi (tables_begin machine acpi) (tables_of machine acpi)).tables in
-      let held : HoldsTables (seen m) place_of (xsdt_place (tables_begin machine acpi) (tables_of machine acpi) + place_of tables_name) (head_of acpi 1) (tables_of machine acpi) =
+      let held : HoldsTables (seen m) place_of (xsdt_place (tables_begin machine acpi) (tables_of machine acpi) + place_of tables_name)
+      (head_of acpi 1) (tables_of machine acpi) =
       known.tables_file.held (seen m) (place_of tables_name) place_of tables.held refl (omega arith) in
       record {
         rsdp = place_of rsdp_name;
         least = no_rsdp (place_of rsdp_name) (omega arith) (
-          clear_behind m (rsdp_mark (place_of rsdp_name)) (place_of tables_name) (length (acpi_files acpi (tables_begin machine acpi) (tables_of machine acpi)).tables.bytes)
+          clear_behind m (rsdp_mark (place_of rsdp_name)) (place_of tables_name)
+              (length (acpi_files acpi (tables_begin machine acpi) (tables_of machine acpi)).tables.bytes)
               (omega (arith, tables.aligned.1)) (omega arith),
           (
-            clear_behind m (rsdp_mark (place_of rsdp_name)) (place_of rsdp_name) (length (acpi_files acpi (tables_begin machine acpi) (tables_of machine acpi)).rsdp.bytes)
+            clear_behind m (rsdp_mark (place_of rsdp_name)) (place_of rsdp_name)
+                (length (acpi_files acpi (tables_begin machine acpi) (tables_of machine acpi)).rsdp.bytes)
                 (omega (arith, rsdp.aligned.1)) (omega arith),
             tt,
           ),

@@ -37,7 +37,8 @@ loaded_anywhere m accepted known places are =
     let bounds : Lawful m = lawful m accepted in
     let linkable = image_linkable m accepted known in
     let begins = begins_with (image_files m) (telling m.generation) (image_distinct m) (image_has_no_loader m) in
-    let linked = files_linked (top_of m) (image_files m) (files_of (image_items m)) (linking (image_files m)) (telling m.generation) places (omega arith) linkable
+    let linked = files_linked (top_of m) (image_files m) (files_of (image_items m)) (linking (image_files m)) (telling m.generation) places
+    (omega arith) linkable
     (links (image_files m) linkable) begins are in (
       linked.0,
       linked.1,

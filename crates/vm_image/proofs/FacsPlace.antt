@@ -28,6 +28,7 @@ pub facs_is_aligned : (m : Machine) → IsAccepted m → IsSome m.power → (pla
     → ArePlaces (top_of m) [] (image_files m) places → AreLinked (place_in placed) (image_files m) places placed
     → (place_in placed tables_name + facs_place) % 64 ≡ 0
 facs_is_aligned m accepted some places placed lawful linked =
-    tables_aligned m m.acpi (power_needs_acpi m accepted some) (top_of m) (place_in placed) (smbios_placed (structures_file m) ++ generation_part m.generation) places
+    tables_aligned m m.acpi (power_needs_acpi m accepted some) (top_of m) (place_in placed)
+    (smbios_placed (structures_file m) ++ generation_part m.generation) places
     lawful
     (named (place_in placed) (image_files m) places placed (image_distinct m) linked)

@@ -1,5 +1,6 @@
 -- The id of a machine's generation, where there is one, wherever its file stands in memory.
-use Rattle.std.proofs.Common.{◌≡◌, ℕ, ◌+◌, ◌^◌, ◌<◌, ◌≤◌, List, length, take, drop, Option, Some, None, is_some, IsSome, IfSome, option_map, arith, refl, ap, ◌∙◌}
+use Rattle.std.proofs.Common.{◌≡◌, ℕ, ◌+◌, ◌^◌, ◌<◌, ◌≤◌, List, length, take, drop, Option, Some, None, is_some, IsSome, IfSome, option_map, arith}
+use Rattle.std.proofs.Common.{refl, ap, ◌∙◌}
 use Rattle.std.specs.List.{AllByRecursion}
 use Rattle.vt_bytes.specs.Memory.{Memory, seen}
 use Rattle.vt_bytes.specs.View.{bytes_in}

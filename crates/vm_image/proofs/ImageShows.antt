@@ -29,7 +29,8 @@ use Rattle.vm_image.proofs.SmbiosStands.{smbios_clear_of_rsdps, smbios_clear_of_
 use Rattle.vm_image.proofs.AcpiStands.{acpi_clear_of_anchors, acpi_shown}
 
 -- a memory that holds a machine's files shows the machine
-pub image_shows : (m : Machine) → IsAccepted m → HasFittingFields m → AreStructures (structures_file m) (structures_of m) → AreAcpiKnown m m.acpi → IsShownAnywhere m
+pub image_shows : (m : Machine) → IsAccepted m → HasFittingFields m → AreStructures (structures_file m) (structures_of m) → AreAcpiKnown m m.acpi
+    → IsShownAnywhere m
 image_shows m accepted fit read known places placed memory lawful_places linked top held =
     let bounds : Lawful m = lawful m accepted in
     let few : length (structures_file m) ≤ 262144 = (structures_size m accepted).1 in

@@ -1,5 +1,6 @@
 -- The files of a machine can be placed and linked.
-use Rattle.std.proofs.Common.{◌≡◌, ℕ, ◌^◌, ◌<◌, inl, inr, ⊎_elim, List, [], ◌∷◌, ◌++◌, length, replicate, true, Option, Some, None, IsSome, refl, arith, sym, subst}
+use Rattle.std.proofs.Common.{◌≡◌, ℕ, ◌^◌, ◌<◌, inl, inr, ⊎_elim, List, [], ◌∷◌, ◌++◌, length, replicate, true, Option, Some, None, IsSome, refl}
+use Rattle.std.proofs.Common.{arith, sym, subst}
 use Rattle.std.specs.Int.{is_power_of_two}
 use Rattle.std.specs.List.{AllByRecursion}
 use lib.Count.{ones}

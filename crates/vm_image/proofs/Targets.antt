@@ -48,7 +48,8 @@ module _ (generation : Option ℕ) where
       (holes_lead (length (aligned 16 file).bytes) (rows_of table) (table_leads table writable.0)))
 
   -- each pointer of the tables' file leads to it, where each of what it begins with does
-  pub tables_lead : (maker : Acpi) (begin : BlobState) (tables : List Table) → AllByRecursion (HoleLeads generation) begin.pointers → AllByRecursion IsWritable tables
+  pub tables_lead : (maker : Acpi) (begin : BlobState) (tables : List Table) → AllByRecursion (HoleLeads generation) begin.pointers
+      → AllByRecursion IsWritable tables
       → AllByRecursion (HoleLeads generation) (acpi_files maker begin tables).tables.pointers
   tables_lead maker begin tables lead writable =
       each_append (HoleLeads generation) (with_tables begin tables).pointers
@@ -58,7 +59,8 @@ module _ (generation : Option ℕ) where
       (xsdt_leads (head_of maker 1) (places_in begin tables)))
 
   -- so does each of the RSDP's
-  pub rsdp_leads : (maker : Acpi) (begin : BlobState) (tables : List Table) → AllByRecursion (HoleLeads generation) (acpi_files maker begin tables).rsdp.pointers
+  pub rsdp_leads : (maker : Acpi) (begin : BlobState) (tables : List Table)
+      → AllByRecursion (HoleLeads generation) (acpi_files maker begin tables).rsdp.pointers
   rsdp_leads maker begin tables =
       holes_lead (length (aligned 16 (whole [])).bytes) (rsdp_rows (padded 6 maker.oem_id) (table_pointer (xsdt_place begin tables)))
       (rows_lead (padded 6 maker.oem_id) (xsdt_place begin tables))

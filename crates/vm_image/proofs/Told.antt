@@ -1,5 +1,6 @@
 -- The host is told where the id of a machine's generation is, once the machine's files are linked.
-use Rattle.std.proofs.Common.{◌≡◌, ℕ, suc, ◌+◌, ◌<◌, ◌≤◌, true, false, List, [], ◌∷◌, ◌++◌, replicate, Option, Some, None, inr, arith, refl, ap, sym, subst, ◌∙◌}
+use Rattle.std.proofs.Common.{◌≡◌, ℕ, suc, ◌+◌, ◌<◌, ◌≤◌, true, false, List, [], ◌∷◌, ◌++◌, replicate, Option, Some, None, inr, arith, refl, ap, sym}
+use Rattle.std.proofs.Common.{subst, ◌∙◌}
 use Rattle.std.specs.Option.{option_map_or}
 use Rattle.std.specs.List.{AllByRecursion}
 use Rattle.vt_outside.specs.File.{File}
@@ -14,7 +15,8 @@ use Rattle.cfg_directory.specs.Files.{files_of}
 use Rattle.image_files.specs.Files.{ImageFile}
 use Rattle.image_files.specs.Places.{ArePlaces}
 use Rattle.image_files.specs.Linked.{BeginsWith, AreLinked}
-use Rattle.vm_image.specs.Image.{acpi_part, smbios_placed, structures_file, id_bytes, address_name, generation_part, write_address, telling, image_files, image_items}
+use Rattle.vm_image.specs.Image.{acpi_part, smbios_placed, structures_file, id_bytes, address_name, generation_part, write_address, telling}
+use Rattle.vm_image.specs.Image.{image_files, image_items}
 use Rattle.vm_image.specs.Promised.{top_of, told_files}
 use Rattle.vm_image.proofs.DistinctNames.{image_distinct}
 use Rattle.vm_image.proofs.Named.{named}
@@ -94,7 +96,8 @@ address_written m placed id index can =
     }) in
     let bytes : bytes_of files address_name ≡ replicate 8 0 = ap (λ found. option_map_or (λ (f : File). f.bytes) found []) can.there in
     let number : place_of placed generation_file + id_offset ≡ id_address (place_of placed) = omega arith in
-    let written : put_at (bytes_of files address_name) 0 (le_bytes 8 (place_of placed generation_file + id_offset)) ≡ le_bytes 8 (id_address (place_of placed)) =
+    let written : put_at (bytes_of files address_name) 0 (le_bytes 8 (place_of placed generation_file + id_offset)) ≡ le_bytes 8
+    (id_address (place_of placed)) =
     ap (λ those. put_at those 0 (le_bytes 8 (place_of placed generation_file + id_offset))) bytes
     ∙ eight_put (place_of placed generation_file + id_offset) ∙ ap (le_bytes 8) number in
     ap (λ cause. goes_on index p cause (carried_out write_address p) (run_from (suc index) [])) not_refused

@@ -15,8 +15,8 @@ use Rattle.vm_image.specs.Image.{image_files, image_script, image_items}
 use Rattle.vm_image.specs.Promised.{top_of, IsLoadedAnywhere, IsShownAnywhere}
 
 -- The items are those of the machine's files, each as it is, and of its script's, which spells the script, whose commands fit their
--- entries. The files can be placed and linked, and there is room for them, whatever lawful places those before were given. Wherever they come to stand, no command is refused, and a memory that holds them shows exactly the machine's
--- inventory, whatever its fill byte is.
+-- entries. The files can be placed and linked, and there is room for them, whatever lawful places those before were given. Wherever they
+-- come to stand, no command is refused, and a memory that holds them shows exactly the machine's inventory, whatever its fill byte is.
 pub record IsBuilt (m : Machine) (items : List Item) (script : List Entry) : Type 0 where
   pub items_are : items ≡ image_items m
   pub script_is : script ≡ image_script m

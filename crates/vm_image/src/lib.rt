@@ -1,9 +1,9 @@
 //! The image of a machine: its files of fw_cfg, with SMBIOS structures (DMTF DSP0134), ACPI tables and the id of its generation, and the
 //! script by which a firmware places and links them, and tells the host where the id is.
 //!
-//! The contract says which items and which commands they are, of which there are exactly one for each machine, and that memory shows
-//! exactly the machine once the script has run, whatever lawful places the files were given, whatever byte filled memory, and whatever
-//! bytes lie outside of the files and of the BIOS area.
+//! The contract says which items and which commands they are, and that memory shows exactly the machine once the script has run, whatever
+//! lawful places the files were given, whatever byte filled memory, and whatever bytes lie outside of the files and of the BIOS area. The laws
+//! say that an accepted machine whose numbers fit their fields has exactly one image.
 #![tactic(auto)]
 
 mod acpi;

@@ -165,7 +165,8 @@ nothing_refused Gives None before after ended source source_after out out_after 
 
 -- nor does the command that the words are
 pub words_refuse_nothing : (Gives : Answering) (known command : Option Command) (ended : Result (Unit {0}) Fault) (before after : Seen)
-    (source source_after : SourceSeen) (out out_after : SinkSeen) → known ≡ command → Ran (Does Gives known before after) ended source source_after out out_after
+    (source source_after : SourceSeen) (out out_after : SinkSeen) → known ≡ command
+    → Ran (Does Gives known before after) ended source source_after out out_after
     → NothingIsRefused command (status_of ended)
 words_refuse_nothing Gives known command ended before after source source_after out out_after is ran =
     subst (λ those. NothingIsRefused those (status_of ended)) is

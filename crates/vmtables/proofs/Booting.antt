@@ -121,7 +121,8 @@ leaves_of Gives items top setting answer before after loaded =
     let m : Memory = memory_of loaded.begun in
     subst (λ those. IsLoadedOver May those top setting.fill loaded.load.taken after.place.handed answer loaded.world)
     (ap (λ (d : DeviceState). d.items) loaded.was_begun.device)
-    (subst (λ t. IsLoadedOver May loaded.begun.attached.device.items t setting.fill loaded.load.taken after.place.handed answer loaded.world) loaded.was_begun.top
+    (subst (λ t. IsLoadedOver May loaded.begun.attached.device.items t setting.fill loaded.load.taken after.place.handed answer loaded.world)
+    loaded.was_begun.top
     (subst (λ f. IsLoadedOver May loaded.begun.attached.device.items m.top f loaded.load.taken after.place.handed answer loaded.world)
     loaded.was_begun.fill loaded.load.leaves))
 

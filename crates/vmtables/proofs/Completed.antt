@@ -116,7 +116,8 @@ pub boot_completed : (Gives : Answering) (setting : Setting) (bytes : List ℕ) 
 boot_completed Gives setting bytes call few fed room =
     let ran = call.answered.ran in
     call_done Gives (Boot setting) call
-    (whole_call (BootMakes Gives setting) call.before call.after bytes ran.input ran.made call.answered.ended call.source call.source_after call.out call.out_after
+    (whole_call (BootMakes Gives setting) call.before call.after bytes ran.input ran.made call.answered.ended call.source call.source_after call.out
+    call.out_after
     fed.had fed.within fed.read fed.written ran.did ran.read ran.wrote (boot_fault Gives setting bytes call.before call.after few room))
 
 build_fault : (bytes : List ℕ) (before after : Seen) → DescribesFew bytes → (f : Fault) → BuildMakes bytes before after (Err f) → Completed (Err f)
@@ -175,7 +176,8 @@ pub load_completed : (Gives : Answering) (options : LoadOptions) (bytes : List �
 load_completed Gives options bytes items call read whole fed room =
     let ran = call.answered.ran in
     call_done Gives (Load options) call
-    (whole_call (LoadMakes Gives options.top_mib options.setting) call.before call.after bytes ran.input ran.made call.answered.ended call.source call.source_after
+    (whole_call (LoadMakes Gives options.top_mib options.setting) call.before call.after bytes ran.input ran.made call.answered.ended call.source
+    call.source_after
     call.out call.out_after fed.had fed.within fed.read fed.written ran.did ran.read ran.wrote
     (load_ends Gives options.top_mib options.setting bytes items call.before call.after read whole))
 

@@ -1,5 +1,6 @@
 -- How a call ends without a command, with an input that was cut off, without a text, and with one.
-use Rattle.std.proofs.Common.{◌≡◌, ◌≢◌, ◌<◌, ◌↔◌, ℕ, List, [], Option, Some, None, Result, Ok, Err, true, IfSome, IsSomeAnd, IfErr, OnOk, OnErr, refl, ap, subst}
+use Rattle.std.proofs.Common.{◌≡◌, ◌≢◌, ◌<◌, ◌↔◌, ℕ, List, [], Option, Some, None, Result, Ok, Err, true, IfSome, IsSomeAnd, IfErr, OnOk, OnErr, refl}
+use Rattle.std.proofs.Common.{ap, subst}
 use Rattle.std.specs.Result.{IsErrAnd}
 use Rattle.vt_outside.specs.Stream.{SourceSeen, SinkSeen, Rose, in_front, TookFront}
 use Rattle.vt_bytes.specs.Memory.{IsMemory}
@@ -59,7 +60,8 @@ read_whole got bytes (Some all) left too_long = (λ is. cc, λ more. absurd (nev
 abbrev pub input_failed : (A : Type 0) → InputFault → Result A InputFault
 input_failed A why = Err why
 
-given_more : (A : Type 0) (had left : Option (List ℕ)) → IfSome had (λ _. (input_failed A input.TooLong ≡ Err input.TooLong) ↔ (input_limit < given_count had left))
+given_more : (A : Type 0) (had left : Option (List ℕ))
+    → IfSome had (λ _. (input_failed A input.TooLong ≡ Err input.TooLong) ↔ (input_limit < given_count had left))
     → IfSome had (λ _. input_limit < given_count had left)
 given_more A None left too_long = tt
 given_more A (Some all) left too_long = too_long.0 refl

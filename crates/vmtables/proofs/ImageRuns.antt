@@ -120,7 +120,8 @@ its_request : (loaded : List File) (file : ImageFile) (placing : Placing)
 its_request loaded file placing bytes =
     ap₂ (λ zone (bs : List ℕ). record { zone = zone; size = length bs; align = placing.align }) (same_zone placing.zone) bytes
 
-module _ (May : Answers) (top : ℕ) (loaded : List File) (commands : List Entry) (placeless : AllByRecursion PlacesNone commands) (free : GivesFree May top) where
+module _ (May : Answers) (top : ℕ) (loaded : List File) (commands : List Entry) (placeless : AllByRecursion PlacesNone commands)
+    (free : GivesFree May top) where
   -- one file that is placed, and those behind it
   extends_one : {index : ℕ} {placed : List Placed} {end : End} {final : Progress} (file : ImageFile) (files : List ImageFile)
       (placing : Placing) (handed : List Range) → file.placing ≡ Some placing → bytes_of loaded file.name ≡ file.blob.bytes

@@ -229,7 +229,8 @@ pub record IsBootText (description text : List ℕ) : Type 0 where
   pub read : Reads description machine
   pub shows : DumpShows text (inventory_of machine)
 
-boot_text : (Gives : Answering) (setting : Setting) (description text : List ℕ) (before after : Seen) → BootMakes Gives setting description before after (Ok text)
+boot_text : (Gives : Answering) (setting : Setting) (description text : List ℕ) (before after : Seen)
+    → BootMakes Gives setting description before after (Ok text)
     → IsBootText description text
 boot_text Gives setting description text before after (booted is dumped) = record {
   machine = is.machine;
@@ -252,7 +253,8 @@ boot_done Gives setting description text boot (Err f) is has =
     absurd (never_ok f (sym (ap status_of is) ∙ sym boot.answered.status ∙ has.done))
 boot_done Gives setting description text boot (Ok done) is has =
     let ran = boot.answered.ran in
-    let made = done_so (BootMakes Gives setting) boot.before boot.after description ran.input ran.made done boot.source boot.source_after boot.out boot.out_after
+    let made = done_so (BootMakes Gives setting) boot.before boot.after description ran.input ran.made done boot.source boot.source_after boot.out
+    boot.out_after
     has.had ran.did ran.read (subst (λ those. Wrote ran.made those boot.out boot.out_after) is ran.wrote) in
     let same = same_text has.front made.0 text boot.out boot.out_after has.began has.took made.2 in
     boot_text Gives setting description text boot.before boot.after

@@ -52,7 +52,8 @@ ended_passes bytes m before after (Cut why) (Err made) (Err f) source source_aft
 ended_passes bytes m before after (Whole read) (Err made) (Err f) source source_after out out_after accepted fits shows had did was wrote =
     let same : bytes ≡ read = same_bytes bytes read source.left source_after.left had was.given was.none_left in
     let want : made ≡ fault.OutOfMemory =
-    fault_of_sound bytes (inventory_of m) before after made shows (machine_sound m accepted fits) (subst (λ b. DecodeMakes b before after (Err made)) (sym same) did) in
+    fault_of_sound bytes (inventory_of m) before after made shows (machine_sound m accepted fits)
+    (subst (λ b. DecodeMakes b before after (Err made)) (sym same) did) in
     quiet (status_of_fault f) status.OutOfMemory (ap status_of_fault (wrote.0 ∙ want)) (λ e. cc, λ e. cc)
 
 pub boot_never_refused : (Gives Others : Answering) (setting : Setting) (description text : List ℕ) (boot : Call Gives (Boot setting))
@@ -62,5 +63,6 @@ boot_never_refused Gives Others setting description text boot decode has had =
     let is = boot_wrote Gives setting description text boot has in
     let ran = decode.answered.ran in
     quiet decode.answer (status_of decode.answered.ended) decode.answered.status
-    (ended_passes text is.machine decode.before decode.after ran.input ran.made decode.answered.ended decode.source decode.source_after decode.out decode.out_after
+    (ended_passes text is.machine decode.before decode.after ran.input ran.made decode.answered.ended decode.source decode.source_after decode.out
+    decode.out_after
     (read_accepted description is.machine is.read) (read_fits description is.machine is.read) is.shows had ran.did ran.read ran.wrote)

@@ -172,15 +172,6 @@ why_untold bytes (fault.Load why) is = absurd is
 why_untold bytes fault.WriteFault is = absurd is
 why_untold bytes fault.InputTooLong is = absurd is
 
-unlisted_untold : (bytes : List ℕ) (f : Fault) → IsUnlisted bytes f → CannotBeTold bytes f
-unlisted_untold bytes f (no_dump read line) = (read, line)
-unlisted_untold bytes f (tables refuses) = refuses
-unlisted_untold bytes f memory = tt
-
--- nothing is told where nothing is listed
-pub untold_unlisted : (bytes : List ℕ) (f : Fault) → CannotBeListed bytes f → CannotBeTold bytes f
-untold_unlisted bytes f cannot = unlisted_untold bytes f (why_unlisted bytes f cannot)
-
 -- and so is nothing of a dump whose memory shows no machine's inventory
 untold_fault : (bytes : List ℕ) (inventory : Inventory) (cause : DescribeFault) (f : Fault) → DumpShows bytes inventory
     → (cause ≡ describing.OutOfMemory) ⊎ ((item : ℕ) × (cause ≡ describing.NotProfile item) × IsFirstFailing inventory item)

@@ -56,7 +56,8 @@ telling_again None = tt
 telling_again (Some id) = (tt, tt)
 
 -- the item of a name, of the file of that name
-item_found : (found : Option Item) (file : File) → option_map (λ (item : Item). record { name = item.name; bytes = item.bytes; writable = item.writable }) found ≡ Some file
+item_found : (found : Option Item) (file : File)
+    → option_map (λ (item : Item). record { name = item.name; bytes = item.bytes; writable = item.writable }) found ≡ Some file
     → (item : Item) × (found ≡ Some item) × (item.bytes ≡ file.bytes)
 item_found None file is = absurd (none-some file is)
 item_found (Some item) file is = (item, refl, ap (λ (f : File). f.bytes) (same_Some _ file is))
@@ -80,9 +81,14 @@ pub script_read : (m : Machine) (items : List Item) (script : List Entry) → Is
     → total_size (image_items m) ≤ image_limit → script_in (image_items m) ≡ Ok (image_script m)
 script_read m items script built few =
     let spelled = rw built.items_are at built.spelled in
-    let found = item_found (named (image_items m) loader_name) _ (sym (find-map (λ (item : Item). record { name = item.name; bytes = item.bytes; writable = item.writable })
+    let found = item_found (named (image_items m) loader_name) _ (sym (find-map (λ (item : Item). record {
+      name = item.name;
+      bytes = item.bytes;
+      writable = item.writable;
+    })
     (λ (file : File). bytes_eq file.name loader_name) (image_items m)) ∙ spelled) in
-    let again : AllByRecursion CanBeWritten script = subst (AllByRecursion CanBeWritten) (sym built.script_is) (script_again (image_files m) (telling m.generation) (telling_again m.generation)) in
+    let again : AllByRecursion CanBeWritten script = subst (AllByRecursion CanBeWritten) (sym built.script_is)
+    (script_again (image_files m) (telling m.generation) (telling_again m.generation)) in
     ap script_from found.1
     ∙ spelled_read script found.0.bytes found.2 built.fits again (omega (arith, named_small (image_items m) loader_name found.0 found.1, few))
     ∙ ap Ok built.script_is

@@ -66,6 +66,7 @@ CannotBeTold bytes why = CannotBeListed bytes why
 -- What `decode` makes of the bytes of its input: a description of the accepted machine whose inventory the memory shows of which they are the
 -- dump. The world, the allocator and the plan stay as they were.
 pub data DecodeMakes (bytes : List ℕ) (before after : Seen) : Made → Type 0 where
-  told : (machine : Machine) → IsAccepted machine → HasFittingFields machine → DumpShows bytes (inventory_of machine) → {text : List ℕ} → IsDescriptionOf machine text
+  told : (machine : Machine) → IsAccepted machine → HasFittingFields machine → DumpShows bytes (inventory_of machine) → {text : List ℕ}
+      → IsDescriptionOf machine text
       → after ≡ before → DecodeMakes bytes before after (Ok text)
   not_told : {why : Fault} → CannotBeTold bytes why → after ≡ before → DecodeMakes bytes before after (Err why)

@@ -19,8 +19,8 @@ use Rattle.vmtables.specs.declared.fault.Fault.{Fault}
 use Rattle.vmtables.specs.declared.fault.Fault.TheVariants as fault
 
 -- The load of items answered so: a world was begun with them and a memory of this top and the fill byte of a setting, an allocator with the
--- zones of that memory and the setting's policy, and a plan with its seed, and the world is what the load leaves over the events of the plan. The allocator refused
--- a request exactly where the load finds no room, and then the last one that it refused is that of the command.
+-- zones of that memory and the setting's policy, and a plan with its seed, and the world is what the load leaves over the events of the
+-- plan. The allocator refused a request exactly where the load finds no room, and then the last one that it refused is that of the command.
 pub record IsImageLoaded (Gives : Answering) (items : List Item) (top : ℕ) (setting : Setting)
     (answer : Result (Unit {0}) LoadFault) (before after : Seen) : Type 0 where
   pub begun : LoadState

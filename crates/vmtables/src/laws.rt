@@ -6,7 +6,8 @@ ghost use Rattle.vt_words.specs.declared.command.Command.TheVariants.{Boot, Gen}
 ghost use Rattle.vt_words.specs.declared.setting.Setting.{Setting};
 ghost use Rattle.command_acts.specs.Allocators.{MayAnswer};
 ghost use Rattle.vmtables.specs.Calls.{Answered, Seen};
-ghost use Rattle.vmtables.specs.Complete.{IsBootComplete, IsBootListed, IsBootTold, IsBuildComplete, IsDecodeComplete, IsDecodeExact, IsGenComplete, IsBootNeverRefused};
+ghost use Rattle.vmtables.specs.Complete.{IsBootComplete, IsBootListed, IsBootTold, IsBuildComplete, IsDecodeComplete, IsDecodeExact, IsGenComplete};
+ghost use Rattle.vmtables.specs.Complete.{IsBootNeverRefused};
 ghost use Rattle.vmtables.specs.Complete.{IsListComplete, IsListExact, IsLoadComplete, IsShownListed, IsShownTold};
 ghost use Rattle.vmtables.specs.Does.{Does};
 ghost use Rattle.vmtables.specs.Shelf.{shelf_answers};

@@ -7,6 +7,11 @@
 //! elsewhere, and runs its script in the same way. `decode` reads the dump of a guest's memory, and writes the description of the machine
 //! that the guest finds there; with `--list` it lists what the guest finds. `gen` boots a machine that it generates of a number of
 //! processors, and counts what it has.
+//!
+//! The contract of [`top`] says, for all words and bytes, what the command did, when each status comes, and what became of the streams: once
+//! `boot` ends with status 0 memory shows exactly the machine that was described, whatever events came between and whatever lawful places the
+//! allocator gave. The laws say that a lawful input is done where nothing outside failed, and that `decode` of what `boot` wrote prints the same
+//! machine again, unless memory runs out.
 #![tactic(auto)]
 
 mod boot_command;

@@ -13,12 +13,25 @@ const AFTER: &str = "
 
 Options stand behind the command, in any order, each at most once.
 
-Status: 0 done, 1 read fault, 2 usage, 3 description refused, 4 no room, 5 image refused, 6 dump refused,
-7 tables refused, 8 write fault, 9 out of memory, 10 input too long, 11 image too large. With a status other
-than 0 a line on standard error says which. That of 3 names the key that is wrong, or the rule that is broken;
-those of 4 and 5 name what is wrong with the container, its script or a command; that of 6 the line of the dump,
-and that of 7 the address of the table, or the first item in which a memory is no machine's that this program
-describes. docs/FORMATS.md has the keys, the rules, the items and the lines.
+Status:
+    0   all was read, done, written and flushed
+    1   standard input failed
+    2   the words are no command
+    3   the description is refused (boot, build)
+    4   no place was free for a file of the container (load)
+    5   the container is refused (load): its bytes are none, its script is missing or has a wrong length, or a command of
+        the script is refused
+    6   the bytes are no dump (decode)
+    7   a table in memory has a fault, or no machine that can be described has these tables (decode)
+    8   standard output failed; it took a part of the text from its front, perhaps all
+    9   memory ran out
+    10  more than 67,108,864 bytes were given
+    11  the machine's files have more than 409,600 bytes in all (boot, build)
+
+With a status other than 0 a line on standard error says what is wrong and where: the key or the rule of the
+description; the command of the script; the fault of the container; the line of the dump; the address of the table, or
+the first item in which a memory is no machine's. docs/FORMATS.md lists these lines, and tools/explain.py says one of
+them in a sentence.
 ";
 
 /// Prints the whole text.

@@ -1,5 +1,6 @@
 -- Sums of bytes modulo 256, lane by lane.
-use Rattle.std.proofs.Common.{◌≡◌, ℕ, zero, suc, ◌+◌, ◌*◌, ◌%◌, ◌<◌, List, [], ◌∷◌, ◌++◌, length, take, drop, get_or, arith, refl, sym, ap, ap₂, ◌∙◌, take-add, zero-add}
+use Rattle.std.proofs.Common.{◌≡◌, ℕ, zero, suc, ◌+◌, ◌*◌, ◌%◌, ◌<◌, List, [], ◌∷◌, ◌++◌, length, take, drop, get_or, arith, refl, sym, ap, ap₂, ◌∙◌}
+use Rattle.std.proofs.Common.{take-add, zero-add}
 use Rattle.std.specs.Prelude.{sum}
 use Rattle.std.specs.List.{flat_map}
 use Rattle.std.specs.Simd.{first_chunks}

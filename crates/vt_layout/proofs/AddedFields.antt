@@ -1,5 +1,5 @@
 -- Fields that are added to what is gathered: their rows get the numbers of their texts.
-use Rattle.std.proofs.Common.{◌≡◌, ℕ, zero, suc, ◌+◌, ◌-◌, ◌<◌, ◌≤◌, true, not, max, List, [], ◌∷◌, ◌++◌, length, ◌==◌, refl, ap, sym, arith}
+use Rattle.std.proofs.Common.{◌≡◌, ℕ, zero, suc, ◌+◌, ◌-◌, ◌<◌, ◌≤◌, true, not, List, [], ◌∷◌, ◌++◌, length, ◌==◌, refl, ap, sym, arith}
 use Rattle.std.proofs.Common.{◌∙◌, append_assoc, length-append}
 use Rattle.std.specs.List.{list_all}
 use Rattle.std.proofs.lemmas.Bool.{cond-false, and_parts}
@@ -30,12 +30,6 @@ strings_behind-empty texts = omega (arith, behind_all texts [])
 strings_behind-text : (texts : List (List ℕ)) (byte : ℕ) (text : List ℕ)
     → length (strings_of (texts ++ (byte ∷ text) ∷ [])) ≡ length (strings_of texts) + 1
 strings_behind-text texts byte text = omega (arith, behind_all texts (byte ∷ text), ap length (strings_of-next byte text []))
-
--- as many as the greater of those before, and of the text's number
-pub strings_behind : (texts : List (List ℕ)) (text : List ℕ)
-    → max (length (strings_of texts)) (number_behind texts text) ≡ length (strings_of (texts ++ text ∷ []))
-strings_behind texts [] = omega (arith, strings_behind-empty texts)
-strings_behind texts (byte ∷ text) = omega (arith, strings_behind-text texts byte text, number_behind-text texts byte text)
 
 -- and at most as many as texts
 pub few_strings : (texts : List (List ℕ)) → length (strings_of texts) ≤ length texts

@@ -1,10 +1,10 @@
 -- Rows in bytes: what is shown is read.
-use Rattle.std.proofs.Common.{◌≡◌, ℕ, zero, suc, ◌+◌, ◌-◌, ◌^◌, ◌<◌, ◌≤◌, List, [], ◌∷◌, length, get_or, reverse, slice_index, Option, None}
+use Rattle.std.proofs.Common.{◌≡◌, ℕ, zero, suc, ◌+◌, ◌-◌, ◌^◌, ◌<◌, ◌≤◌, List, [], ◌∷◌, length, reverse, slice_index, Option, None}
 use Rattle.std.proofs.Common.{Some, Ok, inl, inr}
 use Rattle.std.proofs.Common.{arith, refl, ap, subst, sym, ◌∙◌}
 use Rattle.std.proofs.Math.Seq.{take-length}
 use Rattle.std.proofs.lemmas.Bool.{cases_lt}
-use Rattle.std.proofs.lemmas.List.{get_or-reverse, get_or_past, get_or_default, length-reverse}
+use Rattle.std.proofs.lemmas.List.{get_or-reverse, get_or_past, length-reverse}
 use Rattle.std.proofs.lemmas.Option.{slice_get_within}
 use Rattle.std.specs.Option.{option_map}
 use Rattle.vt_outside.specs.Name.{name_of, before_nul}
@@ -14,10 +14,10 @@ use Rattle.vt_bytes.specs.View.{View, bytes_in, view_of}
 use Rattle.vt_bytes.proofs.Spelt.{le-fits}
 use Rattle.vt_bytes.proofs.Views.{bytes_in-holds, ram-shown}
 use Rattle.vt_layout.specs.declared.row.Row.{Row}
-use Rattle.vt_layout.specs.declared.row.Row.TheVariants.{Number, BigEndian, Named, Reserved}
+use Rattle.vt_layout.specs.declared.row.Row.TheVariants.{Number, BigEndian, Named}
 use Rattle.vt_layout.specs.Rows.{width_of, number, text}
 use Rattle.vt_layout.specs.Shown.{RowShown, Shown}
-use Rattle.vt_layout.specs.Reading.{row_at, place_of_row, bytes_at_row, value_in, read_number, read_name, IsNumber, IsNamed}
+use Rattle.vt_layout.specs.Reading.{row_at, place_of_row, value_in, read_number, read_name, IsNumber, IsNamed}
 use Rattle.vt_layout.proofs.Spelled.{holds_alone}
 
 -- a part is shown
@@ -131,18 +131,6 @@ value-below row bytes each = le-below bytes each
 pub record IsTaken (rows : List Row) (k : ℕ) (bytes : List ℕ) (taken : ℕ) : Type 0 where
   pub number : taken ≡ read_number k rows bytes
   pub fits : taken < 256 ^ width_of (row_at k rows)
-
-pub IsTaken-from : (rows : List Row) (k : ℕ) (bytes seen : List ℕ) (taken : ℕ) → seen ≡ bytes_at_row k rows bytes
-    → length seen ≡ width_of (row_at k rows) → ((i : ℕ) → slice_index seen i < 256) → taken ≡ value_in (row_at k rows) seen
-    → IsTaken rows k bytes taken
-IsTaken-from rows k bytes seen taken is long each value = record {
-  number = value ∙ ap (value_in (row_at k rows)) is;
-  fits = subst (λ n. taken < 256 ^ n) long (subst (λ n. n < 256 ^ length seen) (sym value) (value-below (row_at k rows) seen each));
-}
-
--- the row that is found at an index
-pub row_found : (rows : List Row) (k : ℕ) (row : Row) → k < length rows → row ≡ get_or rows k row → row_at k rows ≡ row
-row_found rows k row within is = get_or_default rows k (Reserved 0) row within ∙ sym is
 
 -- what is taken of it low byte first, unless it is high byte first
 pub low_first : (row : Row) (bytes : List ℕ) → ((width value : ℕ) → row ≡ BigEndian width value → ⊥) → value_in row bytes ≡ le bytes

@@ -29,13 +29,6 @@ pub record IsNext (rows : List Row) (k : ℕ) (left : List ℕ) (strings : List 
   pub within : size (drop k rows) ≤ length left
   pub says : behind before (values_said (drop k rows) left strings) ≡ all
 
--- the row at the index ends within what is left
-pub row_within : (rows : List Row) (k : ℕ) (row : Row) (left : List ℕ) → k < length rows → row ≡ get_or rows k row
-    → size (drop k rows) ≤ length left → width_of row ≤ length left
-row_within rows k row left within is reaches =
-    let room : size (row ∷ drop (k + 1) rows) ≤ length left = subst (λ these. size these ≤ length left) (rows_from rows k row within is) reaches in
-    omega arith
-
 pub next_read : (rows : List Row) (k : ℕ) (row : Row) (left : List ℕ) (strings : List (List ℕ)) (before : List Value) (value : Value)
     (all : Result (List Value) RecordFault) → k < length rows → row ≡ get_or rows k row → IsNext rows k left strings before all
     → value_said row (take (width_of row) left) strings ≡ Ok value

@@ -1,6 +1,6 @@
 -- The strings of a structure (DMTF DSP0134, version 3.0.0, 6.1.3).
 use Rattle.std.specs.Prelude.{◌≡◌, ◌≢◌, ℕ, zero, suc, ◌+◌, ◌<◌, not, true, List, [], ◌∷◌, ◌++◌, length, filter, Option, Some, None, ◌==◌}
-use Rattle.std.specs.Prelude.{slice_get, slice_index_or, if◌then◌else◌}
+use Rattle.std.specs.Prelude.{slice_get, if◌then◌else◌}
 use Rattle.std.specs.List.{flat_map, list_all, AllByRecursion}
 
 abbrev pub HasNoNul : List ℕ → Type 0
@@ -45,10 +45,6 @@ numbers_from next (text ∷ texts) =
 -- the texts that aren't empty
 abbrev pub strings_of : List (List ℕ) → List (List ℕ)
 strings_of texts = filter (λ text. not (length text == 0)) texts
-
--- the text with this index, or none
-abbrev pub text_at : ℕ → List (List ℕ) → List ℕ
-text_at k texts = slice_index_or texts k []
 
 -- the first of some numbers that is no string's
 pub record IsFirstMissing (strings : List (List ℕ)) (numbers : List ℕ) (number : ℕ) : Type 0 where

@@ -1,6 +1,9 @@
 //! What stands between the project and the outside: where bytes come from and go to, want of memory, lines for a person,
 //! and the small types that contracts see as lists. The zones of memory, and what a lawful placement is, are defined here too,
 //! below all that places files.
+//!
+//! The contracts are exact: which bytes a source in memory gives and a sink in memory takes, in order, which call fails, and that each fault is
+//! counted; of a stream over std the same, where its reader or writer tells its bytes.
 #![tactic(auto)]
 
 mod boxed;

@@ -35,7 +35,8 @@ made command lawful = grind (arith, nat_tests, same_policy)
 
 -- the words of a command whose row is sound
 read_row : (command : Command) → IsLawful command → is_sound (row_of command).schema ≡ true
-    → are_compatible (row_of command).schema.exclusive (given_for (row_of command).schema.options (drop (length (row_of command).schema.operands) (values_for command))) ≡ true
+    → are_compatible (row_of command).schema.exclusive (given_for (row_of command).schema.options
+    (drop (length (row_of command).schema.operands) (values_for command))) ≡ true
     → option_map (row_of command).make (values_of (row_of command).schema (written (row_of command).schema (values_for command))) ≡ Some command
 read_row command lawful sound apart =
     ap (option_map (row_of command).make) (written_is_read (row_of command).schema (values_for command) sound (fit command lawful) apart)

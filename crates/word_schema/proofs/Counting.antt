@@ -1,5 +1,6 @@
 -- How many values are given: where each option is given once at most, no more than there are options.
-use Rattle.std.proofs.Common.{◌≡◌, ℕ, suc, ◌+◌, ◌<◌, ◌≤◌, List, [], ◌∷◌, ◌++◌, true, false, cond, length, Option, Some, None, IsSome, refl, ap, sym, ◌∙◌, subst, arith}
+use Rattle.std.proofs.Common.{◌≡◌, ℕ, suc, ◌+◌, ◌<◌, ◌≤◌, List, [], ◌∷◌, ◌++◌, true, false, cond, length, Option, Some, None, IsSome, refl, ap, sym}
+use Rattle.std.proofs.Common.{◌∙◌, subst, arith}
 use Rattle.std.proofs.lemmas.List.{length-append}
 use Rattle.std.specs.List.{AllByRecursion}
 use Rattle.std.specs.Option.{option_and_then}
@@ -25,7 +26,8 @@ no_fewer : (name : List ℕ) (option : Given) (given : List Given) → length (v
 no_fewer name option given =
     let P : List Value → Type 0 = λ values. length (values_named name given) ≤ length values in
     subst P (sym (values_named-first name option given))
-    (elim (bytes_eq option.name name) as (λ is. length (values_named name given) ≤ length (cond is (option.value ∷ values_named name given) (values_named name given)))
+    (elim (bytes_eq option.name name) as (λ is. length (values_named name given) ≤ length
+    (cond is (option.value ∷ values_named name given) (values_named name given)))
     [ true ↦ omega arith | false ↦ omega arith ])
 
 one_more : (name : List ℕ) (option : Given) (given : List Given) → bytes_eq option.name name ≡ true
@@ -82,7 +84,8 @@ length-options_given [] = refl
 length-options_given (option ∷ front) = ap (λ n. suc n) (length-options_given front)
 
 -- as a walk finds that they are too many
-pub given_full : (rows : List Row) (words : List (List ℕ)) (front : List CodeGiven) (option : CodeGiven) (now more : Option (List Given)) → length rows ≤ length front
+pub given_full : (rows : List Row) (words : List (List ℕ)) (front : List CodeGiven) (option : CodeGiven) (now more : Option (List Given))
+    → length rows ≤ length front
     → now ≡ with_given option.name.now option.value more → given_by rows words ≡ behind (options_given front) now
     → option_and_then (option_values rows) (given_by rows words) ≡ None
 given_full rows words front option now None room given so_far = rw (so_far, given) refl

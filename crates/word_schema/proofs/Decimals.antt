@@ -42,5 +42,6 @@ number_within-unread least most word (Ok n) small parsed decimal failed = cc
 number_within-unread least most word (Err e) small parsed decimal failed =
     let unread = parsed_decimal word (Err e) parsed decimal in
     let some = decimal_not_empty word decimal in
-    let above : leb (digits_value 10 word) most ≡ false = elim (leb_tells (digits_value 10 word) most) [ inl fits ↦ absurd (unread (some, omega arith)) | inr exceeds ↦ exceeds.0 ] in
+    let above : leb (digits_value 10 word) most ≡ false = elim (leb_tells (digits_value 10 word) most)
+    [ inl fits ↦ absurd (unread (some, omega arith)) | inr exceeds ↦ exceeds.0 ] in
     grind (arith, nat_tests)

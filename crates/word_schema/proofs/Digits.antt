@@ -1,5 +1,6 @@
 -- Bytes, numbers and words of a set as they are written.
-use Rattle.std.proofs.Common.{◌≡◌, ◌≢◌, ℕ, suc, zero, ◌+◌, ◌*◌, ◌<◌, ◌≤◌, ◌^◌, ◌/◌, ◌%◌, ◌↔◌, Bool, true, false, cond, leb, length, get_or, List, [], ◌∷◌, Option, Some, None, option_map, subst, arith, refl, ap, sym, ◌∙◌}
+use Rattle.std.proofs.Common.{◌≡◌, ◌≢◌, ℕ, suc, zero, ◌+◌, ◌*◌, ◌<◌, ◌≤◌, ◌^◌, ◌/◌, ◌%◌, ◌↔◌, Bool, true, false, cond, leb, length, get_or, List, []}
+use Rattle.std.proofs.Common.{◌∷◌, Option, Some, None, option_map, subst, arith, refl, ap, sym, ◌∙◌}
 use Rattle.std.proofs.lemmas.Bool.{and_parts, leb-true}
 use Rattle.std.proofs.lemmas.Bool.Decides.{nat_tests}
 use Rattle.std.proofs.lemmas.Fmt.{decimal-digits_value, decimal_digit, decimal_nonempty, digits_decimal, digits_value-decimal, first_decimal}
@@ -120,12 +121,14 @@ first_place word (other ∷ others) place e =
     → (place < length (other ∷ others)) × (get_or (other ∷ others) place [] ≡ word) × ((k : ℕ) → k < place → get_or (other ∷ others) k [] ≢ word)) [
       | true ↦ λ is e.
           let zero_is : 0 ≡ place = cc in
-          subst (λ (n : ℕ). (n < length (other ∷ others)) × (get_or (other ∷ others) n [] ≡ word) × ((k : ℕ) → k < n → get_or (other ∷ others) k [] ≢ word)) zero_is
+          subst (λ (n : ℕ). (n < length (other ∷ others)) × (get_or (other ∷ others) n [] ≡ word) × ((k : ℕ) → k < n
+          → get_or (other ∷ others) k [] ≢ word)) zero_is
           (omega arith, sym (same_from word other is), λ k below. absurd (omega arith))
       | false ↦ λ is e.
           let found = mapped _ (place_of word others) place e in
           let later = first_place word others found.0 found.1 in
-          subst (λ (n : ℕ). (n < length (other ∷ others)) × (get_or (other ∷ others) n [] ≡ word) × ((k : ℕ) → k < n → get_or (other ∷ others) k [] ≢ word)) found.2
+          subst (λ (n : ℕ). (n < length (other ∷ others)) × (get_or (other ∷ others) n [] ≡ word) × ((k : ℕ) → k < n
+          → get_or (other ∷ others) k [] ≢ word)) found.2
           (omega (arith, later.0), later.1, later_too word other others found.0 is later.2)
     ] refl e
 

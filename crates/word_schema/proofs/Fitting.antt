@@ -1,5 +1,6 @@
 -- Values that are read fit their rows.
-use Rattle.std.proofs.Common.{Bool, ◌≡◌, ℕ, ◌<◌, leb, nat_lt, nat_le, not, ◌&&◌, List, [], ◌∷◌, ◌++◌, true, false, length, map, drop, Option, Some, None, refl, ap, sym, ◌∙◌, subst, arith}
+use Rattle.std.proofs.Common.{Bool, ◌≡◌, ℕ, ◌<◌, leb, nat_lt, nat_le, not, ◌&&◌, List, [], ◌∷◌, ◌++◌, true, false, length, map, drop, Option, Some}
+use Rattle.std.proofs.Common.{None, refl, ap, sym, ◌∙◌, subst, arith}
 use Rattle.std.proofs.lemmas.Bool.{and_parts}
 use Rattle.std.proofs.lemmas.Bool.Decides.{nat_tests}
 use Rattle.std.specs.List.{AllByRecursion, list_all, list_any}
@@ -8,10 +9,12 @@ use Rattle.std.specs.Str.{bytes_eq}
 use Rattle.std.specs.Str.Parse.{digits_value}
 use Rattle.word_schema.specs.declared.value.Value.{Value}
 use Rattle.word_schema.specs.declared.value.Value.TheVariants as values
-use Rattle.word_schema.specs.Fits.{fits_form, fits_flag, fits_kind, fits_row, fit_rows, fit_behind, fits, are_distinct, is_sound_form, is_sound_kind, is_sound_row, is_sound}
+use Rattle.word_schema.specs.Fits.{fits_form, fits_flag, fits_kind, fits_row, fit_rows, fit_behind, fits, are_distinct, is_sound_form, is_sound_kind}
+use Rattle.word_schema.specs.Fits.{is_sound_row, is_sound}
 use Rattle.word_schema.specs.Forms.{Form, Kind, Row, Schema}
 use Rattle.word_schema.specs.Forms as forms
-use Rattle.word_schema.specs.Given.{Given, value_of, place_of, row_named, values_named, only, option_value, option_values, operand_values, are_compatible, options_say, given_by, values_of}
+use Rattle.word_schema.specs.Given.{Given, value_of, place_of, row_named, values_named, only, option_value, option_values, operand_values}
+use Rattle.word_schema.specs.Given.{are_compatible, options_say, given_by, values_of}
 use Rattle.word_schema.specs.Numbers.{byte_of, is_decimal, number_within}
 use Rattle.word_schema.specs.Spelled.{StandsInFront, AreSpelled}
 use Rattle.word_schema.proofs.Digits.{written_byte, first_place}
@@ -51,7 +54,8 @@ value_fits (forms.Word words) word value e =
 FindsAll : List Row → List Row → Type 0
 FindsAll all rows = AllByRecursion (λ row. row_named row.name all ≡ Some row) rows
 
-finds_more : (first : Row) (all rows : List Row) → list_any (bytes_eq first.name) (map (λ row. row.name) rows) ≡ false → FindsAll all rows → FindsAll (first ∷ all) rows
+finds_more : (first : Row) (all rows : List Row) → list_any (bytes_eq first.name) (map (λ row. row.name) rows) ≡ false → FindsAll all rows
+    → FindsAll (first ∷ all) rows
 unfolding FindsAll
 finds_more first all [] other finds = tt
 finds_more first all (row ∷ rows) other finds =
@@ -125,7 +129,8 @@ given_fits default (forms.Valued form) value is = is
 only_fits : (default : Option Value) (kind : Kind) (values : List Value) (value : Value) → is_sound_kind default kind ≡ true
     → AllByRecursion (FitsGiven kind) values → only default values ≡ Some value → fits_kind default kind value ≡ true
 only_fits default kind [] value sound each e =
-    subst (λ (d : Option Value). fits_kind d kind value ≡ true) (sym e) (default_fits kind value (ap (λ (d : Option Value). is_sound_kind d kind) (sym e) ∙ sound))
+    subst (λ (d : Option Value). fits_kind d kind value ≡ true) (sym e)
+    (default_fits kind value (ap (λ (d : Option Value). is_sound_kind d kind) (sym e) ∙ sound))
 only_fits default kind (first ∷ []) value sound each e =
     let same : first ≡ value = cc in
     subst (λ (v : Value). fits_kind default kind v ≡ true) same (given_fits default kind first each.0)
@@ -170,7 +175,8 @@ values_fit schema words values sound e =
     let back = mapped _ _ values front.2 in
     let given = behind_it (options_say schema) (given_by schema.options (drop (length schema.operands) words)) back.0 back.1 in
     let said = tested (are_compatible schema.exclusive given.0) (option_values schema.options given.0) back.0 given.2 in
-    let outer = and_parts (are_distinct (map (λ (row : Row). row.name) schema.options) && list_all is_sound_row schema.options) (list_all is_sound_form schema.operands) sound in
+    let outer = and_parts (are_distinct (map (λ (row : Row). row.name) schema.options) && list_all is_sound_row schema.options)
+    (list_all is_sound_form schema.operands) sound in
     let inner = and_parts (are_distinct (map (λ (row : Row). row.name) schema.options)) (list_all is_sound_row schema.options) outer.0 in
     let fit : fit_rows schema.options back.0 ≡ true =
     rows_fit schema.options schema.options given.0 back.0 (finds_all schema.options inner.0) inner.1

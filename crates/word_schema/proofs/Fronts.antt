@@ -1,26 +1,23 @@
 -- Values and options that loops add one after the other.
-use Rattle.std.proofs.Common.{◌≡◌, ℕ, suc, zero, ◌+◌, ◌<◌, ◌≤◌, List, [], ◌∷◌, ◌++◌, length, get_or, drop, take, map, string_bytes, String, Global, Option, Some, None, option_map, refl, ap, sym, ◌∙◌, arith, append_assoc, append-nil}
-use Rattle.std.proofs.lemmas.List.{drop_more, length-map, map-append}
-use Rattle.std.specs.Option.{option_and_then}
+use Rattle.std.proofs.Common.{◌≡◌, ℕ, suc, zero, ◌+◌, ◌<◌, ◌≤◌, List, [], ◌∷◌, ◌++◌, length, get_or, drop, take, map, string_bytes, String, Global}
+use Rattle.std.proofs.Common.{Option, Some, None, option_map, refl, ap, sym, ◌∙◌, arith, append_assoc, append-nil}
+use Rattle.std.proofs.lemmas.List.{drop_more, length-map}
 use Rattle.word_schema.specs.declared.value.Value.{Value}
 use Rattle.word_schema.specs.declared.given.Given.{Given as CodeGiven}
 use Rattle.word_schema.specs.declared.schema.OperandSchema.{OperandSchema}
 use Rattle.word_schema.specs.declared.schema.OptionSchema.{OptionSchema}
 use Rattle.word_schema.specs.declared.schema.CommandSchema.{CommandSchema}
 use Rattle.word_schema.specs.Forms.{Form, Row, form_of, forms_of, row_of, rows_of, schema_of}
-use Rattle.word_schema.specs.Given.{Given, value_of, with_given, with_value, given_by, option_value, option_values, operand_values, given_from, values_of}
-use Rattle.word_schema.specs.Steps.{option_given, options_given}
+use Rattle.word_schema.specs.Given.{Given, value_of, with_value, given_by, option_value, option_values, operand_values, given_from, values_of}
+use Rattle.word_schema.specs.Steps.{options_given}
 
 -- so many behind a front
 abbrev pub behind : {X : Type 0} → List X → Option (List X) → Option (List X)
 behind {X} front more = option_map (λ (more : List X). front ++ more) more
 
-pub behind_none : {X : Type 0} (more : Option (List X)) → behind [] more ≡ more
-behind_none None = refl
-behind_none (Some more) = refl
-
 -- one more in front
-pub behind_one : {X : Type 0} (front : List X) (x : X) (more : Option (List X)) → behind front (option_map (λ (more : List X). x ∷ more) more) ≡ behind (front ++ x ∷ []) more
+pub behind_one : {X : Type 0} (front : List X) (x : X) (more : Option (List X))
+    → behind front (option_map (λ (more : List X). x ∷ more) more) ≡ behind (front ++ x ∷ []) more
 behind_one front x None = refl
 behind_one front x (Some more) = ap Some (sym (append_assoc front (x ∷ []) more))
 
@@ -31,16 +28,6 @@ drop_all (x ∷ xs) zero le = absurd (omega arith)
 drop_all (x ∷ xs) (suc i) le = drop_all xs i (omega arith)
 
 -- options
-
-pub given_go_on : (front new : List CodeGiven) (option : CodeGiven) (now more total : Option (List Given)) → new ≡ front ++ option ∷ []
-    → now ≡ with_given option.name.now option.value more → total ≡ behind (options_given front) now → total ≡ behind (options_given new) more
-given_go_on front new option now more total is given so_far =
-    so_far ∙ (ap (behind (options_given front)) given ∙ (behind_one (options_given front) (option_given option) more
-    ∙ ap (λ (options : List Given). behind options more) (sym (ap options_given is ∙ map-append option_given front (option ∷ [])))))
-
-pub given_stop : {A : Type 0} (front : List CodeGiven) (now total : Option (List Given)) (f : List Given → Option A) → now ≡ None
-    → total ≡ behind (options_given front) now → option_and_then f total ≡ None
-given_stop front now total f none so_far = ap (option_and_then f) (so_far ∙ ap (behind (options_given front)) none)
 
 pub given_done : (rows : List Row) (front : List CodeGiven) (words : List (List ℕ)) (total : Option (List Given)) → words ≡ []
     → total ≡ behind (options_given front) (given_by rows words) → total ≡ Some (options_given front)
@@ -64,12 +51,14 @@ values_stop front said now more total none step so_far = ap (λ said. behind fro
 pub operands_step : (operands : List OperandSchema) (words : List (String Global)) (i : ℕ) (operand : OperandSchema) (word : String Global) (said : List ℕ)
     → i < length operands → i < length words → word ≡ get_or words i word → said ≡ string_bytes word
     → operand_values (forms_of (drop i operands)) (map string_bytes (drop i words))
-    ≡ with_value (value_of (form_of (get_or operands i operand).form) said) (operand_values (forms_of (drop (i + 1) operands)) (map string_bytes (drop (i + 1) words)))
+    ≡ with_value (value_of (form_of (get_or operands i operand).form) said)
+    (operand_values (forms_of (drop (i + 1) operands)) (map string_bytes (drop (i + 1) words)))
 unfolding operand_values
 operands_step operands words i operand word said within within_too is same =
     rw (drop_more operands i operand within, drop_more words i word within_too, same ∙ ap string_bytes is) refl
 
-pub operands_done : (operands : List OperandSchema) (words : List (String Global)) (i : ℕ) (front : List Value) (total : Option (List Value)) → length operands ≤ i
+pub operands_done : (operands : List OperandSchema) (words : List (String Global)) (i : ℕ) (front : List Value) (total : Option (List Value))
+    → length operands ≤ i
     → length words ≤ i → behind front (operand_values (forms_of (drop i operands)) (map string_bytes (drop i words))) ≡ total → Some front ≡ total
 unfolding operand_values
 operands_done operands words i front total past past_too so_far =

@@ -12,7 +12,8 @@ pub all_of_mapped : {A B : Type 0} (test : B → Bool) (f : A → B) (xs : List 
 all_of_mapped test f [] = refl
 all_of_mapped test f (x ∷ xs) = ap (λ b. test (f x) && b) (all_of_mapped test f xs)
 
-option_map-cond : {A B : Type 0} (f : A → B) (is : Bool) (a : A) (more : Option A) → option_map f (cond is (Some a) more) ≡ cond is (Some (f a)) (option_map f more)
+option_map-cond : {A B : Type 0} (f : A → B) (is : Bool) (a : A) (more : Option A)
+    → option_map f (cond is (Some a) more) ≡ cond is (Some (f a)) (option_map f more)
 option_map-cond f true a more = refl
 option_map-cond f false a more = refl
 

@@ -1,12 +1,14 @@
 -- Where words say something, each option is given once, and no two exclude each other.
-use Rattle.std.proofs.Common.{Bool, ◌≡◌, ℕ, ◌≤◌, not, ◌&&◌, List, [], ◌∷◌, true, false, cond, length, drop, map, Option, Some, None, IsSome, subst, refl, sym, ◌∙◌, arith}
+use Rattle.std.proofs.Common.{Bool, ◌≡◌, ℕ, ◌≤◌, not, ◌&&◌, List, [], ◌∷◌, true, false, cond, length, drop, map, Option, Some, None, IsSome, subst}
+use Rattle.std.proofs.Common.{refl, sym, ◌∙◌, arith}
 use Rattle.std.proofs.lemmas.Bool.{and_parts}
 use Rattle.std.specs.List.{AllByRecursion, IsDistinct}
 use Rattle.std.specs.Str.{bytes_eq}
 use Rattle.word_schema.specs.declared.value.Value.{Value}
 use Rattle.word_schema.specs.Choices.{IsChoice}
 use Rattle.word_schema.specs.Forms.{Row, Pair, Schema}
-use Rattle.word_schema.specs.Given.{Given, row_named, values_named, option_value, option_values, operand_values, is_given, are_compatible, options_say, given_by, values_of}
+use Rattle.word_schema.specs.Given.{Given, row_named, values_named, option_value, option_values, operand_values, is_given, are_compatible}
+use Rattle.word_schema.specs.Given.{options_say, given_by, values_of}
 use Rattle.word_schema.proofs.Found.{mapped, behind_it, tested, same_from, same_text, bytes_eq-sym}
 use Rattle.word_schema.proofs.Walking.{values_named-first}
 use Rattle.word_schema.proofs.Spelling.{given_is_spelled, are_named}

@@ -1,5 +1,6 @@
 -- Options in any order say the same.
-use Rattle.std.proofs.Common.{Bool, ◌≡◌, ℕ, nat_lt, List, [], ◌∷◌, ◌++◌, true, false, cond, take, drop, filter, length, Option, Some, option_map, refl, ap, sym, ◌∙◌, subst, arith}
+use Rattle.std.proofs.Common.{Bool, ◌≡◌, ℕ, nat_lt, List, [], ◌∷◌, ◌++◌, true, false, cond, take, drop, filter, length, Option, Some, option_map}
+use Rattle.std.proofs.Common.{refl, ap, sym, ◌∙◌, subst, arith}
 use Rattle.std.proofs.lemmas.Bool.Decides.{nat_tests}
 use Rattle.std.proofs.lemmas.List.{length-map}
 use Rattle.std.proofs.lemmas.List.Elements.{All-from_recursion, recursion_from_All}
@@ -13,11 +14,13 @@ use Rattle.std.specs.Prelude.{◌||◌}
 use Rattle.std.specs.Str.{bytes_eq}
 use Rattle.word_schema.specs.declared.value.Value.{Value}
 use Rattle.word_schema.specs.Forms.{Row, Pair, Schema}
-use Rattle.word_schema.specs.Given.{Given, values_named, only, option_value, option_values, operand_values, is_given, are_compatible, options_say, given_by, values_of}
+use Rattle.word_schema.specs.Given.{Given, values_named, only, option_value, option_values, operand_values, is_given, are_compatible, options_say}
+use Rattle.word_schema.specs.Given.{given_by, values_of}
 use Rattle.word_schema.proofs.Walking.{values_named-first}
 
 -- what holds of each option of a name holds of their values
-pub values_have : (name : List ℕ) (Q : Value → Type 0) (options : List Given) → AllByRecursion (λ option. bytes_eq option.name name ≡ true → Q option.value) options
+pub values_have : (name : List ℕ) (Q : Value → Type 0) (options : List Given)
+    → AllByRecursion (λ option. bytes_eq option.name name ≡ true → Q option.value) options
     → AllByRecursion Q (values_named name options)
 values_have name Q [] each = tt
 values_have name Q (option ∷ rest) each =

@@ -85,7 +85,8 @@ in_front rows row option words rest forms.Flag is kind stands =
     ∙ (ap (λ n. with_given n (values.Flag true) (given_by rows rest)) (has_name option.name rows row is)
     ∙ ap (λ value. with_given option.name value (given_by rows rest)) (sym stands.0)))
 in_front rows row option words rest (forms.Valued form) is kind stands =
-    ap (given_by rows) stands.2 ∙ (some_value_in_front rows row form option.name stands.0 stands.0 (stands.0 ∷ rest) rest option.value (sym is) kind refl refl (sym stands.1)
+    ap (given_by rows) stands.2 ∙ (some_value_in_front rows row form option.name stands.0 stands.0 (stands.0 ∷ rest) rest option.value (sym is) kind
+    refl refl (sym stands.1)
     ∙ ap (λ n. with_given n option.value (given_by rows rest)) (has_name option.name rows row is))
 
 pub spelled_is_given : (rows : List Row) (given : List Given) (words : List (List ℕ)) → AreSpelled rows words given → given_by rows words ≡ Some given

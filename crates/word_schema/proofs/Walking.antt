@@ -69,7 +69,8 @@ pub values_named-first : (name : List ℕ) (option : Given) (given : List Given)
     ≡ cond (bytes_eq option.name name) (option.value ∷ values_named name given) (values_named name given)
 values_named-first name option given =
     elim (bytes_eq option.name name)
-    as (λ is. map (λ (other : Given). other.value) (cond is (option ∷ filter (λ (other : Given). bytes_eq other.name name) given) (filter (λ (other : Given). bytes_eq other.name name) given))
+    as (λ is. map (λ (other : Given). other.value) (cond is (option ∷ filter (λ (other : Given). bytes_eq other.name name) given)
+    (filter (λ (other : Given). bytes_eq other.name name) given))
     ≡ cond is (option.value ∷ values_named name given) (values_named name given))
     [ true ↦ refl | false ↦ refl ]
 

@@ -1,5 +1,6 @@
 -- The words that are written of values are read as these values.
-use Rattle.std.proofs.Common.{Bool, ◌≡◌, ◌≢◌, ℕ, suc, zero, ◌-◌, ◌^◌, ◌<◌, ◌≤◌, ◌==◌, leb, nat_lt, nat_le, not, ◌&&◌, List, [], ◌∷◌, ◌++◌, true, false, cond, length, get_or, map, take, drop, Option, Some, None, option_map, refl, ap, sym, ◌∙◌, arith}
+use Rattle.std.proofs.Common.{Bool, ◌≡◌, ◌≢◌, ℕ, suc, zero, ◌-◌, ◌^◌, ◌<◌, ◌≤◌, ◌==◌, leb, nat_lt, nat_le, not, ◌&&◌, List, [], ◌∷◌, ◌++◌, true}
+use Rattle.std.proofs.Common.{false, cond, length, get_or, map, take, drop, Option, Some, None, option_map, refl, ap, sym, ◌∙◌, arith}
 use Rattle.std.proofs.lemmas.Bool.{and_parts, leb-true}
 use Rattle.std.proofs.lemmas.Bool.Decides.{nat_tests}
 use Rattle.std.proofs.lemmas.List.{take-append-drop}
@@ -8,10 +9,12 @@ use Rattle.std.specs.Prelude.{◌||◌}
 use Rattle.std.specs.Str.{bytes_eq}
 use Rattle.word_schema.specs.declared.value.Value.{Value}
 use Rattle.word_schema.specs.declared.value.Value.TheVariants as values
-use Rattle.word_schema.specs.Fits.{fits_form, fits_flag, fits_kind, fits_row, fit_rows, fit_behind, fits, are_distinct, is_sound_form, is_flag_default, is_default_of, is_sound_kind, is_sound_row, is_sound}
+use Rattle.word_schema.specs.Fits.{fits_form, fits_flag, fits_kind, fits_row, fit_rows, fit_behind, fits, are_distinct, is_sound_form}
+use Rattle.word_schema.specs.Fits.{is_flag_default, is_default_of, is_sound_kind, is_sound_row, is_sound}
 use Rattle.word_schema.specs.Forms.{Form, Kind, Row, Schema}
 use Rattle.word_schema.specs.Forms as forms
-use Rattle.word_schema.specs.Given.{Given, value_of, row_named, values_named, only, option_value, option_values, operand_values, with_value, are_compatible, values_of}
+use Rattle.word_schema.specs.Given.{Given, value_of, row_named, values_named, only, option_value, option_values, operand_values, with_value}
+use Rattle.word_schema.specs.Given.{are_compatible, values_of}
 use Rattle.word_schema.specs.Spelled.{StandsInFront, AreSpelled}
 use Rattle.word_schema.specs.Written.{word_of, same_value, is_default, given_for, words_by, option_words, operand_words, written}
 use Rattle.word_schema.proofs.Digits.{read_byte, read_number, place_from}
@@ -43,7 +46,8 @@ differ word (other ∷ words) (suc k) none inside is =
     [ true ↦ λ none. absurd (cc) | false ↦ λ none. differ word words k none (omega arith) is ] none
 
 -- the words before a place differ from the word there
-earlier : (words : List (List ℕ)) (place : ℕ) → are_distinct words ≡ true → place < length words → (k : ℕ) → k < place → get_or words k [] ≢ get_or words place []
+earlier : (words : List (List ℕ)) (place : ℕ) → are_distinct words ≡ true → place < length words → (k : ℕ) → k < place
+    → get_or words k [] ≢ get_or words place []
 earlier [] place distinct inside k before is = absurd (omega arith)
 earlier (word ∷ words) zero distinct inside k before is = absurd (omega arith)
 earlier (word ∷ words) (suc place) distinct inside zero before is =

@@ -1,5 +1,6 @@
 -- Which options words are, and what they say.
-use Rattle.std.specs.Prelude.{ℕ, Bool, true, not, ◌&&◌, ◌++◌, List, [], ◌∷◌, length, take, drop, map, filter, Option, Some, None, option_map, if◌then◌else◌, suc}
+use Rattle.std.specs.Prelude.{ℕ, Bool, true, not, ◌&&◌, ◌++◌, List, [], ◌∷◌, length, take, drop, map, filter, Option, Some, None, option_map}
+use Rattle.std.specs.Prelude.{if◌then◌else◌, suc}
 use Rattle.std.specs.Option.{option_and_then}
 use Rattle.std.specs.List.{find, list_all, list_any}
 use Rattle.std.specs.Str.{bytes_eq}

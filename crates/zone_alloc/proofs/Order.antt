@@ -122,7 +122,8 @@ alike_put P in_turn by_address i x alike = (
 
 -- a range is apart from none
 pub apart_at_end : (range : Range) (ranges : List AddressRange) → AllByRecursion (Apart range) (map range_of (drop (length ranges) ranges))
-apart_at_end range ranges = subst (λ (rs : List AddressRange). AllByRecursion (Apart range) (map range_of rs)) (sym (drop_all (length ranges) ranges (omega arith))) tt
+apart_at_end range ranges = subst (λ (rs : List AddressRange). AllByRecursion (Apart range) (map range_of rs))
+    (sym (drop_all (length ranges) ranges (omega arith))) tt
 
 -- one range more behind those before a place of the list
 pub apart_and_next : (ranges : List AddressRange) (i : ℕ) (d : AddressRange) (range : Range) → i < length ranges

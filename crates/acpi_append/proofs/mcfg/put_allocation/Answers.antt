@@ -9,5 +9,6 @@ pub returns : goal.returns
 returns c =
     let are = c.rows-2.ensures.rows ∙ c.in_ok-rows.ensures.rows in
     on_ok_weaker c.put_rows.result (λ put.
-    rows_put _ c.args.bytes.now c.put_rows.new.bytes (tt, (tt, (tt, (tt, (tt, tt))))) (subst (AllByRecursion IsRow) c.in_ok-rows.ensures.rows c.rows-2.ensures.fit)
+    rows_put _ c.args.bytes.now c.put_rows.new.bytes (tt, (tt, (tt, (tt, (tt, tt)))))
+    (subst (AllByRecursion IsRow) c.in_ok-rows.ensures.rows c.rows-2.ensures.fit)
     (put ∙ ap (λ rows. c.args.bytes.now ++ spelled rows) are)) c.put_rows.ensures

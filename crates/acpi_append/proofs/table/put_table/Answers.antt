@@ -44,7 +44,8 @@ append_table-requires-clause-few c =
       c.requires.writable.lawful.few,
       ap size (all_rows table),
       size-append (front_body table) (rows_as_bytes table),
-      stand_size (Bytes c.as_slice.result ∷ []) (rows_as_bytes table) (rows_stand table c.as_slice.result c.in_ok-bytes.bytes c.as_slice.ensures c.in_ok-bytes.ensures),
+      stand_size (Bytes c.as_slice.result ∷ []) (rows_as_bytes table) (rows_stand table c.as_slice.result c.in_ok-bytes.bytes c.as_slice.ensures
+          c.in_ok-bytes.ensures),
     )
 
 pub returns-clause-put : goal.returns-clause-put

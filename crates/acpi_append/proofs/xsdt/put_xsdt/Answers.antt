@@ -28,7 +28,14 @@ append_table-requires-clause-no_sum c =
 
 pub append_table-requires-clause-few : goal.append_table-requires-clause-few
 append_table-requires-clause-few c =
-    omega (arith, ap size c.in_ok-rows.ensures.rows, ap size (c.as_slice.ensures ∙ c.in_ok-entries.ensures), size-pointers 8 tables_name c.args.tables.now, c.requires.few)
+    omega (
+      arith,
+      ap size c.in_ok-rows.ensures.rows,
+      ap size (c.as_slice.ensures ∙ c.in_ok-entries.ensures),
+      size-pointers 8 tables_name
+          c.args.tables.now,
+      c.requires.few,
+    )
 
 pub returns-clause-size : goal.returns-clause-size
 returns-clause-size c =

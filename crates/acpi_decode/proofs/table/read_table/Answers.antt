@@ -16,7 +16,8 @@ use Rattle.acpi_decode.specs.Read.{IsRead}
 use Rattle.acpi_decode.proofs.ReadTables.{rows_ram, read_with_entries, read_alone}
 use Rattle.acpi_decode.proofs.table.read_table.Goals as goal
 use Rattle.acpi_decode.proofs.table.read_table.Goals.{in-Fadt+in_ok-found-in-Fadt, in-Madt+in_ok-read_madt-in-Madt}
-use Rattle.acpi_decode.proofs.table.read_table.Goals.{in-Srat+in_ok-read_srat-in-Srat, in-Slit+in_ok-read_slit-in-Slit, in-Mcfg+in_ok-read_mcfg-in-Mcfg, in-Hpet+in_ok-read_hpet-in-Hpet}
+use Rattle.acpi_decode.proofs.table.read_table.Goals.{in-Srat+in_ok-read_srat-in-Srat, in-Slit+in_ok-read_slit-in-Slit}
+use Rattle.acpi_decode.proofs.table.read_table.Goals.{in-Mcfg+in_ok-read_mcfg-in-Mcfg, in-Hpet+in_ok-read_hpet-in-Hpet}
 
 pub read_fadt-requires : goal.read_fadt-requires
 read_fadt-requires g c =

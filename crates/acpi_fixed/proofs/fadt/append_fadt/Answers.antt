@@ -37,7 +37,8 @@ pub returns-clause-put : goal.returns-clause-put
 returns-clause-put c =
     let part = c.in-Some-Some in
     on_ok_weaker c.put_table.result (λ put.
-    of_parts (λ acpi power. IsTablePut c.args.blob.now c.put_table.new.blob (Fadt (fadt_of acpi power) (fadt_links c.args.facs c.args.dsdt))) c.args.machine.now.acpi
+    of_parts (λ acpi power. IsTablePut c.args.blob.now c.put_table.new.blob (Fadt (fadt_of acpi power) (fadt_links c.args.facs c.args.dsdt)))
+    c.args.machine.now.acpi
     c.args.machine.now.power part.acpi part.power part.is-0 part.is-1
     (subst (λ links. IsTablePut c.args.blob.now c.put_table.new.blob (Fadt (fadt_of part.acpi part.power) links)) c.fadt_links-links.ensures
     (subst (λ t. IsTablePut c.args.blob.now c.put_table.new.blob (Fadt t c.fadt_links-links.result)) c.fadt_of.ensures put))) c.put_table.ensures.put

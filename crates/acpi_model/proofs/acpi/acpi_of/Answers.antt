@@ -34,10 +34,13 @@ returns c =
     let dsdt = c.in_ok-dsdt.dsdt in
     let hpet = c.hpet_part.result in
     let facs = c.facs_part.result in
-    ap (λ (h : Head). told_with fadt madt srat slit mcfg hpet h.oem_id h (record { facs = facs; dsdt = dsdt; generation = id_of m }) c.new.result) c.head_of-xsdt.ensures
-    ∙ ap (λ those. told_with fadt madt srat slit mcfg hpet (padded 6 acpi.oem_id) (head_of acpi 1) (record { facs = those; dsdt = dsdt; generation = id_of m }) c.new.result)
+    ap (λ (h : Head). told_with fadt madt srat slit mcfg hpet h.oem_id h (record { facs = facs; dsdt = dsdt; generation = id_of m }) c.new.result)
+    c.head_of-xsdt.ensures
+    ∙ ap (λ those. told_with fadt madt srat slit mcfg hpet (padded 6 acpi.oem_id) (head_of acpi 1)
+    (record { facs = those; dsdt = dsdt; generation = id_of m }) c.new.result)
     c.facs_part.ensures
-    ∙ ap (λ those. told_with fadt madt srat slit mcfg hpet (padded 6 acpi.oem_id) (head_of acpi 1) (record { facs = option_map (λ power. initial_facs) m.power; dsdt = those; generation = id_of m })
+    ∙ ap (λ those. told_with fadt madt srat slit mcfg hpet (padded 6 acpi.oem_id) (head_of acpi 1)
+    (record { facs = option_map (λ power. initial_facs) m.power; dsdt = those; generation = id_of m })
     c.new.result) c.in_ok-dsdt.ensures
     ∙ ap (told_with fadt madt srat slit mcfg hpet (padded 6 acpi.oem_id) (head_of acpi 1) (targets_of m acpi)) c.new.ensures
     ∙ told_same (padded 6 acpi.oem_id) (head_of acpi 1) (targets_of m acpi) []

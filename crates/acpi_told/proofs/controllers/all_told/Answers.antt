@@ -8,7 +8,8 @@ use Rattle.acpi_told.proofs.controllers.all_told.Goals as goal
 
 pub loop-entry-preserved : goal.loop-entry-preserved
 loop-entry-preserved g c =
-    let more = one_more g.P.Told.told c.args.entries.now c.loop-entry.entry-index (LocalApic (record { uid = 0; apic = 0; flags = 0 })) c.loop-entry-test.true in
+    let more = one_more g.P.Told.told c.args.entries.now c.loop-entry.entry-index (LocalApic (record { uid = 0; apic = 0; flags = 0 }))
+    c.loop-entry-test.true in
     let before = filter_map g.P.Told.told (take c.loop-entry.entry-index c.args.entries.now) in
     elim c.match-told.branch [
       | in-Some+in_ok-push w ↦

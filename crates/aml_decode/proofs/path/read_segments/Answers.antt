@@ -17,7 +17,8 @@ returns-in_err-read_segment-clause-segments c =
 pub loop-index-preserved : goal.loop-index-preserved
 loop-index-preserved c = record {
   all =
-      next_segment c.loop-index.segments c.push.new.self c.in_ok-read_segment.field-0 c.args.count c.loop-index._index c.args.place c.loop-index.size c.args.text.now _
+      next_segment c.loop-index.segments c.push.new.self c.in_ok-read_segment.field-0 c.args.count c.loop-index._index c.args.place c.loop-index.size
+      c.args.text.now _
       (omega arith) c.in_ok-read_segment.ensures.segment c.in_ok-push.ensures.ok c.loop-index.invariant.all;
   within =
       let more : 4 ≤ length (drop c.loop-index.size c.args.text.now) = rw take_rest at c.in_ok-read_segment.ensures.within in

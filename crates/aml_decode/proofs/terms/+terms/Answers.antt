@@ -13,7 +13,8 @@ pub read_term-returns-in_err-byte-clause-term : goal.read_term-returns-in_err-by
 read_term-returns-in_err-byte-clause-term t c =
     let p = err_from_is_err_and c.from_residual.result c.from_residual.ensures.1 in
     rw (p.1, p.2, term_led)
-    (led_none (λ byte. term_behind (value_at c.args.room) (inside_at c.args.room)) c.in_err-byte.field-0.0 c.args.place c.args.text.now c.in_err-byte.ensures.byte)
+    (led_none (λ byte. term_behind (value_at c.args.room) (inside_at c.args.room)) c.in_err-byte.field-0.0 c.args.place c.args.text.now
+    c.in_err-byte.ensures.byte)
 
 pub read_term-returns-in_err-term-clause-term : goal.read_term-returns-in_err-term-clause-term
 read_term-returns-in_err-term-clause-term t c =

@@ -19,7 +19,8 @@ package_in-returns-then-from-kept t c =
 pub package_in-returns : goal.package_in-returns
 package_in-returns t c =
     let all = c.in_ok-kept.ensures.values in
-    count_right (value_at c.args.room) c.args.place c.in_ok-count.count c.args.text.now c.in_ok-kept.kept all.0 (omega arith) c.in_ok-count.ensures.byte all.1 all.2
+    count_right (value_at c.args.room) c.args.place c.in_ok-count.count c.args.text.now c.in_ok-kept.kept all.0 (omega arith)
+    c.in_ok-count.ensures.byte all.1 all.2
     (sym c.from.ensures ∙ c.if-from-kept.false)
 
 pub read_value-returns-in_err-byte-clause-value : goal.read_value-returns-in_err-byte-clause-value
@@ -33,7 +34,8 @@ pub read_value-returns-in_err-value-clause-value : goal.read_value-returns-in_er
 read_value-returns-in_err-value-clause-value t c =
     let p = err_from_is_err_and c.from_residual-in_err-value.result c.from_residual-in_err-value.ensures.1 in
     rw (p.1, p.2, value_led)
-    (led_bad (λ byte. value_behind (buffer_at c.args.room) (package_at c.args.room) byte) c.in_err-value.field-0.0 c.args.place c.in_ok-byte.byte c.args.text.now
+    (led_bad (λ byte. value_behind (buffer_at c.args.room) (package_at c.args.room) byte) c.in_err-value.field-0.0 c.args.place c.in_ok-byte.byte
+    c.args.text.now
     c.of.result c.of.ensures.opcode c.in_ok-byte.ensures.byte c.in_err-value.ensures.value)
 
 pub read_value-returns-clause-value : goal.read_value-returns-clause-value

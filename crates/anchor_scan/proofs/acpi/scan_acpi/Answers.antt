@@ -32,5 +32,6 @@ returns-clause-shown c =
     record {
       rsdp = c.in-Some.rsdp;
       least = c.in-Some.ensures.some.1;
-      leads = subst (λ (view : View). LeadsToAcpi view c.in-Some.rsdp c.in_ok-walk.field-0.tables c.in_ok-walk.field-0.generation) same c.in_ok-walk.ensures.shown;
+      leads = subst (λ (view : View). LeadsToAcpi view c.in-Some.rsdp c.in_ok-walk.field-0.tables c.in_ok-walk.field-0.generation) same
+          c.in_ok-walk.ensures.shown;
     }

@@ -10,6 +10,7 @@ returns-in_err-held c =
     let old = c.args.held.now in
     let head = c.fill-left.new.self in
     let size = 4 + 64 * c.args.count in
-    let filled = IsHeadFilled-from old.head c.args.piece.now head c.fill-left.result.now size c.fill-left.ensures.taken c.fill-left.ensures.left c.requires.within in
+    let filled = IsHeadFilled-from old.head c.args.piece.now head c.fill-left.result.now size c.fill-left.ensures.taken c.fill-left.ensures.left
+    c.requires.within in
     rw (p.1, p.2) (head_refused old c.args.piece.now head c.fill-left.result.now size c.in_err-held.field-0.0 c.requires.none filled
     (subst (λ (h : List ℕ). IsRefusal h c.in_err-held.field-0.0) c.as_slice.ensures c.in_err-held.ensures.err))

@@ -11,7 +11,8 @@ returns-then-len-size c =
     let old = c.args.held.now in
     let head = c.fill-left.new.self in
     let size = 4 + 65 * c.args.count in
-    let filled = IsHeadFilled-from old.head c.args.piece.now head c.fill-left.result.now size c.fill-left.ensures.taken c.fill-left.ensures.left c.requires.within in
+    let filled = IsHeadFilled-from old.head c.args.piece.now head c.fill-left.result.now size c.fill-left.ensures.taken c.fill-left.ensures.left
+    c.requires.within in
     let short : length head < size = omega (arith, c.len.ensures, c.if-len-size.true) in
     let new : Held = record { head = head; listed = old.listed; items = old.items; next = old.next } in (
       (HasListed-stays old.head filled.more head c.args.count old.listed c.requires.listed filled.new_is, short, c.requires.none),
@@ -23,7 +24,8 @@ opened_items-requires-clause-listed c =
     let old = c.args.held.now in
     let head = c.fill-left.new.self in
     let size = 4 + 65 * c.args.count in
-    let filled = IsHeadFilled-from old.head c.args.piece.now head c.fill-left.result.now size c.fill-left.ensures.taken c.fill-left.ensures.left c.requires.within in
+    let filled = IsHeadFilled-from old.head c.args.piece.now head c.fill-left.result.now size c.fill-left.ensures.taken c.fill-left.ensures.left
+    c.requires.within in
     HasListed-at head c.as_slice.result.now c.args.count old.listed c.as_slice-2.result.now c.as_slice.ensures c.as_slice-2.ensures
     (HasListed-stays old.head filled.more head c.args.count old.listed c.requires.listed filled.new_is)
 
@@ -33,7 +35,8 @@ returns-in_err-held c =
     let old = c.args.held.now in
     let head = c.fill-left.new.self in
     let size = 4 + 65 * c.args.count in
-    let filled = IsHeadFilled-from old.head c.args.piece.now head c.fill-left.result.now size c.fill-left.ensures.taken c.fill-left.ensures.left c.requires.within in
+    let filled = IsHeadFilled-from old.head c.args.piece.now head c.fill-left.result.now size c.fill-left.ensures.taken c.fill-left.ensures.left
+    c.requires.within in
     rw (p.1, p.2) (head_refused old c.args.piece.now head c.fill-left.result.now size c.in_err-held.field-0.0 c.requires.none filled
     (subst (λ (h : List ℕ). IsRefusal h c.in_err-held.field-0.0) c.as_slice.ensures c.in_err-held.ensures.err))
 
@@ -49,7 +52,8 @@ returns c =
     let old = c.args.held.now in
     let head = c.fill-left.new.self in
     let size = 4 + 65 * c.args.count in
-    let filled = IsHeadFilled-from old.head c.args.piece.now head c.fill-left.result.now size c.fill-left.ensures.taken c.fill-left.ensures.left c.requires.within in
+    let filled = IsHeadFilled-from old.head c.args.piece.now head c.fill-left.result.now size c.fill-left.ensures.taken c.fill-left.ensures.left
+    c.requires.within in
     let mid : Held = record { head = head; listed = old.listed; items = c.in_ok-held.field-0; next = 0 } in
     let empty = none_first head old.listed c.in_ok-held.field-0 (IsOpened-at head c.as_slice.result.now old.listed c.as_slice-2.result.now c.in_ok-held.field-0
     c.as_slice.ensures c.as_slice-2.ensures c.in_ok-held.ensures.ok) in

@@ -25,4 +25,8 @@ be-four bytes within each =
 pub overflow_cast-result : goal.overflow_cast-result
 overflow_cast-result c =
     let within : 4 ≤ length (drop c.args.at c.args.bytes.now) = grind (arith, places) in
-    omega (arith, be-four (drop c.args.at c.args.bytes.now) within (λ k. index-dropped c.args.bytes.now c.args.at k (λ i. (c.type_inv.bytes i).fits)), c.get_be.ensures)
+    omega (
+      arith,
+      be-four (drop c.args.at c.args.bytes.now) within (λ k. index-dropped c.args.bytes.now c.args.at k (λ i. (c.type_inv.bytes i).fits)),
+      c.get_be.ensures,
+    )

@@ -25,7 +25,8 @@ put_some_zeros-done-requires-clause-ram c = λ i below.
 pub loop-done-preserved : goal.loop-done-preserved
 loop-done-preserved c = record {
   within = omega arith;
-  so_far = zeros_more c.args.memory.now.memory c.loop-done.memory.memory c.put_some_zeros-done.new.memory.memory c.args.address c.loop-done.done c.put_some_zeros-done.result
+  so_far = zeros_more c.args.memory.now.memory c.loop-done.memory.memory c.put_some_zeros-done.new.memory.memory c.args.address c.loop-done.done
+      c.put_some_zeros-done.result
       c.args.count c.top-top.ensures.lawful c.requires.ram (omega arith) c.loop-done.invariant.so_far c.put_some_zeros-done.ensures.after;
   touches = touches_more (IsAmong c.args.address c.args.count) (IsAmong (c.args.address + c.loop-done.done) (c.args.count - c.loop-done.done))
       c.args.memory.now.memory.top _ _ _ _ c.loop-done.invariant.touches (ap (λ (m : Memory). m.top) c.loop-done.invariant.so_far)

@@ -14,7 +14,8 @@ push_reserved-requires c = omega (arith, c.loop-item.invariant.len, c.loop-item.
 pub loop-item-preserved : goal.loop-item-preserved
 loop-item-preserved c = record {
   infos = c.push_reserved.ensures.items
-      ∙ one_more c.args.items.now c.loop-item.item-index c.item-item.result _ _ c.loop-item-test.true c.item-item.is c.loop-item.invariant.infos c.info_of.ensures;
+      ∙ one_more c.args.items.now c.loop-item.item-index c.item-item.result _ _ c.loop-item-test.true c.item-item.is c.loop-item.invariant.infos
+      c.info_of.ensures;
   len = omega (arith, c.loop-item.invariant.len, c.push_reserved.ensures.len);
   room = omega (arith, c.loop-item.invariant.room, c.push_reserved.ensures.capacity);
 }

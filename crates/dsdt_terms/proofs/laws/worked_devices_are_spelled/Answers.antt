@@ -12,7 +12,8 @@ use Rattle.dsdt_terms.proofs.laws.worked_devices_are_spelled.Goals as goal
 
 view-cpu : (number : ℕ)
     → view (cpu_device number)
-    ≡ device (path_to (cpu_name number)) (tree (named (path_to (codes "_HID")) (chars (codes "ACPI0007"))) (tree (named (path_to (codes "_UID")) (int number)) no_trees))
+    ≡ device (path_to (cpu_name number)) (tree (named (path_to (codes "_HID")) (chars (codes "ACPI0007")))
+    (tree (named (path_to (codes "_UID")) (int number)) no_trees))
 view-cpu number =
     view-device (path_to (cpu_name number)) (name (codes "_HID") (Chars (codes "ACPI0007")) ∷ unique_id number ∷ [])
     ∙ ap (device (path_to (cpu_name number)))

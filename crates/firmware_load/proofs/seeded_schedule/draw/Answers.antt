@@ -13,7 +13,8 @@ returns-in-1-clause-event c =
     drawn_piece c.args.words.now c.next_word-word.new.self c.next_word-word.result c.next_word-word.ensures (search arith) (search arith)
 
 pub returns-in-1-clause-words : goal.returns-in-1-clause-words
-returns-in-1-clause-words c = behind_piece c.args.words.now c.next_word-word.new.self c.next_word-word.result c.next_word-word.ensures (search arith) (search arith)
+returns-in-1-clause-words c = behind_piece c.args.words.now c.next_word-word.new.self c.next_word-word.result c.next_word-word.ensures (search arith)
+    (search arith)
 
 pub returns-in_default-clause-event : goal.returns-in_default-clause-event
 returns-in_default-clause-event c =

@@ -6,8 +6,11 @@ use Rattle.image_files.proofs.image.link.Goals as goal
 
 pub returns-then-image_size-gt-IMAGE_LIMIT-clause-large : goal.returns-then-image_size-gt-IMAGE_LIMIT-clause-large
 returns-then-image_size-gt-IMAGE_LIMIT-clause-large c =
-    let many : image_limit < c.image_size.result = c.if-image_size-gt-IMAGE_LIMIT.true in
-    (λ is. many_counted c.args.files.items c.as_slice.result.now c.args.later.now c.image_size.result c.as_slice.ensures.value c.image_size.ensures many, λ large. refl)
+    let many : image_limit < c.image_size.result = c.if-image_size-gt-IMAGE_LIMIT.true in (
+      λ is. many_counted c.args.files.items c.as_slice.result.now c.args.later.now c.image_size.result c.as_slice.ensures.value c.image_size.ensures
+          many,
+      λ large. refl,
+    )
 
 pub image_from-requires-clause-small : goal.image_from-requires-clause-small
 image_from-requires-clause-small c =

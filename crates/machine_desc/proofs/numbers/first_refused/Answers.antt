@@ -1,7 +1,8 @@
 use Rattle.std.proofs.Common.{sym, subst, ◌<◌, ◌∙◌}
 use Rattle.machine_desc.proofs.OwnNumbers.{first_refused_here, taken_here, nothing_refused, one_more_below, unlawful_refused, old_refused, new_taken, new_is}
 use Rattle.machine_desc.proofs.numbers.first_refused.Goals as goal
-use Rattle.machine_desc.proofs.numbers.first_refused.Goals.{then-not-is_lawful-via-then-not-is_lawful, then-not-is_lawful-via-else-not-is_lawful+then-not-is_new}
+use Rattle.machine_desc.proofs.numbers.first_refused.Goals.{then-not-is_lawful-via-then-not-is_lawful}
+use Rattle.machine_desc.proofs.numbers.first_refused.Goals.{then-not-is_lawful-via-else-not-is_lawful+then-not-is_new}
 
 pub returns-then-not-is_lawful : goal.returns-then-not-is_lawful
 returns-then-not-is_lawful g c =

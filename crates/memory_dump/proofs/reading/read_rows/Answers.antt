@@ -26,5 +26,6 @@ loop-row-preserved c =
 
 pub returns-in_err-put_row-clause-err : goal.returns-in_err-put_row-clause-err
 returns-in_err-put_row-clause-err c =
-    if_err c.from_residual.result (λ fault. behind_so c.args.memory.now.memory 2 0 c.args.text.now ≡ Err fault) c.in_err-put_row.field-0.0 c.from_residual.ensures.1
+    if_err c.from_residual.result (λ fault. behind_so c.args.memory.now.memory 2 0 c.args.text.now ≡ Err fault) c.in_err-put_row.field-0.0
+    c.from_residual.ensures.1
     (c.loop-row.invariant.said ∙ said-refused _ _ _ _ _ _ (sym c.in-Some.ensures) c.in_err-put_row.ensures.err)

@@ -15,7 +15,8 @@ returns-in_err-dump_frames-clause-front g c =
     let map : c.ram_ranges-range-items.result ≡ ram_ranges c.args.memory.now.memory.top =
     c.ram_ranges-range-items.ensures ∙ ap ram_ranges c.top.ensures.value in
     let size : length c.ram_ranges-range-items.result ≡ 3 = ap length map in
-    let lines = range_text-frames c.args.memory.now.memory c.ram_ranges-range-items.result c.loop-range.range-index _ c.top.ensures.lawful.top map (omega arith) in
+    let lines = range_text-frames c.args.memory.now.memory c.ram_ranges-range-items.result c.loop-range.range-index _ c.top.ensures.lawful.top map
+    (omega arith) in
     let failed = ranges_failed _ _ _ c.args.memory.now.memory c.ram_ranges-range-items.result c.loop-range.range-index _ (omega arith)
     c.loop-range.invariant
     (subst (λ text. TookFront text (g.K.Sink.seen c.loop-range.out) (g.K.Sink.seen c.dump_frames.new.out)) lines c.in_err-dump_frames.ensures.front) in
@@ -27,6 +28,7 @@ loop-range-preserved g c =
     let map : c.ram_ranges-range-items.result ≡ ram_ranges c.args.memory.now.memory.top =
     c.ram_ranges-range-items.ensures ∙ ap ram_ranges c.top.ensures.value in
     let size : length c.ram_ranges-range-items.result ≡ 3 = ap length map in
-    let lines = range_text-frames c.args.memory.now.memory c.ram_ranges-range-items.result c.loop-range.range-index _ c.top.ensures.lawful.top map (omega arith) in
+    let lines = range_text-frames c.args.memory.now.memory c.ram_ranges-range-items.result c.loop-range.range-index _ c.top.ensures.lawful.top map
+    (omega arith) in
     ranges_more _ _ _ c.args.memory.now.memory c.ram_ranges-range-items.result c.loop-range.range-index _ (omega arith) c.loop-range.invariant
     (subst (λ text. Took text (g.K.Sink.seen c.loop-range.out) (g.K.Sink.seen c.dump_frames.new.out)) lines c.in_ok-dump_frames.ensures.ok)

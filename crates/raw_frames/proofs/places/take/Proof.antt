@@ -22,7 +22,8 @@ use types.Logic.{Logic, sem}
 use contract.BorrowLft.{◌⊑◌}
 use contract.Monad.{fact}
 use contract.Running.{tables}
-use types.Kit.{Post as After, Sq, ‵, raw, ◌⊛◌, later, await, prop, any_q, at_ret, ◌$◌, ◌∵◌, !, qed, move, keep, use0, use1, use2, use3, split, join, frame, fsplit, fjoin, fpack, feq_i, flt_i, suffices, done}
+use types.Kit.{Post as After, Sq, ‵, raw, ◌⊛◌, later, await, prop, any_q, at_ret, ◌$◌, ◌∵◌, !, qed, move, keep, use0, use1, use2, use3, split, join}
+use types.Kit.{frame, fsplit, fjoin, fpack, feq_i, flt_i, suffices, done}
 use types.Match.{live, vrt, in_variant}
 use types.Part.{whole, agg}
 use types.Run.{stop, fld, lit, bin, of_opd, and_then, no_more, first, switches_on, exec, returns, enter}
@@ -66,12 +67,15 @@ use Rattle.raw_frames.proofs.places.take.Code as code
 
 -- three values as one
 three_made : {M : Type 1} {𝓤 : Ura M} (𝓛 : Logic 𝓤) (R S T : RattleType) (x : R.Denot) (y : S.Denot) (z : T.Denot) (u v w : Val)
-    → ent 𝓤 (sep 𝓤 (sem 𝓛 (R.own_val x (u ∷ []))) (sep 𝓤 (sem 𝓛 (S.own_val y (v ∷ []))) (sem 𝓛 (T.own_val z (w ∷ []))))) (sem 𝓛 ((Tuple (R ∷ S ∷ T ∷ [])).own_val (x, y, z) (vstruct (vcons u (vcons v (vcons w vnil))) ∷ [])))
+    → ent 𝓤 (sep 𝓤 (sem 𝓛 (R.own_val x (u ∷ []))) (sep 𝓤 (sem 𝓛 (S.own_val y (v ∷ []))) (sem 𝓛 (T.own_val z (w ∷ [])))))
+    (sem 𝓛 ((Tuple (R ∷ S ∷ T ∷ [])).own_val (x, y, z) (vstruct (vcons u (vcons v (vcons w vnil))) ∷ [])))
 three_made 𝓛 R S T x y z u v w =
     let whole : Val = vstruct (vcons u (vcons v (vcons w vnil))) in
     qed 𝓛 (‵ (R.own_val x (u ∷ [])) ∷ ‵ (S.own_val y (v ∷ [])) ∷ ‵ (T.own_val z (w ∷ [])) ∷ []) ∵
-    nothing ! $ move ! (3 ∷ 0 ∷ []) $ fjoin ! $ move ! (2 ∷ 0 ∷ []) $ fjoin ! $ move ! (1 ∷ 0 ∷ []) $ fjoin ! $ feq_i ! (List Val) (whole ∷ []) (whole ∷ []) refl $ fjoin ! $
-    fpack ! (Valss (R ∷ S ∷ T ∷ [])) (within (Declared.shape (tuple_type (R ∷ S ∷ T ∷ []))) (x, (y, (z, tt))) (whole ∷ [])) (u ∷ [], (v ∷ [], (w ∷ [], tt))) $ done !
+    nothing ! $ move ! (3 ∷ 0 ∷ []) $ fjoin ! $ move ! (2 ∷ 0 ∷ []) $ fjoin ! $ move ! (1 ∷ 0 ∷ []) $ fjoin ! $
+    feq_i ! (List Val) (whole ∷ []) (whole ∷ []) refl $ fjoin ! $
+    fpack ! (Valss (R ∷ S ∷ T ∷ [])) (within (Declared.shape (tuple_type (R ∷ S ∷ T ∷ []))) (x, (y, (z, tt))) (whole ∷ []))
+    (u ∷ [], (v ∷ [], (w ∷ [], tt))) $ done !
 
 pub take_spec : {M : Type 1} → statement M
 take_spec 𝓤 𝓛 𝓜 𝓡 wired W laws g d drops met lets_go =
@@ -81,7 +85,10 @@ take_spec 𝓤 𝓛 𝓜 𝓡 wired W laws g d drops met lets_go =
     let args : Args = bounded (a_type ∷ []) (W, tt) (dcons d (dcons drops dnil)) in
     let function : Fn = inst_fn args code.function in
     let ended : Ended = f.ended W g d drops in
-    let stayed : Stays ended.signature.params ended.kept = (stay_dropped (RefOf (0 ∷ []) tt (plain (λ _. P)) (λ _. tt)) yes, (stay_dropped (plain (λ _. usize)) yes, tt)) in
+    let stayed : Stays ended.signature.params ended.kept = (
+      stay_dropped (RefOf (0 ∷ []) tt (plain (λ _. P)) (λ _. tt)) yes,
+      (stay_dropped (plain (λ _. usize)) yes, tt),
+    ) in
     let c = f.clauses W g d drops 𝓛 𝓜.mem 𝓡.returns in let walk = walk_of 𝓛 ended stayed c in let 𝓣 = tables 𝓤 𝓛.H 𝓜 𝓡 𝓡.env in
     proved 𝓛 ended stayed c 𝓜 𝓡
     (Goes-dropped 𝓛 2 (RefOf (0 ∷ []) tt (plain (λ _. P)) (λ _. tt)) yes (λ κs x w. refl), (Goes-dropped 𝓛 2 (plain (λ _. usize)) yes (λ κs x w. refl), tt))
@@ -93,24 +100,31 @@ take_spec 𝓤 𝓛 𝓜 𝓡 wired W laws g d drops met lets_go =
     let y : walk.Ghost = ((κs, qs, bounds, a, (shr_vals a.0, (uint_vals w64 count, tt))), none) in let vss = y.0.4 in
     let fits : count < 2 ^ 64 = are.1.0.1 in
     let τ : Ty = bare (ty_array frame_ty count) in
-    qed 𝓛 (((‵ (flft κ q) ⊛ ‵ (flft κs.1.0 qs.1.0) ⊛ ‵ ftrue) ⊛ ‵ (owns (ShrRef (named 0) κ P ∷ usize ∷ []) a vss)) ∷ (raw (fact 𝓤 (κs.1.0 ⊑ W.lives)) ⊛ raw (fact 𝓤 (count * 4096 < 2 ^ 63))) ∷ []) ∵
+    qed 𝓛 (((‵ (flft κ q) ⊛ ‵ (flft κs.1.0 qs.1.0) ⊛ ‵ ftrue) ⊛ ‵ (owns (ShrRef (named 0) κ P ∷ usize ∷ []) a vss)) ∷
+    (raw (fact 𝓤 (κs.1.0 ⊑ W.lives)) ⊛ raw (fact 𝓤 (count * 4096 < 2 ^ 63))) ∷ []) ∵
     move ! (1 ∷ []) $ split ! $ heard ! _ (λ outlives. heard ! _ (λ short. split ! $ split ! $ move ! (2 ∷ []) $ fsplit ! $ fsplit ! $ keep ! (1 ∷ 3 ∷ 4 ∷ []) $
     -- [what the `&` reaches; its token; the other tokens]
     let small : count * 4096 < 2 ^ 64 = omega (arith, short) in
     let size_is : capped (size τ) ≡ count * 4096 = ap capped (size-raw (ty_array frame_ty count)) ∙ capped_is (count * 4096) small in
     let align_is : capped (align τ) ≡ 1 = ap capped (align-raw (ty_array frame_ty count)) ∙ capped_is 1 (lit< tt) in
     let call = at_takes Z 𝓛 𝓜.mem 𝓡.returns κ q (rb, ro) alloc (count * 4096) 1 τ in
-    let out : (r : Out.Denot) (v : Val) → IfOk r (λ t. (t.1.at ≡ t.0.first) × (t.1.slots ≡ replicate count None) × (t.2.at ≡ t.0.first) × (t.2.count ≡ count) × (t.2.alloc ≡ alloc))
+    let out : (r : Out.Denot) (v : Val) → IfOk r (λ t. (t.1.at ≡ t.0.first) × (t.1.slots ≡ replicate count None) × (t.2.at ≡ t.0.first) ×
+    (t.2.count ≡ count) × (t.2.alloc ≡ alloc))
     → Sq 𝓛 (‵ (Out.own_val r (v ∷ [])) ∷ ‵ (flft κ q) ∷ (‵ (flft κs.1.0 qs.1.0) ⊛ ‵ ftrue) ∷ []) (prop (walk.post y v)) = λ r v told.
-    suffices ! _ (ends_at 𝓛 ended stayed c y v r (tt, (tt, tt)) (tt, (tt, tt))) $ says ! told $ move ! (1 ∷ 2 ∷ []) $ join ! $ frame ! $ nothing ! $ nothing ! $ fjoin ! $ nothing ! $ fjoin ! $ join ! $ done ! in
+    suffices ! _ (ends_at 𝓛 ended stayed c y v r (tt, (tt, tt)) (tt, (tt, tt))) $ says ! told $ move ! (1 ∷ 2 ∷ []) $ join ! $ frame ! $ nothing ! $
+    nothing ! $ fjoin ! $ nothing ! $ fjoin ! $ join ! $ done ! in
     enter ! _ _ _ _ _ $ alloc_all ! (λ l. pass_all ! refl ((tt, tt), ((tt, record { fits = fits }), tt)) $
     let En : Env 𝓤 𝓛.H = env function.locals l in
     let arms : Body = head (after 2 function.body) in
-    let Then : After 𝓤 𝓛.H = any_q (after_seq 𝓤 𝓛.H (Wp 𝓤 𝓛.H 𝓣.C 𝓣.Λ En (after 3 function.body) (at_return 𝓤 𝓛.H En (walk.post y))) (at_return 𝓤 𝓛.H En (walk.post y))) in
+    let Then : After 𝓤 𝓛.H = any_q (after_seq 𝓤 𝓛.H (Wp 𝓤 𝓛.H 𝓣.C 𝓣.Λ En (after 3 function.body) (at_return 𝓤 𝓛.H En (walk.post y)))
+    (at_return 𝓤 𝓛.H En (walk.post y))) in
     sets ! (bin ! (get ! refl) (big_lit ! (record { fits = lit< tt })) (record { fits = small })) refl (tt, record { fits = small }) $
-    use2 𝓛 (raw ((Takes Z 𝓛 𝓜.mem 𝓡.returns).pre call)) (Takes-goes Z 𝓛 𝓜.mem 𝓡.returns κ q (rb, ro) alloc (Incl-trans bounds.0 outlives) (count * 4096) 1 τ size_is align_is small (lit< tt)) $
-    calls_at ! (framed 𝓤 𝓛.H 𝓜 𝓣) (Takes Z 𝓛 𝓜.mem 𝓡.returns) (met.allocate drops) call (and_then ! (get ! refl) (and_then ! (get ! refl) (and_then ! (lit ! tt) (no_more !)))) (λ v.
-    use1 𝓛 (later (raw (Answered Z 𝓛 𝓜.mem 𝓡.returns alloc τ v) ⊛ ‵ (flft κ q))) (Takes-gives Z 𝓛 𝓜.mem 𝓡.returns κ q (rb, ro) alloc (count * 4096) 1 τ v) $ await ! tt $ split ! $
+    use2 𝓛 (raw ((Takes Z 𝓛 𝓜.mem 𝓡.returns).pre call)) (Takes-goes Z 𝓛 𝓜.mem 𝓡.returns κ q (rb, ro) alloc (Incl-trans bounds.0 outlives)
+    (count * 4096) 1 τ size_is align_is small (lit< tt)) $
+    calls_at ! (framed 𝓤 𝓛.H 𝓜 𝓣) (Takes Z 𝓛 𝓜.mem 𝓡.returns) (met.allocate drops) call
+    (and_then ! (get ! refl) (and_then ! (get ! refl) (and_then ! (lit ! tt) (no_more !)))) (λ v.
+    use1 𝓛 (later (raw (Answered Z 𝓛 𝓜.mem 𝓡.returns alloc τ v) ⊛ ‵ (flft κ q)))
+    (Takes-gives Z 𝓛 𝓜.mem 𝓡.returns κ q (rb, ro) alloc (count * 4096) 1 τ v) $ await ! tt $ split ! $
     answers Z ! 𝓜.mem 𝓡.returns alloc τ v
     (λ b o e.
     let p : Ptr = block_ptr b o in
@@ -121,9 +135,12 @@ take_spec 𝓤 𝓛 𝓜 𝓡 wired W laws g d drops met lets_go =
     let typed : Good (layout Three) made = (tt, ((tt, tt), (tt, ((tt, tt), tt)))) in
     let ok = first_Good (layout Three) made typed in
     -- [room for the frames; the allocator's token; the tokens]
-    lands_as ! e refl (Answer-typed true b o) $ first ! $ switches_on ! (get_tag ! (vrt ! refl (fld ! refl (stop !))) (whole !)) $ exec ! 𝓣.C 𝓣.Λ En (arm_body 0 arms) Then $
-    sets ! (of_opd ! (get_in ! (vrt ! refl (fld ! refl (stop !))) (in_variant ! 0 0 refl refl (whole !)))) refl (tt, tt) $ sets ! (of_opd ! (get ! refl)) refl (tt, tt) $
-    sets ! (agg ! (and_then ! (get ! refl) (no_more !))) refl (word-Good [] p) $ sets ! (agg ! (no_more !)) refl (tt, tt) $ sets ! (agg ! (no_more !)) refl (tt, tt) $
+    lands_as ! e refl (Answer-typed true b o) $ first ! $ switches_on ! (get_tag ! (vrt ! refl (fld ! refl (stop !))) (whole !)) $
+    exec ! 𝓣.C 𝓣.Λ En (arm_body 0 arms) Then $
+    sets ! (of_opd ! (get_in ! (vrt ! refl (fld ! refl (stop !))) (in_variant ! 0 0 refl refl (whole !)))) refl (tt, tt) $
+    sets ! (of_opd ! (get ! refl)) refl (tt, tt) $
+    sets ! (agg ! (and_then ! (get ! refl) (no_more !))) refl (word-Good [] p) $ sets ! (agg ! (no_more !)) refl (tt, tt) $
+    sets ! (agg ! (no_more !)) refl (tt, tt) $
     sets ! (agg ! (and_then ! (get ! refl) (no_more !))) refl (tt, (tt, tt)) $
     sets ! (agg ! (and_then ! (get ! refl) (and_then ! (get ! refl) (and_then ! (get ! refl) (no_more !))))) refl typed $
     sets_last ! (agg ! (and_then ! (lit ! tt) (and_then ! (get ! refl) (no_more !)))) refl ok $
@@ -139,7 +156,8 @@ take_spec 𝓤 𝓛 𝓜 𝓡 wired W laws g d drops met lets_go =
     (λ e.
     let Error : RattleType = Struct (Declared.shape AE.the_type) in
     let refused : Val = live 1 (vcons (vstruct vnil) vnil) in
-    lands_as ! e refl (Answer-typed false 0 0) $ first ! $ switches_on ! (get_tag ! (vrt ! refl (fld ! refl (stop !))) (whole !)) $ exec ! 𝓣.C 𝓣.Λ En (arm_body 1 arms) Then $
+    lands_as ! e refl (Answer-typed false 0 0) $ first ! $ switches_on ! (get_tag ! (vrt ! refl (fld ! refl (stop !))) (whole !)) $
+    exec ! 𝓣.C 𝓣.Λ En (arm_body 1 arms) Then $
     sets ! (of_opd ! (get_in ! (vrt ! refl (fld ! refl (stop !))) (in_variant ! 1 0 refl refl (whole !)))) refl (tt, tt) $
     sets_last ! (agg ! (and_then ! (lit ! tt) (and_then ! (get ! refl) (no_more !)))) refl (tt, (record { fits = lit< tt }, (tt, tt))) $
     exec ! 𝓣.C 𝓣.Λ En (after 3 function.body) (at_ret En (walk.post y)) $ sets ! (of_opd ! (get ! refl)) refl (tt, (record { fits = lit< tt }, (tt, tt))) $

@@ -18,4 +18,5 @@ returns g c =
     let fields = g.T.Laid.fields c.args.info.now in
     fields_put c.args.number c.args.handle fields c.rows-2.result.now _ c.args.bytes.now c.put_rows_and_strings.new.bytes
     c.put_rows_and_strings.result (g.met.T.Laid.lawful c.args.info.now c.args.info.now).readable (c.rows-2.ensures.rows ∙ c.in_ok-rows.ensures.rows)
-    (c.texts.ensures ∙ c.in_ok-rows.ensures.texts) (subst (AllByRecursion IsRow) (sym c.rows-2.ensures.rows) c.rows-2.ensures.fit) c.put_rows_and_strings.ensures
+    (c.texts.ensures ∙ c.in_ok-rows.ensures.texts) (subst (AllByRecursion IsRow) (sym c.rows-2.ensures.rows) c.rows-2.ensures.fit)
+    c.put_rows_and_strings.ensures

@@ -15,7 +15,8 @@ returns-in_err-found-clause-refused c =
 pub returns-then-found-clause-read : goal.returns-then-found-clause-read
 returns-then-found-clause-read c =
     subst (IsRead c.args.bytes.now) (sym c.in_ok-push.ensures.ok)
-    (read_last c.args.bytes.now c.loop-place.place c.loop-place.structures c.in_ok-found.found c.loop-place.invariant c.in_ok-found.ensures.found c.if-found.true)
+    (read_last c.args.bytes.now c.loop-place.place c.loop-place.structures c.in_ok-found.found c.loop-place.invariant c.in_ok-found.ensures.found
+    c.if-found.true)
 
 pub loop-place-preserved : goal.loop-place-preserved
 loop-place-preserved c =

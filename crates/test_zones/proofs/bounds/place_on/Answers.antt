@@ -16,4 +16,5 @@ given_where_free policy zone handed size align place (Err refused) none free = a
 
 pub returns : goal.returns
 returns c =
-    λ place. given_where_free c.args.shelf.now.begun.policy (range_in c.args.shelf.now.begun.zones High) c.args.shelf.now.handed 16 16 place c.place_by.result c.place_by.ensures
+    λ place. given_where_free c.args.shelf.now.begun.policy (range_in c.args.shelf.now.begun.zones High) c.args.shelf.now.handed 16 16 place
+    c.place_by.result c.place_by.ensures

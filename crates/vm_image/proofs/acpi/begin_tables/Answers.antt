@@ -34,11 +34,13 @@ pub returns : goal.returns
 returns c =
     elim c.if-is_some.branch [
       | then-is_some+in_ok-put_facs+in_ok-append_dsdt w ↦
-          w.file-is ∙ dsdt_put c.args.machine.now c.args.acpi.now c.args.machine.now.acpi w.put_facs.new.blob w.append_dsdt.new.blob c.requires.maker w.in_ok-append_dsdt.ensures.put
+          w.file-is ∙ dsdt_put c.args.machine.now c.args.acpi.now c.args.machine.now.acpi w.put_facs.new.blob w.append_dsdt.new.blob c.requires.maker
+          w.in_ok-append_dsdt.ensures.put
           ∙ ap (λ file. with_dsdt file (head_of c.args.acpi.now 2) (dsdt_body c.args.machine.now))
           (w.in_ok-put_facs.ensures.put.appended.file_is ∙ ap (λ facs. with_facs c.new-file.result facs) w.initial_facs.ensures.facs
           ∙ ap (λ file. with_facs file initial_facs) c.new-file.ensures)
           ∙ with_power c.args.machine.now c.args.acpi.now c.args.machine.now.power (sym c.is_some.ensures ∙ w.if-is_some.true)
       | else-is_some w ↦
-          w.file-is ∙ c.new-file.ensures ∙ without_power c.args.machine.now c.args.acpi.now c.args.machine.now.power (sym c.is_some.ensures ∙ w.if-is_some.false)
+          w.file-is ∙ c.new-file.ensures ∙ without_power c.args.machine.now c.args.acpi.now c.args.machine.now.power (sym c.is_some.ensures
+          ∙ w.if-is_some.false)
     ]

@@ -31,5 +31,6 @@ returns-clause-held c =
     let known = subst (λ h. IsTablesFile begin h tables c.append_tables.new.file) c.head_of-head.ensures c.in_ok-xsdt.ensures.held in
     subst (IsAcpiImage acpi begin tables) (files_are acpi begin tables c.new-rsdp.result c.put_rsdp.new.blob c.append_tables.new.file c.in_ok-xsdt.xsdt
     c.in_ok-xsdt.ensures.place c.new-rsdp.ensures put file_is)
-    (image_known acpi begin tables c.new-rsdp.result c.put_rsdp.new.blob c.append_tables.new.file c.in_ok-xsdt.xsdt c.in_ok-xsdt.ensures.place c.new-rsdp.ensures put
+    (image_known acpi begin tables c.new-rsdp.result c.put_rsdp.new.blob c.append_tables.new.file c.in_ok-xsdt.xsdt c.in_ok-xsdt.ensures.place
+    c.new-rsdp.ensures put
     c.finish.ensures.blob c.finish-2.ensures.blob known)

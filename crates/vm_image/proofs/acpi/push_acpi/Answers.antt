@@ -26,11 +26,13 @@ files_of-requires-clause-fits c = accepted_fits c.args.machine.now c.in-Some.acp
 
 pub files_of-requires-clause-writable : goal.files_of-requires-clause-writable
 files_of-requires-clause-writable c =
-    subst (AllByRecursion IsWritable) (sym (c.as_slice.ensures ∙ c.in_ok-tables-in-Some.ensures)) (machine_writable c.args.machine.now c.in-Some.acpi c.requires)
+    subst (AllByRecursion IsWritable) (sym (c.as_slice.ensures ∙ c.in_ok-tables-in-Some.ensures))
+    (machine_writable c.args.machine.now c.in-Some.acpi c.requires)
 
 pub files_of-requires-clause-linkable : goal.files_of-requires-clause-linkable
 files_of-requires-clause-linkable c =
-    subst IsLinkable (sym c.in_ok-begin-in-Some.ensures) (may_begin c.args.machine.now c.in-Some.acpi c.requires (accepted_fits c.args.machine.now c.in-Some.acpi c.requires c.in-Some.is)).linkable
+    subst IsLinkable (sym c.in_ok-begin-in-Some.ensures) (may_begin c.args.machine.now c.in-Some.acpi c.requires
+    (accepted_fits c.args.machine.now c.in-Some.acpi c.requires c.in-Some.is)).linkable
 
 pub files_of-requires-clause-few : goal.files_of-requires-clause-few
 files_of-requires-clause-few c =

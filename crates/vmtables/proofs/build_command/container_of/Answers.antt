@@ -16,4 +16,5 @@ returns-clause-ok c =
 
 pub returns-clause-err : goal.returns-clause-err
 returns-clause-err c =
-    IfErr-weaker c.image_container-container.result _ _ (λ fault failed. failed c.args.description.now c.in_ok-machine.ensures.ok) c.image_container-container.ensures.err
+    IfErr-weaker c.image_container-container.result _ _ (λ fault failed. failed c.args.description.now c.in_ok-machine.ensures.ok)
+    c.image_container-container.ensures.err

@@ -15,8 +15,10 @@ returns-in_err-begin-2-clause-err g c =
 pub returns-in_err-load-clause-err : goal.returns-in_err-load-clause-err
 returns-in_err-load-clause-err g c =
     let began = c.in_ok-begin-2.ensures in
-    failed_so (MayAnswer g.A.ZoneAlloc.state g.A.ZoneAlloc.gives) c.args.items c.args.top c.args.setting.now c.in_err-load.field-0.0 _ _ c.from_residual-in_err-load.result c.from_residual-in_err-load.ensures.1
-    (items_loaded (MayAnswer g.A.ZoneAlloc.state g.A.ZoneAlloc.gives) c.args.items c.args.top c.args.setting.now (Err c.in_err-load.field-0.0) _ _ c.begin.new.self.load
+    failed_so (MayAnswer g.A.ZoneAlloc.state g.A.ZoneAlloc.gives) c.args.items c.args.top c.args.setting.now c.in_err-load.field-0.0 _ _
+    c.from_residual-in_err-load.result c.from_residual-in_err-load.ensures.1
+    (items_loaded (MayAnswer g.A.ZoneAlloc.state g.A.ZoneAlloc.gives) c.args.items c.args.top c.args.setting.now (Err c.in_err-load.field-0.0) _ _
+    c.begin.new.self.load
     (g.A.ZoneAlloc.state c.begin-2.new.self) (g.C.Schedule.plan c.begin-3.new.self)
     (record {
       was_begun = c.in_ok-begin.ensures.ok;

@@ -13,14 +13,16 @@ pub overflow_add-address : goal.overflow_add-address
 overflow_add-address c =
     omega (
       arith,
-      ram_below c.args.memory.now.memory.top (c.args.flight.transfer.address + c.args.flight.moved) (c.requires.range c.args.flight.moved c.requires.flight.left)
+      ram_below c.args.memory.now.memory.top (c.args.flight.transfer.address + c.args.flight.moved)
+          (c.requires.range c.args.flight.moved c.requires.flight.left)
           c.top-top.ensures.lawful.top,
       c.from.ensures,
     )
 
 pub move_as-requires-clause-ram : goal.move_as-requires-clause-ram
 move_as-requires-clause-ram c = λ i below.
-    let next : c.args.flight.transfer.address + (c.args.flight.moved + i) ≡ c.args.flight.transfer.address + c.from.result + i = omega (arith, c.from.ensures) in
+    let next : c.args.flight.transfer.address + (c.args.flight.moved + i) ≡ c.args.flight.transfer.address + c.from.result + i =
+    omega (arith, c.from.ensures) in
     subst (IsRam c.args.memory.now.memory.top) next (c.requires.range (c.args.flight.moved + i) (omega arith))
 
 pub settle-requires-clause-descriptor : goal.settle-requires-clause-descriptor
@@ -31,7 +33,8 @@ settle-requires-clause-descriptor c =
 
 pub settle-requires-clause-flight : goal.settle-requires-clause-flight
 settle-requires-clause-flight c =
-    goes_on c.args.self.now c.move_as.new.self c.args.memory.now.memory c.move_as.new.memory.memory c.args.flight (c.args.flight.transfer.address + c.from.result)
+    goes_on c.args.self.now c.move_as.new.self c.args.memory.now.memory c.move_as.new.memory.memory c.args.flight
+    (c.args.flight.transfer.address + c.from.result)
     c.min-count.result c.requires.items c.requires.flight (omega arith) c.move_as.ensures.after
 
 pub returns-clause-touches : goal.returns-clause-touches

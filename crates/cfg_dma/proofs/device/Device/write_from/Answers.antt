@@ -28,5 +28,8 @@ pub returns : goal.returns
 returns c =
     let fits = subst (λ (d : DeviceState). LieInFile d c.args.count) (sym c.self.view_is) c.requires.fits in
     written_is _ c.put_bytes.new.items c.args.memory.now.memory c.args.address c.args.count c.self.invariant.1.items fits c.put_bytes.ensures.after
-    ∙ ap (λ (d : DeviceState). record (advanced d c.args.count) { items = with_bytes_at d.items d.select d.offset (bytes_at c.args.memory.now.memory c.args.address c.args.count) })
+    ∙ ap (λ (d : DeviceState). record (advanced d c.args.count) {
+      items = with_bytes_at d.items d.select d.offset
+          (bytes_at c.args.memory.now.memory c.args.address c.args.count);
+    })
     c.self.view_is

@@ -7,8 +7,8 @@ use Rattle.firmware_load.proofs.Allocating.{asks, was_asked, same_index, goes_pl
 use Rattle.firmware_load.proofs.guest.Guest.allocate.Given as given
 use Rattle.firmware_load.proofs.guest.Guest.allocate.Goals as goal
 
-pub listed_of-file-requires : goal.listed_of-file-requires
-listed_of-file-requires g c =
+pub listed_of-file-requires-clause-there : goal.listed_of-file-requires-clause-there
+listed_of-file-requires-clause-there g c =
     is_listed c.args.self.now c.args.listed.now c.args.name.now c.args.align c.args.zone c.requires.ready c.requires.early
 
 -- what is known of the file before a place is asked for, where one was given, and behind that

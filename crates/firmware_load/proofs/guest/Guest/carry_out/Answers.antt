@@ -35,11 +35,19 @@ allocate-requires-clause-early g c =
     (told_early c.args.self.now.memory.memory (files_of c.args.self.now.device.items) c.args.self.now.placements.infos.items
     c.args.self.now.placements.placed.items c.args.entry.now c.refusal.result None c.requires.ready.infos c.refusal.ensures c.in_default.is)
 
+pub add_pointer-requires-clause-distinct : goal.add_pointer-requires-clause-distinct
+add_pointer-requires-clause-distinct g c =
+    distinct_placements c.args.self.now.placements c.args.self.now.device.items c.requires.ready.items c.requires.ready.infos
+
 pub add_pointer-requires-clause-early : goal.add_pointer-requires-clause-early
 add_pointer-requires-clause-early g c =
     subst (λ (entry : Entry). early_cause entry (progress_now c.args.self.now) ≡ None) c.in-AddPointer.is
     (told_early c.args.self.now.memory.memory (files_of c.args.self.now.device.items) c.args.self.now.placements.infos.items
     c.args.self.now.placements.placed.items c.args.entry.now c.refusal.result None c.requires.ready.infos c.refusal.ensures c.in_default.is)
+
+pub add_checksum-requires-clause-distinct : goal.add_checksum-requires-clause-distinct
+add_checksum-requires-clause-distinct g c =
+    distinct_placements c.args.self.now.placements c.args.self.now.device.items c.requires.ready.items c.requires.ready.infos
 
 pub add_checksum-requires-clause-early : goal.add_checksum-requires-clause-early
 add_checksum-requires-clause-early g c =

@@ -23,6 +23,12 @@ write_number-requires-clause-idle c = (can c).idle
 pub write_number-requires-clause-room : goal.write_number-requires-clause-room
 write_number-requires-clause-room c = (can c).room
 
+pub write_number-requires-clause-are : goal.write_number-requires-clause-are
+write_number-requires-clause-are c = (can c).are
+
+pub write_number-requires-clause-distinct : goal.write_number-requires-clause-distinct
+write_number-requires-clause-distinct c = (can c).distinct
+
 pub write_number-requires-clause-placed : goal.write_number-requires-clause-placed
 write_number-requires-clause-placed c = (can c).placed
 

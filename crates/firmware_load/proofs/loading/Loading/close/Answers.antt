@@ -30,7 +30,8 @@ loop-self-smaller g c =
     let state = c.loop-self in
     turn_less_inside (MayAnswer g.A.ZoneAlloc.state g.A.ZoneAlloc.gives (g.A.ZoneAlloc.state state.place).begun) state.self c.take_turn.new.self
     (answers_are_lawful g.A.ZoneAlloc.state g.A.ZoneAlloc.gives (g.A.ZoneAlloc.state state.place).begun state.self.guest.memory.memory.top
-    (rw (state.invariant.begun, (state.invariant.asks c.requires.inside.0 c.requires.inside.1).top) c.requires.zones)) state.invariant.inside (sym c.loop-self-test.ensures)
+    (rw (state.invariant.begun, (state.invariant.asks c.requires.inside.0 c.requires.inside.1).top) c.requires.zones)) state.invariant.inside
+    (sym c.loop-self-test.ensures)
     c.take_turn.ensures.turn
 
 pub loop-self-preserved : goal.loop-self-preserved
@@ -46,7 +47,8 @@ loop-self-preserved g c =
       inside = c.take_turn.ensures.inside;
       begun_so = λ items inside. c.take_turn.ensures.begun_so items (state.invariant.begun_so items inside);
       closes = closes_more May (load_of c.args.self.now) (load_of state.self) (load_of c.take_turn.new.self) lawful
-          (λ over. true≢false (sym (ap has_ended ((state.invariant.asks c.requires.inside.0 c.requires.inside.1).ended over).0 ∙ over) ∙ running)) state.invariant.closes running turn;
+          (λ over. true≢false (sym (ap has_ended ((state.invariant.asks c.requires.inside.0 c.requires.inside.1).ended over).0 ∙ over) ∙ running))
+          state.invariant.closes running turn;
       asks = λ items inside.
           asks_through items c.args.self.now state.self c.take_turn.new.self alloc (g.A.ZoneAlloc.state state.place)
           (g.A.ZoneAlloc.state c.take_turn.new.place) running (state.invariant.asks items inside)

@@ -11,7 +11,8 @@ returns-clause-plan c =
     let drawn : drawn_events c.if-seed-eq0.self c.seed_from_u64-self-inside.result ≡ seeded_events c.args.seed =
     elim c.if-seed-eq0.branch [
       | then-seed-eq0 w ↦
-          ap (λ (count : ℕ). drawn_events count c.seed_from_u64-self-inside.result) w.self-is ∙ none_drawn c.args.seed c.seed_from_u64-self-inside.result w.if-seed-eq0.true
+          ap (λ (count : ℕ). drawn_events count c.seed_from_u64-self-inside.result) w.self-is
+          ∙ none_drawn c.args.seed c.seed_from_u64-self-inside.result w.if-seed-eq0.true
       | else-seed-eq0 w ↦
           ap (λ (count : ℕ). drawn_events count c.seed_from_u64-self-inside.result) w.self-is
           ∙ all_drawn c.args.seed c.seed_from_u64-self-inside.result w.if-seed-eq0.false c.seed_from_u64-self-inside.ensures

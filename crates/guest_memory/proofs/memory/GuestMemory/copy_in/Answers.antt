@@ -15,7 +15,8 @@ loop-done-init c = record {
 
 pub put_in_frame-done-requires-clause-ram : goal.put_in_frame-done-requires-clause-ram
 put_in_frame-done-requires-clause-ram c =
-    subst (λ (m : Memory). IsRam m.top (c.args.address + c.loop-done.done)) (sym c.loop-done.invariant.so_far) (c.requires c.loop-done.done c.loop-done-test.true)
+    subst (λ (m : Memory). IsRam m.top (c.args.address + c.loop-done.done)) (sym c.loop-done.invariant.so_far)
+    (c.requires c.loop-done.done c.loop-done-test.true)
 
 pub loop-done-preserved : goal.loop-done-preserved
 loop-done-preserved c =

@@ -15,5 +15,6 @@ returns c =
           (λ place below.
           let at : 4096 * (place / 4096) + place % 4096 ≡ place = omega arith in
           let is = byte_in_frame s.fill s.frames (place / 4096) (place % 4096) c.self.invariant.1 (omega arith) (omega arith) in
-          subst (λ byte. byte < 256) (sym is ∙ ap (slice_index (bytes_of s.fill s.frames)) at) (c.holds_bytes.ensures.each (place / 4096) (place % 4096) (omega arith)));
+          subst (λ byte. byte < 256) (sym is ∙ ap (slice_index (bytes_of s.fill s.frames)) at)
+          (c.holds_bytes.ensures.each (place / 4096) (place % 4096) (omega arith)));
     })

@@ -10,6 +10,5 @@ loop-done-init c = record { within = omega arith; so_far = ap byte_sum (bytes_at
 pub loop-done-preserved : goal.loop-done-preserved
 loop-done-preserved c = record {
   within = omega arith;
-  so_far = one_more_summed c.args.self.now.memory c.args.address _ _ _ c.loop-done.done c.loop-done.invariant.so_far c.part_in_frame-part.ensures.value
-      c.byte_sum-sum.ensures;
+  so_far = one_more_summed c.args.self.now.memory c.args.address _ _ c.loop-done.done _ c.loop-done.invariant.so_far c.sum_in_frame-sum.ensures;
 }

@@ -14,4 +14,5 @@ pub returns-clause-blank : goal.returns-clause-blank
 returns-clause-blank c none =
     let s = c.self.inside.store in
     subst (λ (h : HeldMemory). HoldsFill h.memory c.args.frame) c.self.view_is
-    (holds_fill c.self.inside.top s c.args.frame c.self.invariant.0 c.self.invariant.1 c.requires (empty_at s.frames c.args.frame (sym c.is_touched.ensures ∙ none)))
+    (holds_fill c.self.inside.top s c.args.frame c.self.invariant.0 c.self.invariant.1 c.requires
+    (empty_at s.frames c.args.frame (sym c.is_touched.ensures ∙ none)))

@@ -11,13 +11,15 @@ use Rattle.guest_memory.proofs.memory.GuestMemory.window_mut.Goals as goal
 pub window_mut-requires-clause-some : goal.window_mut-requires-clause-some
 window_mut-requires-clause-some c =
     let ram = subst (λ (h : HeldMemory). IsRam h.memory.top c.args.address) (sym c.self.view_is) c.requires.ram in
-    let is : IsPlaceOf c.self.inside.top c.args.address c.place_of-place.result = record { low = c.place_of-place.ensures.low; high = c.place_of-place.ensures.high } in
+    let is : IsPlaceOf c.self.inside.top c.args.address c.place_of-place.result =
+    record { low = c.place_of-place.ensures.low; high = c.place_of-place.ensures.high } in
     omega (arith, place_within c.self.inside.top c.args.address c.place_of-place.result c.self.invariant.0 ram is)
 
 pub window_mut-requires-clause-within : goal.window_mut-requires-clause-within
 window_mut-requires-clause-within c =
     let ram = subst (λ (h : HeldMemory). IsRam h.memory.top c.args.address) (sym c.self.view_is) c.requires.ram in
-    let is : IsPlaceOf c.self.inside.top c.args.address c.place_of-place.result = record { low = c.place_of-place.ensures.low; high = c.place_of-place.ensures.high } in
+    let is : IsPlaceOf c.self.inside.top c.args.address c.place_of-place.result =
+    record { low = c.place_of-place.ensures.low; high = c.place_of-place.ensures.high } in
     omega (arith, same_room c.self.inside.top c.args.address c.place_of-place.result c.self.invariant.0 ram is, c.requires.frame)
 
 pub returns-then-len-eq0 : goal.returns-then-len-eq0

@@ -23,11 +23,18 @@ invariant_of-self-lent c = λ w.
     let old = frame_at s.frames i in
     let size : length old ≡ 4096 = frame_size s.frames i (in_frame h i) inv.all.each filled in
     let bytes = put_at old c.args.place (refill c.args.len (part old c.args.place c.args.len) w) in
-    record { fills = inv.fills; tells = inv.tells ∙ flags_stay s.frames i (in_frame h i) bytes filled; all = frames-set s.frames i bytes inv.all (length-window old c.args.place c.args.len w (omega (arith, size, c.requires.within)) ∙ size) }
+    record {
+      fills = inv.fills;
+      tells = inv.tells
+          ∙ flags_stay s.frames i (in_frame h i) bytes filled;
+      all =
+          frames-set s.frames i bytes inv.all (length-window old c.args.place c.args.len w (omega (arith, size, c.requires.within)) ∙ size);
+    }
 
 pub returns : goal.returns
 returns c =
-    let s = c.self.inside in let h = c.args.self.now in let i = c.args.frame in let p = c.args.place in let n = c.args.len in let x = Some (in_frame h i) in let inv = c.self.invariant in
+    let s = c.self.inside in let h = c.args.self.now in let i = c.args.frame in let p = c.args.place in let n = c.args.len in
+    let x = Some (in_frame h i) in let inv = c.self.invariant in
     let sets : s.frames ≡ set h.frames i x = ap (λ (k : Stored). k.frames) c.self.view_is ∙ c.touch.ensures.frames in
     let fill : s.fill ≡ h.fill = ap (λ (k : Stored). k.fill) c.self.view_is ∙ c.touch.ensures.fill in
     let inside : i < length h.frames = omega (arith, inv.all.count, ap length sets, length-set h.frames i x, c.requires.some) in

@@ -13,7 +13,8 @@ use mir.Val.{Val, vunit}
 use prog.Wp.{Env}
 use contract.Monad.{fact}
 use contract.Running.{tables}
-use types.Kit.{‵, raw, ◌⊛◌, at_ret, ◌$◌, ◌∵◌, !, qed, move, keep, use1, use2, split, join, group, frame, rewrite, fsplit, fsplit3, fjoin, feq_i, flt_l, flt_i, suffices, done}
+use types.Kit.{‵, raw, ◌⊛◌, at_ret, ◌$◌, ◌∵◌, !, qed, move, keep, use1, use2, split, join, group, frame, rewrite, fsplit, fsplit3, fjoin, feq_i}
+use types.Kit.{flt_l, flt_i, suffices, done}
 use types.Part.{whole, sub}
 use types.Run.{init, stop, fld, bin, unit_lit, of_opd, assigns_last, first, blocks, exec, returns, enter}
 use types.ByLocal.{alloc_all, pass_all, free_all, look_at, get, get_in, through, sets, env, take_at, give_at}
@@ -46,13 +47,24 @@ use Rattle.raw_frames.proofs.places.Places.put.Statement.{statement}
 use Rattle.raw_frames.proofs.places.Places.put.Code as code
 
 abbrev stayed : Stays f.ended.signature.params f.ended.kept
-stayed = (stay_ref (0 ∷ []) tt (plain (λ _. Row)), (stay_dropped (plain (λ _. Start)) yes, (stay_dropped (plain (λ _. usize)) yes, (stay_dropped (ArrayOf (plain (λ _. u8)) (λ _. tt) 4096) yes, tt))))
+stayed = (
+  stay_ref (0 ∷ []) tt (plain (λ _. Row)),
+  (
+    stay_dropped (plain (λ _. Start)) yes,
+    (stay_dropped (plain (λ _. usize)) yes, (stay_dropped (ArrayOf (plain (λ _. u8)) (λ _. tt) 4096) yes, tt)),
+  ),
+)
 
 pub put_spec : {M : Type 1} → statement M
 put_spec 𝓤 𝓛 𝓜 𝓡 wired =
     let c = f.clauses 𝓛 𝓜.mem 𝓡.returns in let W = walk_of 𝓛 f.ended stayed c in let 𝓣 = tables 𝓤 𝓛.H 𝓜 𝓡 𝓡.env in
-    proved 𝓛 f.ended stayed c 𝓜 𝓡
-    (Goes-ref 𝓛 1 0 tt (plain (λ _. Row)), (Goes-dropped 𝓛 1 (plain (λ _. Start)) yes (λ κs x w. refl), (Goes-dropped 𝓛 1 (plain (λ _. usize)) yes (λ κs x w. refl), (Goes-dropped 𝓛 1 (ArrayOf (plain (λ _. u8)) (λ _. tt) 4096) yes (λ κs x w. refl), tt))))
+    proved 𝓛 f.ended stayed c 𝓜 𝓡 (
+      Goes-ref 𝓛 1 0 tt (plain (λ _. Row)),
+      (
+        Goes-dropped 𝓛 1 (plain (λ _. Start)) yes (λ κs x w. refl),
+        (Goes-dropped 𝓛 1 (plain (λ _. usize)) yes (λ κs x w. refl), (Goes-dropped 𝓛 1 (ArrayOf (plain (λ _. u8)) (λ _. tt) 4096) yes (λ κs x w. refl), tt)),
+      ),
+    )
     f.Key.name code.function (code.unfolded 𝓤 𝓛.H 𝓜 𝓡 wired)
     (λ κs. (mut_vals, (start_vals, (uint_vals w64, ((λ bytes. frame_val bytes ∷ []), tt)))))
     (λ κs. (mut_Tells (named 0) κs.0 Row, (start_tells, (uint_Tells w64, (frame_tells, tt)))))
@@ -63,7 +75,8 @@ put_spec 𝓤 𝓛 𝓜 𝓡 wired =
     let new = with_slots d (set d.slots index (Some bytes)) in
     let typed = ((frame_laws.lawful 𝓛).typed bytes (v ∷ []) are.1.1.1.0).0 in
     let fits : index < 2 ^ 64 = are.1.1.0.1 in
-    qed 𝓛 (((‵ (flft κ q) ⊛ ‵ ftrue) ⊛ ‵ (owns (MutRef (named 0) κ Row ∷ Start ∷ usize ∷ Frame ∷ []) a vss)) ∷ raw (fact 𝓤 ((start.first ≡ d.at) × (index < length d.slots) × (get_or d.slots index None ≡ None))) ∷ []) ∵
+    qed 𝓛 (((‵ (flft κ q) ⊛ ‵ ftrue) ⊛ ‵ (owns (MutRef (named 0) κ Row ∷ Start ∷ usize ∷ Frame ∷ []) a vss)) ∷
+    raw (fact 𝓤 ((start.first ≡ d.at) × (index < length d.slots) × (get_or d.slots index None ≡ None))) ∷ []) ∵
     move ! (1 ∷ []) $ heard ! _ (λ asked. split ! $ split ! $ move ! (2 ∷ []) $
     fsplit ! $ fsplit3 ! $ move ! (3 ∷ []) $ fsplit ! $ move ! (1 ∷ []) $ fsplit ! $ move ! (1 ∷ []) $ fsplit ! $
     -- [the bytes; nothing; the index; the pointer; three entries of self; the token; nothing]

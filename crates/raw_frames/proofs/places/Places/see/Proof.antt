@@ -44,13 +44,18 @@ use Rattle.raw_frames.proofs.places.Places.see.Statement.{statement}
 use Rattle.raw_frames.proofs.places.Places.see.Code as code
 
 abbrev stayed : Stays f.ended.signature.params f.ended.kept
-stayed = (stay_dropped (RefOf (0 ∷ []) tt (plain (λ _. Row)) (λ _. tt)) yes, (stay_dropped (plain (λ _. Start)) yes, (stay_dropped (plain (λ _. usize)) yes, tt)))
+stayed = (
+  stay_dropped (RefOf (0 ∷ []) tt (plain (λ _. Row)) (λ _. tt)) yes,
+  (stay_dropped (plain (λ _. Start)) yes, (stay_dropped (plain (λ _. usize)) yes, tt)),
+)
 
 pub see_spec : {M : Type 1} → statement M
 see_spec 𝓤 𝓛 𝓜 𝓡 wired =
     let c = f.clauses 𝓛 𝓜.mem 𝓡.returns in let W = walk_of 𝓛 f.ended stayed c in let 𝓣 = tables 𝓤 𝓛.H 𝓜 𝓡 𝓡.env in
-    proved 𝓛 f.ended stayed c 𝓜 𝓡
-    (Goes-dropped 𝓛 1 (RefOf (0 ∷ []) tt (plain (λ _. Row)) (λ _. tt)) yes (λ κs x w. refl), (Goes-dropped 𝓛 1 (plain (λ _. Start)) yes (λ κs x w. refl), (Goes-dropped 𝓛 1 (plain (λ _. usize)) yes (λ κs x w. refl), tt)))
+    proved 𝓛 f.ended stayed c 𝓜 𝓡 (
+      Goes-dropped 𝓛 1 (RefOf (0 ∷ []) tt (plain (λ _. Row)) (λ _. tt)) yes (λ κs x w. refl),
+      (Goes-dropped 𝓛 1 (plain (λ _. Start)) yes (λ κs x w. refl), (Goes-dropped 𝓛 1 (plain (λ _. usize)) yes (λ κs x w. refl), tt)),
+    )
     f.Key.name code.function (code.unfolded 𝓤 𝓛.H 𝓜 𝓡 wired)
     (λ κs. (shr_vals, (start_vals, (uint_vals w64, tt))))
     (λ κs. (shr_Tells (named 0) κs.0 Row, (start_tells, (uint_Tells w64, tt))))
@@ -59,7 +64,8 @@ see_spec 𝓤 𝓛 𝓜 𝓡 wired =
     let start = a.1.0 in let index = a.1.1.0 in
     let y : W.Ghost = ((κs, qs, bounds, a, (shr_vals a.0, (start_vals start, (uint_vals w64 index, tt)))), none) in let vss = y.0.4 in
     let fits : index < 2 ^ 64 = are.1.1.0.1 in
-    qed 𝓛 (((‵ (flft κ q) ⊛ ‵ ftrue) ⊛ ‵ (owns (ShrRef (named 0) κ Row ∷ Start ∷ usize ∷ []) a vss)) ∷ raw (fact 𝓤 ((start.first ≡ d.at) × IsFilled d.slots index)) ∷ []) ∵
+    qed 𝓛 (((‵ (flft κ q) ⊛ ‵ ftrue) ⊛ ‵ (owns (ShrRef (named 0) κ Row ∷ Start ∷ usize ∷ []) a vss)) ∷
+    raw (fact 𝓤 ((start.first ≡ d.at) × IsFilled d.slots index)) ∷ []) ∵
     move ! (1 ∷ []) $ heard ! _ (λ asked. split ! $ split ! $ move ! (2 ∷ []) $ fsplit ! $ fsplit ! $
     -- [an equation; what the `&` reaches; the other parameters; the token; nothing]
     keep ! (1 ∷ 3 ∷ []) $
@@ -78,5 +84,6 @@ see_spec 𝓤 𝓛 𝓜 𝓡 wired =
     exec ! 𝓣.C 𝓣.Λ En (after 1 (code.function).body) (at_ret En (W.post y)) $ sets ! (of_opd ! (get ! refl)) refl (tt, tt) $
     feq_i ! (List Val) (vptr b at ∷ []) (vptr b at ∷ []) refl $ fjoin ! $ returns ! (look_at ! 0 refl) $ free_all ! refl $
     -- [the result; the token]
-    suffices ! _ (ends_at 𝓛 f.ended stayed c y (vptr b at) (record { ref_ptr = (b, at); now = bytes }) (tt, (tt, (tt, tt))) (tt, (tt, (tt, tt)))) $ says ! filled $
+    suffices ! _ (ends_at 𝓛 f.ended stayed c y (vptr b at) (record { ref_ptr = (b, at); now = bytes }) (tt, (tt, (tt, tt))) (tt, (tt, (tt, tt)))) $
+    says ! filled $
     nothing ! $ move ! (2 ∷ 0 ∷ []) $ join ! $ frame ! $ nothing ! $ nothing ! $ fjoin ! $ nothing ! $ fjoin ! $ nothing ! $ fjoin ! $ join ! $ done !)))))
