@@ -356,12 +356,20 @@ placed_index p name found are there is index some =
     (same, omega (arith, same, there_index p name are there))
 
 -- and the place there
-pub place_at_index : (p : Placements) (name : List ℕ) (index : ℕ) (place : Option ℕ) → ArePlacements p → IsSome (info_of p.infos.items name)
+place_at_index : (p : Placements) (name : List ℕ) (index : ℕ) (place : Option ℕ) → ArePlacements p → IsSome (info_of p.infos.items name)
     → index ≡ index_of p.infos.items name → place ≡ get_or p.places.items index place → place ≡ place_named p.placed.items name
 place_at_index p name index place are there is at =
     let within : index < length p.places.items = omega (arith, is, there_index p name are there) in
     get_or_read p.places.items index place within at None ∙ ap (λ i. get_or p.places.items i None) is
     ∙ ap (λ places. get_or places (index_of p.infos.items name) None) are.places ∙ place_there p.placed.items p.infos.items name there
+
+-- so what stands at the index of a placed file is its place
+pub place_at_found : (p : Placements) (name : List ℕ) (found : Option ℕ) → ArePlacements p → IsSome (placed_named p.placed.items name)
+    → found ≡ position (λ (info : FileInfo). bytes_eq info.name name) p.infos.items → (index : ℕ) → found ≡ Some index
+    → (place : Option ℕ) → place ≡ get_or p.places.items index place → place ≡ place_named p.placed.items name
+place_at_found p name found are placed is index some place at =
+    let there = placed_there p name are placed in
+    place_at_index p name index place are there (placed_index p name found are there is index some).0 at
 
 some_place : (found : Option PlacedFile) → IsSome found → IsSome (option_map (λ (p : PlacedFile). p.place) found)
 some_place None some = absurd (true≢false (sym some))

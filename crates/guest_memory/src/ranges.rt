@@ -114,6 +114,7 @@ impl GuestMemory {
         ensures value { result.now ≡ bytes_at self.now.memory address (length result.now) }
         ensures some { 0 < length result.now }
         ensures within { length result.now ≤ len }
+        ensures all { length result.now < len → address % 4096 + length result.now ≡ 4096 }
     {
         self.window(address, len_in_frame(address, len) as u32)
     }
@@ -132,6 +133,7 @@ fn len_in_frame(address: u64, len: usize) -> usize
     ensures some { 0 < result }
     ensures within { result ≤ len }
     ensures frame { address % 4096 + result ≤ 4096 }
+    ensures all { result < len → address % 4096 + result ≡ 4096 }
 {
     let room = (FRAME_BYTES - address % FRAME_BYTES) as usize;
     if len < room { len } else { room }

@@ -2,8 +2,9 @@
 //! (hw/acpi/bios-linker-loader.c) gives them.
 //!
 //! The contract is exact: which 128 bytes are which entry, which bytes an entry is written as, and for each command
-//! the first cause that refuses it. The run of a script is defined here, as a function of the files, the commands and the
-//! places that the files are given, with its laws and what it leaves in memory.
+//! the first cause that refuses it. [`NameOrder`] finds a command's files among those of a device by a search in the order of their
+//! names. The run of a script is defined here, as a function of the files, the commands and the places that the files are given, with
+//! its laws and what it leaves in memory.
 #![tactic(auto)]
 
 mod entry;

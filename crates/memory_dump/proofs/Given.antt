@@ -1,5 +1,5 @@
 -- What the call that reads answers.
-use Rattle.std.proofs.Common.{◌≡◌, ℕ, List, take, drop, Some, Result, Ok, Err, ap, sym, ◌∙◌}
+use Rattle.std.proofs.Common.{◌≡◌, ◌≢◌, ℕ, List, take, drop, Some, Result, Ok, Err, ap, sym, ◌∙◌}
 use Rattle.std.specs.Prelude.{IsErrAnd}
 use Rattle.vt_bytes.specs.Memory.{Memory, IsMemory, IsRam, at}
 use Rattle.memory_dump.specs.Dump.{dump}
@@ -9,6 +9,7 @@ use Rattle.memory_dump.specs.Reading.{Gives, behind_so, header_of, read_so}
 use Rattle.memory_dump.specs.declared.header.Header.{Header}
 use Rattle.memory_dump.specs.declared.fault.DumpFault.{DumpFault}
 use Rattle.memory_dump.specs.declared.fault.DumpFault.TheVariants.{BadHeader, BadLine, OutOfOrder, AllFill, NotRam, Truncated, OutOfMemory}
+use Rattle.memory_dump.proofs.Faults.{never_want}
 use Rattle.memory_dump.proofs.PutRows.{is_blank}
 use Rattle.memory_dump.proofs.ReadAgain.{text_read}
 use Rattle.memory_dump.proofs.Said.{read-header}
@@ -27,6 +28,12 @@ pub handed : (result : Result HeldMemory DumpFault) (read : Result Memory DumpFa
     → read ≡ Err fault → Gives (λ held. held.memory) result read
 handed (Ok m) read fault is same = absurd is
 handed (Err e) read fault is same = gives_fault e read (same ∙ ap (λ (f : DumpFault). Err f) (sym is))
+
+-- nor is it want of memory
+pub not_want : (result : Result HeldMemory DumpFault) (bytes : List ℕ) (fault : DumpFault) → IsErrAnd result (λ e. e ≡ fault)
+    → read_so bytes ≡ Err fault → result ≢ Err OutOfMemory
+not_want (Ok m) bytes fault is same = absurd is
+not_want (Err e) bytes fault is same = λ want. let read : read_so bytes ≡ Err OutOfMemory = cc in never_want bytes read
 
 -- and comes of no text
 pub no_text : (result : Result HeldMemory DumpFault) (bytes : List ℕ) (fault : DumpFault) (m : Memory) → IsMemory m → HoldsBytes m → dump m ≡ bytes

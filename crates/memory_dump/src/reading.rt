@@ -1,5 +1,6 @@
-ghost use Rattle.std.specs.Prelude.{◌≡◌, ◌+◌, ◌%◌, ◌<◌, ◌^◌, ◌++◌, ℕ, Ok, Err, None, Some, OnOk, IfOk, IfErr, length, take, drop};
+ghost use Rattle.std.specs.Prelude.{◌≡◌, ◌≢◌, ◌+◌, ◌%◌, ◌<◌, ◌^◌, ◌++◌, ℕ, Ok, Err, None, Some, OnOk, IfOk, IfErr, length, take, drop};
 ghost use Rattle.vt_bytes.specs.Memory.{Memory, IsMemory, IsTop, with_bytes};
+ghost use Rattle.memory_dump.specs.declared.fault.DumpFault.TheVariants.{OutOfMemory as NoMemory};
 ghost use Rattle.memory_dump.specs.Dump.{dump, header_line, last_line};
 ghost use Rattle.guest_memory.specs.Bytes.{HoldsBytes};
 ghost use Rattle.memory_dump.specs.Reading.{Gives, behind_so, fault_of_row, header_of, read_so, row_of};
@@ -26,6 +27,8 @@ pub fn read_dump(alloc: Global, bytes: &[u8]) -> Result<GuestMemory, DumpFault>
     ensures only { (m : Memory) → IsMemory m → HoldsBytes m → dump m ≡ bytes.now → Gives (λ held. held.memory) result (Ok m) }
     // Which fault it is.
     ensures exact { Gives (λ held. held.memory) result (read_so bytes.now) }
+    // Memory is needed only once the first line is a dump's.
+    ensures no_memory { result ≡ Err NoMemory → header_of (take 21 bytes.now) ≢ None }
 {
     let header = read_header(bytes)?;
     let mut memory = GuestMemory::begin(alloc, header.top, header.fill)?;

@@ -22,6 +22,8 @@ mod interrupt_words;
 #[cfg(test)]
 mod keys;
 #[cfg(test)]
+mod list_lengths;
+#[cfg(test)]
 mod machines;
 #[cfg(test)]
 mod nesting;

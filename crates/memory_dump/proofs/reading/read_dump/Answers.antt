@@ -2,11 +2,15 @@ use Rattle.std.proofs.Common.{◌∙◌}
 use Rattle.memory_dump.proofs.Spelled.{header_of-only}
 use Rattle.memory_dump.proofs.Said.{header_fits}
 use Rattle.memory_dump.proofs.ReadAgain.{read_only}
-use Rattle.memory_dump.proofs.Given.{begun, handed, no_text, read_so_only}
+use Rattle.memory_dump.proofs.Given.{begun, handed, no_text, not_want, read_so_only}
 use Rattle.memory_dump.proofs.reading.read_dump.Goals as goal
 
 pub returns-in_err-header-clause-only : goal.returns-in_err-header-clause-only
 returns-in_err-header-clause-only c = λ m lawful holds is. no_text _ _ _ m lawful holds is c.in_err-header.ensures.err
+
+pub returns-in_err-header-clause-no_memory : goal.returns-in_err-header-clause-no_memory
+returns-in_err-header-clause-no_memory c =
+    λ want. absurd (not_want _ _ _ c.from_residual.ensures.1 c.in_err-header.ensures.err want)
 
 pub begin-requires : goal.begin-requires
 begin-requires c = (header_of-only _ _ c.in_ok-header.ensures.header).top
