@@ -30,6 +30,8 @@ import sys
 import tempfile
 import tomllib
 
+from calls import Refused, built_program
+
 KINDS = {"allocation": (9, b"out of memory\n"), "read": (1, b"read fault\n"), "write": (8, b"write fault\n")}  # of calls; the status and the line
 PROCESSORS = "8"  # of the machine that `gen` generates
 OPTIONS = ["--policy", "scatter", "--fill", "a5", "--seed", "7"]  # of a boot with each of them
@@ -111,17 +113,6 @@ class Unmade(Exception):
 
 class Failed(Exception):
     """A command fails undisturbed."""
-
-
-def built_program(program):
-    """The program itself, where it is one, or else the one that the script ./vmtables runs, so that only its own allocations are counted."""
-    if pathlib.Path(program).read_bytes()[:4] == b"\x7fELF":
-        return program
-    subprocess.run([program, "--version"], check=True, stdout=subprocess.DEVNULL, stdin=subprocess.DEVNULL)  # builds it where it isn't built
-    built = pathlib.Path(program).resolve().parent / "crates" / "vmtables_cli" / "out" / "vmtables_cli"
-    if not built.exists():
-        raise Unmade(f"{program} is no program, and the one that it runs isn't found")
-    return str(built)
 
 
 def make_library(folder):
@@ -249,7 +240,7 @@ def main(words):
     with tempfile.TemporaryDirectory() as folder:
         try:
             faults, told = judge(words[0], words[1:], pathlib.Path(folder))
-        except Unmade as why:
+        except (Unmade, Refused) as why:
             print(f"{why}: refused memory and failing streams weren't tried")
             return 3
         except Failed as why:

@@ -13,10 +13,12 @@
 # machine has that it generates (judge_round_trips.py); and of memories that are no machine's `decode` must tell the first item that fails
 # (judge_items.py). AML terms that iasl compiles must come back as they are from `aml_again`, which reads terms and writes them again. Debian's
 # kernel of Linux boots on the memory of two descriptions, and what it finds there must be what is described (linux_guest.py). Containers must
-# come back as they are from the folders that tools/container.py makes of them (judge_container.py). Last, the commands that README.md and
-# docs/USES.md show must print what these say. Beside these stand two judges of what the program says of itself: tools/explain.py has to say
-# each line that docs/FORMATS.md lists (judge_explain.py), and docs/vmtables.1, which mandoc reads, what `--help` says (judge_help.py). Nothing
-# is proved here.
+# come back as they are from the folders that tools/container.py makes of them (judge_container.py). Second readers and writers, which are made of
+# docs/FORMATS.md alone (judges/plain), work out what `decode --list`, `build`, `load` and `aml_again` have to say of a great many inputs, hostile
+# ones among them (judge_read_dumps.py, judge_read_tables.py, judge_read_structures.py, judge_builds.py, judge_loads.py, judge_terms.py). Last,
+# the commands that README.md and docs/USES.md show must print what these say. Beside these stand two judges of what the program says of itself:
+# tools/explain.py has to say each line that docs/FORMATS.md lists (judge_explain.py), and docs/vmtables.1, which mandoc reads, what `--help` says
+# (judge_help.py). Nothing is proved here.
 #
 # And each allocation of some commands is refused, and each of their reads and writes fails, one at a time, which they must say (judge_memory.py).
 #
@@ -347,13 +349,32 @@ judge_machine() {
     judge_list files "$folder/container"
 }
 
-# Has AML terms that iasl compiles read, and written again as they are.
-judge_terms() {
+# judge_plainly JUDGE WORD..: has a second reader judge what a program makes of a great many inputs.
+judge_plainly() {
     local said
+    said=$(python3 "$here/$1" "${@:2}" 2>&1) || { fault "$1" "the inputs" "$said"; return; }
+    echo "  $1: $said"
+}
+
+# Has second readers and writers judge lists, containers and loads.
+judge_all_plainly() {
+    description="second readers"
+    echo "$description"
+    judge_plainly judge_read_dumps.py "$program" examples/*.toml
+    judge_plainly judge_read_tables.py "$program"
+    judge_plainly judge_read_structures.py "$program"
+    judge_plainly judge_builds.py "$program" examples/*.toml "$work"/{greatest,bridge,processors}.toml
+    judge_plainly judge_loads.py "$program" examples/*.toml
+}
+
+# Has a second reader and what iasl compiles judge AML terms that are read, and written again.
+judge_terms() {
+    local said again=$root/crates/aml_again/out/aml_again
     description="AML terms"
     echo "$description"
     said=$(cd crates/aml_again && rt run </dev/null 2>&1) || { fault aml_again "the program" "$said"; return; }
-    said=$(python3 "$here/judge_aml.py" "$root/crates/aml_again/out/aml_again" 2>&1)
+    judge_plainly judge_terms.py "$again"
+    said=$(python3 "$here/judge_aml.py" "$again" 2>&1)
     case $? in
     0) note_asked iasl && echo "  aml_again: $said" ;;
     3) echo "  skipped: $said" ;;
@@ -618,6 +639,7 @@ judge_all() {
     judge_items
     judge_templates
     judge_bad_dumps
+    judge_all_plainly
     judge_memory
     judge_terms
     if has qemu-system-x86_64; then

@@ -2,13 +2,14 @@
 use Rattle.std.proofs.Common.{◌≡◌, ℕ, ◌+◌, ◌-◌, ◌≤◌, nat_le, List, [], codes, Some, Result, Ok, Err, arith, refl, ap, sym, subst, ◌∙◌}
 use Rattle.std.proofs.lemmas.Bool.{le-leb, leb-true}
 use Rattle.std.proofs.lemmas.Slice.Eq.{bytes_eq-Decides}
+use Rattle.vt_outside.specs.Readings.{Agrees}
 use Rattle.vt_bytes.specs.View.{View, bytes_in}
 use Rattle.aml_terms.specs.declared.fault.AmlFault.{AmlFault}
 use Rattle.aml_terms.specs.declared.fault.AmlFault.TheVariants.{Truncated, BadLength, BadName, OutsideGrammar, OutOfMemory}
 use Rattle.aml_terms.specs.declared.term.Term.{Term}
 use Rattle.aml_terms.specs.Trees.{Trees, views}
 use Rattle.aml_terms.specs.Grammar.{Aml}
-use Rattle.aml_terms.specs.Reading.{Gives, read_terms}
+use Rattle.aml_terms.specs.Reading.{read_terms, reported}
 use Rattle.aml_terms.proofs.ReadTerms.{read_is, read_again}
 use Rattle.acpi_records.specs.declared.header.Head.{Head}
 use Rattle.acpi_records.specs.Header.{IsTable}
@@ -28,7 +29,7 @@ spell_none : (bytes : List ℕ) (fault : AmlFault) → read_terms bytes ≡ Err 
 spell_none bytes fault fails terms is = absurd (cc (read_again bytes terms is, fails))
 
 -- nor do those whose terms a reader refused, where memory didn't run out
-refused : (bytes : List ℕ) (fault : AmlFault) → (fault ≡ OutOfMemory → ⊥) → Gives {X = List Term} views (Err fault) (read_terms bytes)
+refused : (bytes : List ℕ) (fault : AmlFault) → (fault ≡ OutOfMemory → ⊥) → Agrees {Value = List Term} reported views (Err fault) (read_terms bytes)
     → read_terms bytes ≡ Err fault
 refused bytes (Truncated place) is gives = gives
 refused bytes (BadLength place) is gives = gives
@@ -36,8 +37,8 @@ refused bytes (BadName place) is gives = gives
 refused bytes (OutsideGrammar place) is gives = gives
 refused bytes OutOfMemory is gives = absurd (is refl)
 
-pub refused_spell_none : (bytes : List ℕ) (fault : AmlFault) → (fault ≡ OutOfMemory → ⊥) → Gives {X = List Term} views (Err fault) (read_terms bytes)
-    → (terms : Trees) → Aml terms bytes → ⊥
+pub refused_spell_none : (bytes : List ℕ) (fault : AmlFault) → (fault ≡ OutOfMemory → ⊥)
+    → Agrees {Value = List Term} reported views (Err fault) (read_terms bytes) → (terms : Trees) → Aml terms bytes → ⊥
 refused_spell_none bytes fault is gives = spell_none bytes fault (refused bytes fault is gives)
 
 -- the definition block of a DSDT that passes its tests, behind its header

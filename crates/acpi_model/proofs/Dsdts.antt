@@ -1,7 +1,8 @@
 -- At most one DSDT stands at an address, and one that a view holds as it was written stands there.
-use Rattle.std.proofs.Common.{◌≡◌, ℕ, zero, suc, ◌+◌, ◌-◌, ◌*◌, ◌/◌, ◌%◌, ◌<◌, ◌⊎◌, inl, inr, List, [], ◌∷◌, ◌++◌, codes, Option, Some, None}
+use Rattle.std.proofs.Common.{◌≡◌, ℕ, zero, suc, ◌+◌, ◌-◌, ◌*◌, ◌/◌, ◌%◌, ◌<◌, inl, inr, List, [], ◌∷◌, ◌++◌, codes, Option, Some, None}
 use Rattle.std.proofs.Common.{option_map, option_and_then, arith, refl, ap, sym, subst, ◌∙◌}
 use Rattle.std.specs.List.{AllByRecursion}
+use Rattle.std.proofs.lemmas.Option.{same_Some}
 use Rattle.vt_bytes.specs.Numbers.{le, le_bytes}
 use Rattle.vt_bytes.specs.View.{View, bytes_in, number_in}
 use Rattle.vt_bytes.proofs.AtMostOne.{IsOne}
@@ -21,9 +22,6 @@ use Rattle.acpi_records.specs.Header.{header_rows}
 use Rattle.acpi_model.specs.declared.dsdt.Dsdt.TheVariants.{Terms, Foreign}
 use Rattle.acpi_model.specs.Found.{IsBlock, IsBlockRow, ShowsBytes, IsSpelledIn, IsDsdt, dsdt_rows}
 use Rattle.acpi_model.proofs.OneTable.{one_table}
-
-same_some : {A : Type 0} (a b : A) → Some a ≡ Some b → a ≡ b
-same_some a b same = cc
 
 -- terms with the same trees are the same
 pub same_terms : (terms others : List Term) → views terms ≡ views others → terms ≡ others
@@ -47,7 +45,7 @@ one_block : (seen : View) (address : ℕ) (h g : Head) (n k : ℕ) (block other 
 one_block seen address h g n k block other is also =
     let same = one_table seen address (codes "DSDT") (codes "DSDT") n k h g [] [] is.stands also.stands (λ totals. refl) in
     let there = subst (λ total. bytes_in seen (address + 36) (total - 36) ≡ Some block) same.totals is.there in
-    record { headers = same.headers; totals = same.totals; blocks = same_some block other (sym there ∙ also.there) }
+    record { headers = same.headers; totals = same.totals; blocks = same_Some block other (sym there ∙ also.there) }
 
 pub one_dsdt : (seen : View) (address : ℕ) → IsOne (IsDsdt seen address)
 one_dsdt seen address (Terms h terms) (Terms g others) is also =
@@ -75,12 +73,12 @@ first_digit : (byte : Option ℕ) (rest : Option (List ℕ)) (width n : ℕ) →
 first_digit None rest width n small others is = absurd (cc)
 first_digit (Some first) None width n small others is = absurd (cc)
 first_digit (Some first) (Some more) width n small others is =
-    let number : first + 256 * le more ≡ n = same_some (first + 256 * le more) n is in
+    let number : first + 256 * le more ≡ n = same_Some (first + 256 * le more) n is in
     let below = small first refl in
     let low : first ≡ n % 256 = omega (arith, number, below) in
     let high : le more ≡ n / 256 = omega (arith, number, below) in
     let behind : more ≡ le_bytes width (n / 256) =
-    same_some more (le_bytes width (n / 256)) (others (le more) refl ∙ ap (λ m. Some (le_bytes width m)) high) in
+    same_Some more (le_bytes width (n / 256)) (others (le more) refl ∙ ap (λ m. Some (le_bytes width m)) high) in
     ap (λ digit. Some (digit ∷ more)) low ∙ ap (λ digits. Some (n % 256 ∷ digits)) behind
 
 -- bytes that spell a number are those that it is written as
@@ -121,7 +119,7 @@ more_bytes : (byte : Option ℕ) (rest whole : Option (List ℕ)) (bytes others 
 more_bytes None rest whole bytes others joined is = absurd (cc)
 more_bytes (Some first) None whole bytes others joined is = absurd (cc)
 more_bytes (Some first) (Some more) whole bytes others joined is =
-    ap (option_map (λ those. first ∷ those)) (joined more refl) ∙ ap (λ those. Some (those ++ others)) (same_some (first ∷ more) bytes is)
+    ap (option_map (λ those. first ∷ those)) (joined more refl) ∙ ap (λ those. Some (those ++ others)) (same_Some (first ∷ more) bytes is)
 
 bytes_joined : (seen : View) (address front back : ℕ) (bytes others : List ℕ) → bytes_in seen address front ≡ Some bytes
     → bytes_in seen (address + front) back ≡ Some others → bytes_in seen address (front + back) ≡ Some (bytes ++ others)
@@ -130,7 +128,7 @@ bytes_joined seen address zero back bytes others first second =
     let place : address ≡ address + 0 = omega arith in
     let count : zero + back ≡ back = omega arith in
     ap (bytes_in seen address) count ∙ ap (λ a. bytes_in seen a back) place ∙ second
-    ∙ ap (λ those. Some (those ++ others)) (same_some [] bytes first)
+    ∙ ap (λ those. Some (those ++ others)) (same_Some [] bytes first)
 bytes_joined seen address (suc front) back bytes others first second =
     let place : address + suc front ≡ address + 1 + front = omega arith in
     let count : suc front + back ≡ suc (front + back) = omega arith in

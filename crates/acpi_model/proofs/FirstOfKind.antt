@@ -7,6 +7,7 @@ use Rattle.std.specs.Str.{bytes_eq}
 use Rattle.std.proofs.lemmas.Bool.{not-true}
 use Rattle.std.proofs.lemmas.List.Folds.{find-append}
 use Rattle.std.proofs.lemmas.Slice.Eq.{bytes_eq-Decides}
+use Rattle.vt_outside.proofs.Results.{none_from}
 use Rattle.acpi_model.specs.declared.acpi.Table.{Table}
 use Rattle.acpi_model.specs.declared.acpi.Table.TheVariants.{Fadt, Madt, Srat, Slit, Mcfg, Hpet}
 use Rattle.acpi_model.specs.Kinds.{Kind}
@@ -78,11 +79,6 @@ hpet_tells (Slit t) = refl
 hpet_tells (Mcfg t) = refl
 hpet_tells (Hpet t) = refl
 
--- of two values that may be there
-not_there : {T : Type 0} (o : Option T) → is_some o ≡ false → o ≡ None
-not_there None is = refl
-not_there (Some x) is = absurd (true≢false is)
-
 some_stays : {T : Type 0} (o later : Option T) → is_some o ≡ true → o ≡ option_or o later
 some_stays None later is = absurd (true≢false (sym is))
 some_stays (Some x) later is = refl
@@ -134,7 +130,7 @@ module _ {T : Type 0} (kind : Kind) (as_kind : Table → Option T) (tells : Tell
 
   alone : (t : Table) (is : Bool) → is_some (as_kind t) ≡ is → option_and_then as_kind (cond is (Some t) None) ≡ as_kind t
   alone t true told = refl
-  alone t false told = sym (not_there (as_kind t) told)
+  alone t false told = sym (none_from (as_kind t) told)
 
   -- and of a list with one more table, which is the first of its kind
   pub first_of-more : (tables : List Table) (t : Table) → is_first (signature_of t) tables ≡ true
@@ -146,4 +142,4 @@ module _ {T : Type 0} (kind : Kind) (as_kind : Table → Option T) (tells : Tell
       let same : signature_of t ≡ kind.signature = (bytes_eq-Decides (signature_of t) kind.signature).0 (sym (tells t) ∙ told) in
       let none : not (is_some (first_of kind as_kind tables)) ≡ true =
       sym (told_apart tables) ∙ subst (λ signature. is_first signature tables ≡ true) same first in
-      not_there (first_of kind as_kind tables) (not-true (is_some (first_of kind as_kind tables)) none))
+      none_from (first_of kind as_kind tables) (not-true (is_some (first_of kind as_kind tables)) none))

@@ -24,16 +24,13 @@ pub mod MachineSrats
 pub mod MachineSlits
 pub mod AcceptedNodes
 pub mod NodesBack
-pub mod SameNodes
-pub mod SameCpus
 pub mod Dsdts
 pub mod Mcfgs
-pub mod SameDevices
+pub mod EcamBack
 pub mod MachineTables
 pub mod MachineTargets
 pub mod OneTarget
 pub mod Maker
-pub mod SameAcpi
 pub mod FirstOfKind
 pub mod DistinctInTurn
 pub mod FoundInTurn

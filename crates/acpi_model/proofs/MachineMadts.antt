@@ -6,6 +6,7 @@ use Rattle.std.proofs.lemmas.List.{length-map}
 use Rattle.std.proofs.lemmas.List.FromFn.{length-enumerate_from}
 use Rattle.std.specs.List.{list_all, enumerate_from, AllByRecursion}
 use Rattle.std.specs.Option.{option_map_or}
+use Rattle.vt_outside.proofs.Each.{each_true}
 use Rattle.vt_bytes.proofs.Each.{each_append, each_from, each_map, each_weaker}
 use Rattle.vt_layout.specs.Rows.{IsRow, size}
 use Rattle.vt_layout.specs.Entries.{entry_rows, entries_rows}
@@ -174,12 +175,6 @@ each_into : {X Y : Type 0} (P : X → Type 0) (Q : Y → Type 0) (f : X → Y) �
     → AllByRecursion Q (map f xs)
 each_into P Q f into [] p = tt
 each_into P Q f into (x ∷ xs) p = (into x p.0, each_into P Q f into xs p.1)
-
-each_true : {X : Type 0} (test : X → Bool) (xs : List X) → list_all test xs ≡ true → AllByRecursion (λ x. test x ≡ true) xs
-each_true test [] all = tt
-each_true test (x ∷ xs) all =
-    let both = and_parts (test x) (list_all test xs) all in
-    (both.0, each_true test xs both.1)
 
 -- each element of a list that no rule on own numbers refuses passes its test
 each_lawful : {X : Type 0} (test : X → Bool) (number : X → ℕ) (whole : List X) (place : ℕ) (xs : List X)

@@ -1,8 +1,8 @@
 -- The SRAT of a machine: its entries can stand in a table, are few and fit their rows, and the nodes are got back from them.
-use Rattle.std.proofs.Common.{◌≡◌, ℕ, ◌+◌, ◌*◌, ◌<◌, ◌≤◌, ◌^◌, Bool, true, false, List, [], ◌∷◌, ◌++◌, length, map, nat_le, nat_lt, cond}
-use Rattle.std.proofs.Common.{if◌then◌else◌, arith, refl, ap, sym, ◌∙◌}
+use Rattle.std.proofs.Common.{◌≡◌, ℕ, ◌+◌, ◌*◌, ◌<◌, ◌≤◌, ◌^◌, Bool, true, false, List, [], ◌∷◌, length, map, nat_le, nat_lt, cond}
+use Rattle.std.proofs.Common.{if◌then◌else◌, arith, refl, ap, ◌∙◌}
 use Rattle.std.proofs.lemmas.Bool.{leb-true, lt-ltb}
-use Rattle.std.specs.List.{flat_map, AllByRecursion}
+use Rattle.std.specs.List.{AllByRecursion}
 use Rattle.vt_layout.specs.declared.row.Row.{Row}
 use Rattle.vt_layout.specs.Rows.{size, IsRow}
 use Rattle.vt_layout.specs.Entries.{entry_rows, entries_rows}
@@ -14,7 +14,7 @@ use Rattle.machine_desc.specs.declared.smbios_parts.MemRange.{MemRange}
 use Rattle.machine_desc.specs.Fields.{IsFittingCpu}
 use Rattle.machine_desc.specs.Rules.{apic_id}
 use Rattle.acpi_records.specs.declared.srat_entry.SratEntry.{SratEntry}
-use Rattle.acpi_records.specs.declared.srat_entry.SratEntry.TheVariants.{Apic, Memory, X2Apic}
+use Rattle.acpi_records.specs.declared.srat_entry.SratEntry.TheVariants.{Apic, X2Apic}
 use Rattle.acpi_records.specs.SratEntries.{srat_entry_of, IsSratEntry, IsFittingSratEntry}
 use Rattle.acpi_records.proofs.EntryLists.{list_rows}
 use Rattle.acpi_records.proofs.EachSratEntry.{srat_entry_fits}
@@ -84,47 +84,14 @@ srat_rows_fit m acpi fit fits = (
   ),
 )
 
--- the nodes that entries of processors tell, and those of ranges, whatever their bits
-abbrev cpu_told : SratEntry → List ℕ
-cpu_told (Apic e) = e.node ∷ []
-cpu_told (X2Apic e) = e.node ∷ []
-cpu_told entry = []
-
-abbrev range_told : SratEntry → List ℕ
-range_told (Memory e) = e.node ∷ []
-range_told entry = []
-
+-- the node of a processor, and of a range
 abbrev pub node_of_cpu : Cpu → ℕ
 node_of_cpu cpu = cpu.node
 
 abbrev pub node_of_range : MemRange → ℕ
 node_of_range range = range.node
 
-cpus_told : (cpus : List Cpu) (ranges : List MemRange) → flat_map cpu_told (affinities cpus ranges) ≡ map node_of_cpu cpus
-cpus_told (cpu ∷ cpus) ranges =
-    ap (λ nodes. nodes ++ flat_map cpu_told (affinities cpus ranges))
-    (either_kind (λ entry. cpu_told entry ≡ cpu.node ∷ []) cpu (λ short. refl) refl)
-    ∙ ap (λ nodes. cpu.node ∷ nodes) (cpus_told cpus ranges)
-cpus_told [] (range ∷ ranges) = cpus_told [] ranges
-cpus_told [] [] = refl
-
-ranges_told : (cpus : List Cpu) (ranges : List MemRange) → flat_map range_told (affinities cpus ranges) ≡ map node_of_range ranges
-ranges_told (cpu ∷ cpus) ranges =
-    ap (λ nodes. nodes ++ flat_map range_told (affinities cpus ranges)) (either_kind (λ entry. range_told entry ≡ []) cpu (λ short. refl) refl)
-    ∙ ranges_told cpus ranges
-ranges_told [] (range ∷ ranges) = ap (λ nodes. range.node ∷ nodes) (ranges_told [] ranges)
-ranges_told [] [] = refl
-
--- so the same entries are of the same nodes
-pub same_cpu_nodes : (cpus more : List Cpu) (ranges others : List MemRange) → affinities cpus ranges ≡ affinities more others
-    → map node_of_cpu cpus ≡ map node_of_cpu more
-same_cpu_nodes cpus more ranges others same = sym (cpus_told cpus ranges) ∙ ap (flat_map cpu_told) same ∙ cpus_told more others
-
-pub same_range_nodes : (cpus more : List Cpu) (ranges others : List MemRange) → affinities cpus ranges ≡ affinities more others
-    → map node_of_range ranges ≡ map node_of_range others
-same_range_nodes cpus more ranges others same = sym (ranges_told cpus ranges) ∙ ap (flat_map range_told) same ∙ ranges_told more others
-
--- and each is read from the entry at its place
+-- each is read from the entry at its place
 fitted-node : (n : ℕ) → n < 2 ^ 8 → (if nat_lt n (2 ^ 8) then n else 0) ≡ n
 fitted-node n small = ap (λ is. cond is n 0) (lt-ltb n (2 ^ 8) small)
 

@@ -1,5 +1,6 @@
 -- One table of a known kind stands at an address.
 use Rattle.std.proofs.Common.{◌≡◌, ℕ, ◌+◌, ◌-◌, List, Option, Some, None, ap, sym, subst, ◌∙◌}
+use Rattle.std.proofs.lemmas.Option.{same_Some}
 use Rattle.vt_bytes.specs.View.{View}
 use Rattle.vt_bytes.proofs.AtMostOne.{IsOne}
 use Rattle.vt_layout.specs.declared.row.Row.{Row}
@@ -16,9 +17,6 @@ one_end : (types : Option Types) (view : View) (start address count : ℕ) → I
 one_end None view start address count a b is also = is ∙ sym also
 one_end (Some types) view start address count a b is also = same_entries types view start address count a b is also
 
-same_some : {A : Type 0} (a b : A) → Some a ≡ Some b → a ≡ b
-same_some a b same = cc
-
 -- the layout of these parts
 layout_from : Kind → Head → List Row → List Entry → TableLayout
 layout_from kind head body entries = record { kind = kind; head = head; body = body; entries = entries }
@@ -31,7 +29,7 @@ one_layout view address l m listed also_listed is also =
     let signatures : l.kind.signature ≡ m.kind.signature = cc (is.stands.shown.0, also.stands.shown.0) in
     let kinds : l.kind ≡ m.kind = cc (listed, also_listed, signatures) in
     let same = one_table view address l.kind.signature m.kind.signature is.total also.total l.head m.head l.body m.body is.stands also.stands (λ totals.
-    same_some (shape l.body) (shape m.body)
+    same_Some (shape l.body) (shape m.body)
     (sym is.shaped ∙ ap (λ (kind : Kind). kind.shape view address is.total) kinds ∙ ap (m.kind.shape view address) totals ∙ also.shaped)) in
     let of_kind =
     subst (λ (kind : Kind). EndsWith kind.types view address (address + (36 + size l.body)) (is.total - (36 + size l.body)) l.entries) kinds is.ends in

@@ -5,13 +5,11 @@ ghost use Rattle.acpi_model.specs.MachineSrat.{cpu_affinity, range_affinity, sra
 use acpi_records::{ApicAffinity, MemoryAffinity, Srat, SratEntry, X2ApicAffinity, head_of};
 use machine_desc::{Acpi, Cpu, Machine, MemRange};
 use std::alloc::Global;
+use vt_bytes::BYTES_IN_MIB;
 use vt_outside::{List, OutOfMemory};
 
 // The flag of an entry that counts (ACPI 6.5, 5.2.16.1 to 5.2.16.3).
 const ENABLED: u32 = 1;
-
-// How many bytes a MiB has.
-const MIB: u64 = 0x100000;
 
 /// Returns the SRAT of `machine` (ACPI 6.5, 5.2.16): the nodes of its processors, and then those of its ranges. `acpi` is the maker; its
 /// `oem_id` has at most 6 bytes and its `oem_table_id` at most 8. The entries take their memory from `alloc`. Returns `OutOfMemory` when
@@ -75,8 +73,8 @@ fn range_affinity(range: &MemRange) -> SratEntry
 {
     SratEntry::Memory(MemoryAffinity {
         node: u32::from(range.node),
-        base: u64::from(range.base_mib) * MIB,
-        length: u64::from(range.size_mib) * MIB,
+        base: u64::from(range.base_mib) * BYTES_IN_MIB,
+        length: u64::from(range.size_mib) * BYTES_IN_MIB,
         flags: ENABLED,
     })
 }

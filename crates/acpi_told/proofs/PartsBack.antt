@@ -36,10 +36,8 @@ use Rattle.acpi_model.proofs.MachineTables.{of_part}
 use Rattle.acpi_model.proofs.MadtsBack.{apic_back, cpus_back, io_apics_back, overrides_back, nmis_back}
 use Rattle.acpi_model.proofs.Maker.{acpi_back}
 use Rattle.acpi_model.proofs.NodesBack.{machine_cpu_nodes, machine_range_nodes, machine_numa}
-use Rattle.acpi_model.proofs.SameDevices.{ecam_back}
+use Rattle.acpi_model.proofs.EcamBack.{ecam_back}
 use Rattle.dsdt_terms.specs.Dsdt.{has_clock, has_keyboard, without_ecam}
-use Rattle.acpi_told.specs.declared.controllers.Controllers.{Controllers}
-use Rattle.acpi_told.specs.declared.parts.AcpiParts.{AcpiParts}
 use Rattle.acpi_told.specs.Nodes.{on_nodes, on_told_nodes, node_of_cpu, cpu_on, node_of_range, range_on}
 use Rattle.acpi_told.specs.Parts.{power_told, bridge_told, affinities_of, controllers_told, parts_in, affinities_in, fadt_of as fadt_among}
 use Rattle.acpi_told.specs.Parts.{mcfg_of as mcfg_among}
@@ -118,9 +116,6 @@ controllers_back m acpi (Some apic) has accepted =
     let cpus = ap (on_told_nodes node_of_cpu cpu_on (affinities_of (option_map (λ (n : Numa). srat_of_machine m acpi) m.numa))) (cpus_back m acpi apic)
     ∙ cpus_on m acpi m.numa refl accepted in
     rw (cpus, has, apic_back m acpi apic, io_apics_back m acpi apic, overrides_back m acpi apic, nmis_back m acpi apic) refl
-
-parts_with : Option Acpi → Option HpetPart → Controllers → Option Numa → AcpiParts
-parts_with acpi hpet controllers numa = record { acpi = acpi; hpet = hpet; controllers = controllers; numa = numa }
 
 parts_at : (m : Machine) (acpi : Option Acpi) → m.acpi ≡ acpi → IsAccepted m → HasFittingFields m
     → parts_in (option_map (acpi_of m) acpi)

@@ -1,8 +1,8 @@
 -- Parts are put on their nodes one after the other.
-use Rattle.std.proofs.Common.{◌≡◌, ℕ, zero, suc, ◌+◌, ◌≤◌, List, [], ◌∷◌, ◌++◌, length, take, drop, slice_get, slice_set, Some, unwrap_or, refl}
-use Rattle.std.proofs.Common.{arith, ap, sym, subst, ◌∙◌, append_assoc, append-nil}
+use Rattle.std.proofs.Common.{◌≡◌, ℕ, zero, suc, ◌+◌, List, [], ◌∷◌, ◌++◌, length, take, drop, slice_get, slice_set, Some, unwrap_or, refl}
+use Rattle.std.proofs.Common.{arith, ap, sym, subst, ◌∙◌, append_assoc}
 use Rattle.std.proofs.Math.Seq.{take-suc-set, drop-cons}
-use Rattle.std.proofs.lemmas.List.{drop-set-lt, length-set, drop_all, take_all}
+use Rattle.std.proofs.lemmas.List.{drop-set-lt, length-set}
 use Rattle.std.proofs.lemmas.Option.{slice_get_within, unwrap_or-slice_get}
 use Rattle.acpi_records.specs.declared.srat_entry.SratEntry.{SratEntry}
 use Rattle.acpi_told.specs.Nodes.{node_at, on_told_nodes}
@@ -22,10 +22,6 @@ pub record ArePlaced {Part : Type 0} (told : Part → SratEntry → ℕ) (placed
     (place : ℕ) (parts : List Part) : Type 0 where
   pub long : length parts ≡ length all
   pub so_far : on_told_nodes told placed entries all ≡ take place parts ++ on_told_nodes told placed (drop place entries) (drop place parts)
-
-pub none_placed : {Part : Type 0} (told : Part → SratEntry → ℕ) (placed : Part → ℕ → Part) (entries : List SratEntry) (all : List Part)
-    → ArePlaced told placed entries all 0 all
-none_placed told placed entries all = record { long = refl; so_far = refl }
 
 -- what is left begins with the part at the place
 left_at : {Part : Type 0} (parts : List Part) (place : ℕ) (part : Part) → slice_get parts place ≡ Some part
@@ -51,12 +47,3 @@ next_placed told placed entries all place parts part is before =
           ∙ ap (λ left. take (suc place) (slice_set parts place here) ++ on_told_nodes told placed (drop (suc place) entries) left)
           (sym (drop-set-lt (suc place) parts place here (omega arith)));
     })
-
--- at the end all are
-pub all_placed : {Part : Type 0} (told : Part → SratEntry → ℕ) (placed : Part → ℕ → Part) (entries : List SratEntry) (all : List Part)
-    (place : ℕ) (parts : List Part) → length all ≤ place → ArePlaced told placed entries all place parts
-    → parts ≡ on_told_nodes told placed entries all
-all_placed told placed entries all place parts end before =
-    let past : length parts ≤ place = omega (arith, before.long, end) in
-    sym (before.so_far ∙ ap (λ left. take place parts ++ on_told_nodes told placed (drop place entries) left) (drop_all place parts past)
-    ∙ append-nil (take place parts) ∙ take_all place parts past)

@@ -3,16 +3,17 @@ use Rattle.std.proofs.Common.{◌≡◌, ℕ, zero, suc, ◌+◌, ◌<◌, ◌�
 use Rattle.std.proofs.Common.{arith, Result, Ok, Err}
 use Rattle.std.specs.List.{prefix_len}
 use Rattle.std.proofs.lemmas.Bool.Decides.{nat_tests}
+use Rattle.vt_outside.specs.Readings.{◌into◌}
 use borrow.Author.Tests.{ltb-true, ltb-false, eq-eqb, ne_eqb, lt-ltb, le-ltb}
 use Rattle.aml_terms.specs.declared.fault.AmlFault.{AmlFault}
 use Rattle.aml_terms.specs.declared.fault.AmlFault.TheVariants.{Truncated, OutsideGrammar}
 use Rattle.aml_terms.specs.Trees.{Tree, chars}
-use Rattle.aml_terms.specs.Reading.{◌>>=◌, made_at, chars_at}
+use Rattle.aml_terms.specs.Reading.{made_at, chars_at}
 use Rattle.aml_decode.specs.Chars.{is_char}
 
 -- a character, before those that are read
 abbrev with_char : ℕ → Result (List ℕ × ℕ) AmlFault → Result (List ℕ × ℕ) AmlFault
-with_char c read = read >>= λ text. Ok (c ∷ text.0, suc text.1)
+with_char c read = read into λ text. Ok (c ∷ text.0, suc text.1)
 
 char_on : (place c : ℕ) (cs : List ℕ) → 0 < c → c < 0x80 → chars_at place (c ∷ cs) ≡ with_char c (chars_at (place + 1) cs)
 unfolding chars_at
@@ -104,17 +105,17 @@ abbrev made : List ℕ × ℕ → Result (Tree × ℕ) AmlFault
 made text = Ok (chars text.0, text.1)
 
 pub text_cut : (place n : ℕ) (text : List ℕ) → n ≡ count text → n ≡ length text → made_at chars chars_at place text ≡ Err (Truncated (place + n))
-text_cut place n text is all = ap (λ r. r >>= made) (chars_cut place text (sym is ∙ all)) ∙ ap (λ n. Err (Truncated (place + n))) (sym all)
+text_cut place n text is all = ap (λ r. r into made) (chars_cut place text (sym is ∙ all)) ∙ ap (λ n. Err (Truncated (place + n))) (sym all)
 
 pub text_bad : (place n : ℕ) (text : List ℕ) → n ≡ count text → n < length text → (get_or text n 0 ≡ 0 → ⊥)
     → made_at chars chars_at place text ≡ Err (OutsideGrammar (place + n))
 text_bad place n text is more other =
-    ap (λ r. r >>= made) (chars_bad place text (omega arith) (λ e. other (ap (λ n. get_or text n 0) is ∙ e)))
+    ap (λ r. r into made) (chars_bad place text (omega arith) (λ e. other (ap (λ n. get_or text n 0) is ∙ e)))
     ∙ ap (λ n. Err (OutsideGrammar (place + n))) (sym is)
 
 pub text_found : (place n : ℕ) (text copy : List ℕ) → n ≡ count text → n < length text → get_or text n 0 ≡ 0 → copy ≡ take n text
     → made_at chars chars_at place text ≡ Ok (chars copy, n + 1)
 text_found place n text copy is more nul_there copied =
-    ap (λ r. r >>= made) (chars_found place text (omega arith) (ap (λ n. get_or text n 0) (sym is) ∙ nul_there))
+    ap (λ r. r into made) (chars_found place text (omega arith) (ap (λ n. get_or text n 0) (sym is) ∙ nul_there))
     ∙ ap (λ n. Ok (chars (take n text), n + 1)) (sym is)
     ∙ ap (λ text. Ok (chars text, n + 1)) (sym copied)

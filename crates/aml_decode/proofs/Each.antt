@@ -2,10 +2,11 @@
 use Rattle.std.proofs.Common.{◌≡◌, ℕ, zero, suc, ◌+◌, ◌-◌, ◌≤◌, ◌<◌, List, [], ◌∷◌, ◌++◌, length, take, drop, refl, sym, ap, ◌∙◌, arith, length-drop}
 use Rattle.std.proofs.Common.{Result, Ok, Err}
 use Rattle.std.proofs.lemmas.List.{drop-drop, take_rest}
+use Rattle.vt_outside.specs.Readings.{◌into◌, Agrees}
 use Rattle.aml_terms.specs.declared.fault.AmlFault.{AmlFault}
 use Rattle.aml_terms.specs.declared.term.Term.{Term}
 use Rattle.aml_terms.specs.Trees.{Tree, Trees, no_trees, trees_of, view, views}
-use Rattle.aml_terms.specs.Reading.{Reader, Gives, ◌>>=◌, with_tree, all_from, all_in}
+use Rattle.aml_terms.specs.Reading.{Reader, with_tree, all_from, all_in, reported}
 use Rattle.aml_decode.specs.declared.found.Found.{Found}
 use Rattle.aml_decode.proofs.Faults.{fault_of_all}
 use Rattle.aml_decode.proofs.Levels.{Moves}
@@ -28,7 +29,7 @@ with_fault [] fault = refl
 with_fault (t ∷ ts) fault = ap (with_tree t) (with_fault ts fault)
 
 with_front_of : {A : Type 0} (ts : List Tree) (read : Result A AmlFault) (next : A → Result Trees AmlFault)
-    → with_front ts (read >>= next) ≡ (read >>= λ x. with_front ts (next x))
+    → with_front ts (read into next) ≡ (read into λ x. with_front ts (next x))
 with_front_of ts (Ok x) next = refl
 with_front_of ts (Err fault) next = with_fault ts fault
 
@@ -50,7 +51,7 @@ module _ (read : Reader Tree) (moves : Moves read) where
   enough zero more place (b ∷ bs) h k = absurd (omega arith)
   enough (suc steps) zero place (b ∷ bs) h k = absurd (omega arith)
   enough (suc steps) (suc more) place (b ∷ bs) h k =
-      elim (read place (b ∷ bs)) as (λ r. read place (b ∷ bs) ≡ r → (r >>= behind_first steps place (b ∷ bs)) ≡ (r >>= behind_first more place (b ∷ bs))) [
+      elim (read place (b ∷ bs)) as (λ r. read place (b ∷ bs) ≡ r → (r into behind_first steps place (b ∷ bs)) ≡ (r into behind_first more place (b ∷ bs))) [
         | Ok t ↦ λ e.
             let some : 1 ≤ t.1 = moves place (b ∷ bs) t e in
             let fewer : length (drop t.1 (b ∷ bs)) ≤ length bs = omega (arith, length-drop t.1 (b ∷ bs)) in
@@ -62,11 +63,11 @@ module _ (read : Reader Tree) (moves : Moves read) where
   abbrev behind_one : ℕ → List ℕ → Tree × ℕ → Result Trees AmlFault
   behind_one place text t = with_tree t.0 (all_in read (place + t.1) (drop t.1 text))
 
-  all_step : (place : ℕ) (text : List ℕ) → 0 < length text → all_in read place text ≡ (read place text >>= behind_one place text)
+  all_step : (place : ℕ) (text : List ℕ) → 0 < length text → all_in read place text ≡ (read place text into behind_one place text)
   unfolding all_in all_from
   all_step place [] some = absurd (omega arith)
   all_step place (b ∷ bs) some =
-      elim (read place (b ∷ bs)) as (λ r. read place (b ∷ bs) ≡ r → (r >>= behind_first (length bs) place (b ∷ bs)) ≡ (r >>= behind_one place (b ∷ bs))) [
+      elim (read place (b ∷ bs)) as (λ r. read place (b ∷ bs) ≡ r → (r into behind_first (length bs) place (b ∷ bs)) ≡ (r into behind_one place (b ∷ bs))) [
         | Ok t ↦ λ e.
             let some : 1 ≤ t.1 = moves place (b ∷ bs) t e in
             let fewer : length (drop t.1 (b ∷ bs)) ≤ length bs = omega (arith, length-drop t.1 (b ∷ bs)) in
@@ -89,17 +90,19 @@ module _ (read : Reader Tree) (moves : Moves read) where
       let next : read (place + size) (drop size text) ≡ Ok (t, more) = ap (read (place + size)) (sym (take_rest text size)) ∙ is in
       rw (at, ← drop-drop more size text)
       (with_more front t (all_in read (place + size + more) (drop more (drop size text)))
-      ∙ ap (with_front front) (ap (λ r. r >>= behind_one (place + size) (drop size text)) (sym next) ∙ sym (all_step (place + size) (drop size text) left)) ∙ e)
+      ∙ ap (with_front front)
+      (ap (λ r. r into behind_one (place + size) (drop size text)) (sym next) ∙ sym (all_step (place + size) (drop size text) left)) ∙ e)
 
   -- the next one is at fault, and so are all
   pub next_bad : (fault : AmlFault) (place size : ℕ) (text : List ℕ) (front : List Tree) (all : Result Trees AmlFault) → size < length text
-      → Gives {X = Found Term} (λ found. (view found.value, found.size)) (Err fault) (read (place + size) (take (length text - size) (drop size text)))
-      → with_front front (all_in read (place + size) (drop size text)) ≡ all → Gives views (Err fault) all
+      → Agrees {Value = Found Term} reported (λ found. (view found.value, found.size)) (Err fault)
+      (read (place + size) (take (length text - size) (drop size text)))
+      → with_front front (all_in read (place + size) (drop size text)) ≡ all → Agrees reported views (Err fault) all
   next_bad fault place size text front all some is e =
       let left : 0 < length (drop size text) = omega (arith, length-drop size text) in
       fault_of_all {X = Found Term} {Y = List Term} (λ found. (view found.value, found.size)) views fault
       (read (place + size) (take (length text - size) (drop size text))) (λ t. with_front front (behind_one (place + size) (drop size text) t)) all is
-      (ap (λ rest. read (place + size) rest >>= (λ t. with_front front (behind_one (place + size) (drop size text) t))) (take_rest text size)
+      (ap (λ rest. read (place + size) rest into (λ t. with_front front (behind_one (place + size) (drop size text) t))) (take_rest text size)
       ∙ sym (with_front_of front (read (place + size) (drop size text)) (behind_one (place + size) (drop size text)))
       ∙ ap (with_front front) (sym (all_step (place + size) (drop size text) left)) ∙ e)
 

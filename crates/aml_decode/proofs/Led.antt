@@ -1,12 +1,13 @@
 -- What is read behind a byte that says what it is.
 use Rattle.std.proofs.Common.{◌≡◌, ℕ, ◌+◌, ◌-◌, List, length, take, drop, refl, sym, ap, ◌∙◌, Ok, Err}
 use Rattle.std.proofs.lemmas.List.{take_rest}
+use Rattle.vt_outside.specs.Readings.{◌into◌, Agrees}
 use Rattle.aml_terms.specs.declared.fault.AmlFault.{AmlFault}
 use Rattle.aml_terms.specs.declared.opcode.Opcode.{Opcode}
 use Rattle.aml_terms.specs.declared.term.Term.{Term}
 use Rattle.aml_terms.specs.Opcodes.{opcode_of}
 use Rattle.aml_terms.specs.Trees.{Tree, view}
-use Rattle.aml_terms.specs.Reading.{Reader, Gives, ◌>>=◌, behind, byte_at, then_at}
+use Rattle.aml_terms.specs.Reading.{Reader, behind, byte_at, then_at, reported}
 use Rattle.aml_decode.specs.declared.found.Found.{Found}
 use Rattle.aml_decode.proofs.Faults.{fault_of_all}
 
@@ -26,7 +27,7 @@ module _ (next : ℕ → Opcode → Reader Tree) where
   all_behind : (place byte : ℕ) (text : List ℕ) (opcode : Opcode) → opcode ≡ opcode_of byte → byte_at place text ≡ Ok (byte, 1)
       → led place text ≡ behind 1 (next byte opcode (place + 1) (take (length text - 1) (drop 1 text)))
   all_behind place byte text opcode e is =
-      ap (λ r. r >>= (λ x. behind x.1 (next x.0 (opcode_of x.0) (place + x.1) (drop x.1 text)))) is ∙ ap (behind 1) (sym (same_rest place byte text opcode e))
+      ap (λ r. r into (λ x. behind x.1 (next x.0 (opcode_of x.0) (place + x.1) (drop x.1 text)))) is ∙ ap (behind 1) (sym (same_rest place byte text opcode e))
 
   pub led_read : (place byte : ℕ) (text : List ℕ) (opcode : Opcode) (inner outer : Found Term) → opcode ≡ opcode_of byte → byte_at place text ≡ Ok (byte, 1)
       → next byte opcode (place + 1) (take (length text - 1) (drop 1 text)) ≡ Ok (view inner.value, inner.size)
@@ -37,15 +38,16 @@ module _ (next : ℕ → Opcode → Reader Tree) where
       ∙ ap (λ v. Ok (view v, 1 + inner.size)) (sym value) ∙ ap (λ n. Ok (view outer.value, n)) (sym size)
 
   pub led_bad : (fault : AmlFault) (place byte : ℕ) (text : List ℕ) (opcode : Opcode) → opcode ≡ opcode_of byte → byte_at place text ≡ Ok (byte, 1)
-      → Gives {X = Found Term} (λ found. (view found.value, found.size)) (Err fault) (next byte opcode (place + 1) (take (length text - 1) (drop 1 text)))
-      → Gives {X = Found Term} (λ found. (view found.value, found.size)) (Err fault) (led place text)
+      → Agrees {Value = Found Term} reported (λ found. (view found.value, found.size)) (Err fault)
+      (next byte opcode (place + 1) (take (length text - 1) (drop 1 text)))
+      → Agrees {Value = Found Term} reported (λ found. (view found.value, found.size)) (Err fault) (led place text)
   led_bad fault place byte text opcode e is read =
       fault_of_all {X = Found Term} {Y = Found Term} (λ found. (view found.value, found.size)) (λ found. (view found.value, found.size)) fault
       (next byte opcode (place + 1) (take (length text - 1) (drop 1 text))) (λ x. Ok (x.0, 1 + x.1)) (led place text) read
       (sym (all_behind place byte text opcode e is))
 
-  pub led_none : (fault : AmlFault) (place : ℕ) (text : List ℕ) → Gives {X = ℕ} (λ byte. (byte, 1)) (Err fault) (byte_at place text)
-      → Gives {X = Found Term} (λ found. (view found.value, found.size)) (Err fault) (led place text)
+  pub led_none : (fault : AmlFault) (place : ℕ) (text : List ℕ) → Agrees {Value = ℕ} reported (λ byte. (byte, 1)) (Err fault) (byte_at place text)
+      → Agrees {Value = Found Term} reported (λ found. (view found.value, found.size)) (Err fault) (led place text)
   led_none fault place text none =
       fault_of_all {X = ℕ} {Y = Found Term} (λ byte. (byte, 1)) (λ found. (view found.value, found.size)) fault (byte_at place text)
       (λ x. behind x.1 (next x.0 (opcode_of x.0) (place + x.1) (drop x.1 text))) (led place text) none refl

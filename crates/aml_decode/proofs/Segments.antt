@@ -2,25 +2,26 @@
 use Rattle.std.proofs.Common.{◌≡◌, ℕ, suc, ◌+◌, ◌-◌, ◌<◌, List, [], ◌∷◌, ◌++◌, length, take, drop, refl, sym, ap, ◌∙◌, append_assoc, append-nil}
 use Rattle.std.proofs.Common.{arith, Result, Ok, Err}
 use Rattle.std.proofs.lemmas.List.{drop-drop, take_rest}
+use Rattle.vt_outside.specs.Readings.{◌into◌, Agrees}
 use Rattle.aml_terms.specs.declared.fault.AmlFault.{AmlFault}
-use Rattle.aml_terms.specs.Reading.{Gives, ◌>>=◌, behind, made_at, segment_at, segments_at}
+use Rattle.aml_terms.specs.Reading.{behind, made_at, segment_at, segments_at, reported}
 use Rattle.aml_decode.specs.declared.found.Found.{Found}
 use Rattle.aml_decode.proofs.Faults.{fault_of_all, bind_twice}
 
 -- segments of so many bytes, before those that are read
 abbrev pub with_segments : List (List ℕ) → ℕ → Result (List (List ℕ) × ℕ) AmlFault → Result (List (List ℕ) × ℕ) AmlFault
-with_segments front size read = read >>= λ x. Ok (front ++ x.0, size + x.1)
+with_segments front size read = read into λ x. Ok (front ++ x.0, size + x.1)
 
 -- what is read behind a segment of so many bytes
 abbrev behind_one : ℕ → ℕ → List ℕ → List ℕ × ℕ → Result (List (List ℕ) × ℕ) AmlFault
 behind_one left place text x = behind x.1 (made_at (λ ss. x.0 ∷ ss) (segments_at left) (place + x.1) (drop x.1 text))
 
-one_more : (left place : ℕ) (text : List ℕ) → segments_at (suc left) place text ≡ (segment_at place text >>= behind_one left place text)
+one_more : (left place : ℕ) (text : List ℕ) → segments_at (suc left) place text ≡ (segment_at place text into behind_one left place text)
 unfolding segments_at
 one_more left place text = refl
 
 regroup : (front : List (List ℕ)) (s : List ℕ) (size : ℕ) (read : Result (List (List ℕ) × ℕ) AmlFault)
-    → with_segments (front ++ s ∷ []) (size + 4) read ≡ with_segments front size (behind 4 (read >>= λ x. Ok (s ∷ x.0, x.1)))
+    → with_segments (front ++ s ∷ []) (size + 4) read ≡ with_segments front size (behind 4 (read into λ x. Ok (s ∷ x.0, x.1)))
 regroup front s size (Ok x) =
     let count : size + 4 + x.1 ≡ size + (4 + x.1) = omega arith in
     ap (λ ss. Ok (ss, size + 4 + x.1)) (append_assoc front (s ∷ []) x.0) ∙ ap (λ n. Ok (front ++ s ∷ x.0, n)) count
@@ -30,7 +31,7 @@ next_one : (front : List (List ℕ)) (s : List ℕ) (size left place : ℕ) (tex
     → with_segments (front ++ s ∷ []) (size + 4) (segments_at left (place + 4) (drop 4 text)) ≡ with_segments front size (segments_at (suc left) place text)
 next_one front s size left place text e =
     regroup front s size (segments_at left (place + 4) (drop 4 text))
-    ∙ ap (λ r. with_segments front size (r >>= behind_one left place text)) (sym e)
+    ∙ ap (λ r. with_segments front size (r into behind_one left place text)) (sym e)
     ∙ ap (with_segments front size) (sym (one_more left place text))
 
 -- a segment is read, and fewer are still to come
@@ -58,12 +59,13 @@ last_segment front left place size text all none e =
 
 -- the next segment is at fault, and so are all
 pub bad_segment : (fault : AmlFault) (front : List (List ℕ)) (left place size : ℕ) (text rest : List ℕ)
-    (all : Result (List (List ℕ) × ℕ) AmlFault) → 0 < left → Gives {X = List ℕ} (λ s. (s, 4)) (Err fault) (segment_at place rest) → rest ≡ text
-    → with_segments front size (segments_at left place text) ≡ all → Gives {X = Found (List (List ℕ))} (λ found. (found.value, found.size)) (Err fault) all
+    (all : Result (List (List ℕ) × ℕ) AmlFault) → 0 < left → Agrees {Value = List ℕ} reported (λ s. (s, 4)) (Err fault) (segment_at place rest) → rest ≡ text
+    → with_segments front size (segments_at left place text) ≡ all
+    → Agrees {Value = Found (List (List ℕ))} reported (λ found. (found.value, found.size)) (Err fault) all
 bad_segment fault front left place size text rest all some is same e =
     let one : left ≡ suc (left - 1) = omega arith in
     fault_of_all {X = List ℕ} {Y = Found (List (List ℕ))} (λ s. (s, 4)) (λ found. (found.value, found.size)) fault (segment_at place rest)
     (λ x. with_segments front size (behind_one (left - 1) place text x)) all is
-    (ap (λ r. segment_at place r >>= (λ x. with_segments front size (behind_one (left - 1) place text x))) same
+    (ap (λ r. segment_at place r into (λ x. with_segments front size (behind_one (left - 1) place text x))) same
     ∙ sym (bind_twice (segment_at place text) (behind_one (left - 1) place text) (λ x. Ok (front ++ x.0, size + x.1)))
     ∙ ap (with_segments front size) (sym (one_more (left - 1) place text)) ∙ ap (λ n. with_segments front size (segments_at n place text)) (sym one) ∙ e)

@@ -1,7 +1,8 @@
 ghost use Rattle.std.specs.Prelude.{◌<◌, ◌^◌, length, IfOk};
+ghost use Rattle.vt_outside.specs.Readings.{Agrees};
 ghost use Rattle.aml_terms.specs.Grammar.{Aml};
 ghost use Rattle.aml_terms.specs.Trees.{views};
-ghost use Rattle.aml_terms.specs.Reading.{Gives, read_terms};
+ghost use Rattle.aml_terms.specs.Reading.{read_terms, reported};
 ghost use Rattle.aml_terms.specs.WellFormed.{AreGood};
 
 use crate::terms::read_terms;
@@ -17,7 +18,7 @@ const LEVELS: u8 = 16;
 #[tactic(auto, unfolding(aml_terms::specs::Grammar::levels))]
 pub fn decode_terms(alloc: Global, bytes: &[u8]) -> Result<List<Term>, AmlFault>
     requires { length bytes.now < 2 ^ 32 }
-    ensures exact { Gives views result (read_terms bytes.now) }
+    ensures exact { Agrees reported views result (read_terms bytes.now) }
     ensures spelled { IfOk result (λ terms. Aml (views terms) bytes.now) }
     ensures well_formed { IfOk result (λ terms. AreGood (views terms)) }
 {

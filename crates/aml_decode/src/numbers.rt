@@ -1,5 +1,6 @@
 ghost use Rattle.std.specs.Prelude.{◌+◌, ◌<◌, ◌≤◌, ◌^◌, length, IfOk};
-ghost use Rattle.aml_terms.specs.Reading.{Gives, byte_at, number_at, total_behind, total_at, enclosing_at, integer_behind, integer_at};
+ghost use Rattle.vt_outside.specs.Readings.{Agrees};
+ghost use Rattle.aml_terms.specs.Reading.{byte_at, number_at, total_behind, total_at, enclosing_at, integer_behind, integer_at, reported};
 ghost use Rattle.aml_decode.specs.Widths.{IsWide};
 
 use crate::found::Found;
@@ -8,7 +9,7 @@ use vt_bytes::get_le;
 
 /// Reads the byte at the front of `text`, which begins at `place`.
 pub(crate) fn read_byte(place: u32, text: &[u8]) -> Result<u8, AmlFault>
-    ensures byte { Gives (λ byte. (byte, 1)) result (byte_at place text.now) }
+    ensures byte { Agrees reported (λ byte. (byte, 1)) result (byte_at place text.now) }
     ensures some { IfOk result (λ byte. 1 ≤ length text.now) }
 {
     match text {
@@ -23,7 +24,7 @@ fn read_number(width: usize, place: u32, text: &[u8]) -> Result<u64, AmlFault>
     requires some { 1 ≤ width }
     requires narrow { width ≤ 8 }
     requires place { place + length text.now < 2 ^ 32 }
-    ensures number { Gives (λ number. (number, width)) result (number_at width place text.now) }
+    ensures number { Agrees reported (λ number. (number, width)) result (number_at width place text.now) }
     ensures within { IfOk result (λ number. width ≤ length text.now) }
     ensures fits { IfOk result (λ number. number < 256 ^ width) }
 {
@@ -38,7 +39,7 @@ fn read_number(width: usize, place: u32, text: &[u8]) -> Result<u64, AmlFault>
 #[tactic(auto, unfolding(aml_terms::specs::Reading::enclosing_at))]
 pub(crate) fn read_enclosing(place: u32, text: &[u8]) -> Result<Found<usize>, AmlFault>
     requires { place + length text.now < 2 ^ 32 }
-    ensures count { Gives (λ found. (found.value, found.size)) result (enclosing_at place text.now) }
+    ensures count { Agrees reported (λ found. (found.value, found.size)) result (enclosing_at place text.now) }
     ensures within { IfOk result (λ found. found.size + found.value ≤ length text.now) }
 {
     let total = read_total(place, text)?;
@@ -54,7 +55,7 @@ pub(crate) fn read_enclosing(place: u32, text: &[u8]) -> Result<Found<usize>, Am
 // Reads a package length.
 fn read_total(place: u32, text: &[u8]) -> Result<Found<usize>, AmlFault>
     requires { place + length text.now < 2 ^ 32 }
-    ensures total { Gives (λ found. (found.value, found.size)) result (total_at place text.now) }
+    ensures total { Agrees reported (λ found. (found.value, found.size)) result (total_at place text.now) }
     ensures within { IfOk result (λ found. found.size ≤ length text.now) }
 {
     let lead = read_byte(place, text)?;
@@ -67,7 +68,7 @@ fn read_total(place: u32, text: &[u8]) -> Result<Found<usize>, AmlFault>
 fn total_behind(lead: u8, place: u32, text: &[u8]) -> Result<Found<usize>, AmlFault>
     requires behind { 1 ≤ place }
     requires place { place + length text.now < 2 ^ 32 }
-    ensures total { Gives (λ found. (found.value, found.size)) result (total_behind lead place text.now) }
+    ensures total { Agrees reported (λ found. (found.value, found.size)) result (total_behind lead place text.now) }
     ensures within { IfOk result (λ found. found.size ≤ length text.now) }
 {
     if lead < 0x40 {
@@ -91,7 +92,7 @@ fn total_behind(lead: u8, place: u32, text: &[u8]) -> Result<Found<usize>, AmlFa
 #[tactic(auto, using(crate::proofs::Announced::wide))]
 pub(crate) fn read_integer(place: u32, text: &[u8]) -> Result<Found<u64>, AmlFault>
     requires { place + length text.now < 2 ^ 32 }
-    ensures integer { Gives (λ found. (found.value, found.size)) result (integer_at place text.now) }
+    ensures integer { Agrees reported (λ found. (found.value, found.size)) result (integer_at place text.now) }
     ensures within { IfOk result (λ found. found.size ≤ length text.now) }
 {
     let byte = read_byte(place, text)?;
@@ -110,7 +111,7 @@ pub(crate) fn integer_behind(
     requires wide { IsWide opcode }
     requires behind { 1 ≤ place }
     requires place { place + length text.now < 2 ^ 32 }
-    ensures integer { Gives (λ found. (found.value, found.size)) result (integer_behind byte opcode place text.now) }
+    ensures integer { Agrees reported (λ found. (found.value, found.size)) result (integer_behind byte opcode place text.now) }
     ensures within { IfOk result (λ found. found.size ≤ length text.now) }
 {
     match opcode {

@@ -1,6 +1,7 @@
 ghost use Rattle.std.specs.Prelude.{◌≡◌, ◌+◌, ◌<◌, ◌≤◌, ◌^◌, [], ◌∷◌, length, IfOk};
+ghost use Rattle.vt_outside.specs.Readings.{Agrees};
 ghost use Rattle.aml_terms.specs.Paths.{is_lead_char, is_name_char};
-ghost use Rattle.aml_terms.specs.Reading.{Gives, shape_at, segment_at, segments_at, counted_at, names_at, levels_up, path_at, path_from, then_at, byte_at};
+ghost use Rattle.aml_terms.specs.Reading.{shape_at, segment_at, segments_at, counted_at, names_at, levels_up, path_at, path_from, then_at, byte_at, reported};
 
 use crate::found::Found;
 use crate::numbers::read_byte;
@@ -26,7 +27,7 @@ const SEGMENT_SIZE: usize = 4;
 #[tactic(auto, unfolding(aml_terms::specs::Reading::path_at))]
 pub(crate) fn read_path(alloc: Global, place: u32, text: &[u8]) -> Result<Found<Path>, AmlFault>
     requires { place + length text.now < 2 ^ 32 }
-    ensures path { Gives (λ found. (found.value, found.size)) result (path_at place text.now) }
+    ensures path { Agrees reported (λ found. (found.value, found.size)) result (path_at place text.now) }
     ensures within { IfOk result (λ found. found.size ≤ length text.now) }
 {
     if let [ROOT, rest @ ..] = text {
@@ -73,7 +74,7 @@ fn levels_up(text: &[u8]) -> u8
 #[tactic(auto, unfolding(aml_terms::specs::Reading::names_at))]
 fn read_names(alloc: Global, place: u32, text: &[u8]) -> Result<Found<List<[u8; 4]>>, AmlFault>
     requires { place + length text.now < 2 ^ 32 }
-    ensures names { Gives (λ found. (found.value, found.size)) result (names_at place text.now) }
+    ensures names { Agrees reported (λ found. (found.value, found.size)) result (names_at place text.now) }
     ensures within { IfOk result (λ found. found.size ≤ length text.now) }
 {
     match text {
@@ -88,7 +89,7 @@ fn read_names(alloc: Global, place: u32, text: &[u8]) -> Result<Found<List<[u8; 
 #[tactic(auto, unfolding(aml_terms::specs::Reading::counted_at))]
 fn read_counted(alloc: Global, place: u32, text: &[u8]) -> Result<Found<List<[u8; 4]>>, AmlFault>
     requires { place + length text.now < 2 ^ 32 }
-    ensures names { Gives (λ found. (found.value, found.size)) result (then_at byte_at counted_at place text.now) }
+    ensures names { Agrees reported (λ found. (found.value, found.size)) result (then_at byte_at counted_at place text.now) }
     ensures within { IfOk result (λ found. found.size ≤ length text.now) }
 {
     let count = read_byte(place, text)?;
@@ -106,7 +107,7 @@ fn read_segments(
     text: &[u8],
 ) -> Result<Found<List<[u8; 4]>>, AmlFault>
     requires { place + length text.now < 2 ^ 32 }
-    ensures segments { Gives (λ found. (found.value, found.size)) result (segments_at count place text.now) }
+    ensures segments { Agrees reported (λ found. (found.value, found.size)) result (segments_at count place text.now) }
     ensures within { IfOk result (λ found. found.size ≤ length text.now) }
 {
     let mut segments = List::with_room(alloc, count)?;
@@ -125,7 +126,7 @@ fn read_segments(
 #[tactic(auto, unfolding(aml_terms::specs::Reading::segment_at))]
 fn read_segment(place: u32, text: &[u8]) -> Result<[u8; 4], AmlFault>
     requires { place + length text.now < 2 ^ 32 }
-    ensures segment { Gives (λ segment. (segment, 4)) result (segment_at place text.now) }
+    ensures segment { Agrees reported (λ segment. (segment, 4)) result (segment_at place text.now) }
     ensures within { IfOk result (λ segment. 4 ≤ length text.now) }
 {
     let lead = lead_char(place, text)?;
@@ -137,7 +138,7 @@ fn read_segment(place: u32, text: &[u8]) -> Result<[u8; 4], AmlFault>
 
 // Reads the first character of a segment.
 fn lead_char(place: u32, text: &[u8]) -> Result<u8, AmlFault>
-    ensures char { Gives (λ c. (c ∷ [], 1)) result (shape_at (is_lead_char ∷ []) place text.now) }
+    ensures char { Agrees reported (λ c. (c ∷ [], 1)) result (shape_at (is_lead_char ∷ []) place text.now) }
     ensures within { IfOk result (λ c. 1 ≤ length text.now) }
 {
     match text {
@@ -149,7 +150,7 @@ fn lead_char(place: u32, text: &[u8]) -> Result<u8, AmlFault>
 
 // Reads a character behind the first of a segment.
 fn name_char(place: u32, text: &[u8]) -> Result<u8, AmlFault>
-    ensures char { Gives (λ c. (c ∷ [], 1)) result (shape_at (is_name_char ∷ []) place text.now) }
+    ensures char { Agrees reported (λ c. (c ∷ [], 1)) result (shape_at (is_name_char ∷ []) place text.now) }
     ensures within { IfOk result (λ c. 1 ≤ length text.now) }
 {
     match text {

@@ -1,6 +1,8 @@
 ghost use Rattle.std.specs.Prelude.{◌+◌, ◌<◌, ◌≤◌, ◌^◌, length, IfOk};
+ghost use Rattle.vt_outside.specs.Readings.{Agrees};
+ghost use Rattle.aml_terms.specs.Reading.{reported};
 ghost use Rattle.aml_terms.specs.Trees.{scope, view, views};
-ghost use Rattle.aml_terms.specs.Reading.{Gives, made_at, then_at, byte_at, enclosed_at, all_in, value_at, inside, named_at, extended_at, term_behind, term_at};
+ghost use Rattle.aml_terms.specs.Reading.{made_at, then_at, byte_at, enclosed_at, all_in, value_at, inside, named_at, extended_at, term_behind, term_at};
 ghost use Rattle.aml_decode.specs.Rooms.{inside_at};
 
 use crate::found::Found;
@@ -24,7 +26,7 @@ pub(crate) fn read_terms(
     text: &[u8],
 ) -> Result<List<Term>, AmlFault>
     requires { place + length text.now < 2 ^ 32 }
-    ensures { Gives views result (all_in (term_at room) place text.now) }
+    ensures { Agrees reported views result (all_in (term_at room) place text.now) }
 {
     let mut terms = List::new(alloc);
     let mut size = 0;
@@ -40,7 +42,7 @@ pub(crate) fn read_terms(
 #[cycle(terms)]
 fn read_term(alloc: Global, room: u8, place: u32, text: &[u8]) -> Result<Found<Term>, AmlFault>
     requires { place + length text.now < 2 ^ 32 }
-    ensures term { Gives (λ found. (view found.value, found.size)) result (term_at room place text.now) }
+    ensures term { Agrees reported (λ found. (view found.value, found.size)) result (term_at room place text.now) }
     ensures within { IfOk result (λ found. found.size ≤ length text.now) }
     ensures some { IfOk result (λ found. 1 ≤ found.size) }
 {
@@ -61,7 +63,7 @@ fn term_behind(
 ) -> Result<Found<Term>, AmlFault>
     requires behind { 1 ≤ place }
     requires place { place + length text.now < 2 ^ 32 }
-    ensures term { Gives (λ found. (view found.value, found.size)) result
+    ensures term { Agrees reported (λ found. (view found.value, found.size)) result
         (term_behind (value_at room) (inside_at room) opcode place text.now) }
     ensures within { IfOk result (λ found. found.size ≤ length text.now) }
 {
@@ -83,7 +85,7 @@ fn term_behind(
 #[tactic(auto, unfolding(aml_terms::specs::Reading::named_at))]
 fn read_named(alloc: Global, room: u8, place: u32, text: &[u8]) -> Result<Found<Term>, AmlFault>
     requires { place + length text.now < 2 ^ 32 }
-    ensures named { Gives (λ found. (view found.value, found.size)) result (named_at (value_at room) place text.now) }
+    ensures named { Agrees reported (λ found. (view found.value, found.size)) result (named_at (value_at room) place text.now) }
     ensures within { IfOk result (λ found. found.size ≤ length text.now) }
 {
     let path = read_path(alloc, place, text)?;
@@ -99,7 +101,7 @@ fn read_named(alloc: Global, room: u8, place: u32, text: &[u8]) -> Result<Found<
 fn read_scope(alloc: Global, room: u8, place: u32, text: &[u8]) -> Result<Found<Term>, AmlFault>
     requires behind { 1 ≤ place }
     requires place { place + length text.now < 2 ^ 32 }
-    ensures scope { Gives (λ found. (view found.value, found.size)) result
+    ensures scope { Agrees reported (λ found. (view found.value, found.size)) result
         (made_at (λ x. scope x.0 x.1) (inside_at room 1) place text.now) }
     ensures within { IfOk result (λ found. found.size ≤ length text.now) }
 {
@@ -116,7 +118,7 @@ fn read_scope(alloc: Global, room: u8, place: u32, text: &[u8]) -> Result<Found<
 fn read_device(alloc: Global, room: u8, place: u32, text: &[u8]) -> Result<Found<Term>, AmlFault>
     requires behind { 1 ≤ place }
     requires place { place + length text.now < 2 ^ 32 }
-    ensures device { Gives (λ found. (view found.value, found.size)) result
+    ensures device { Agrees reported (λ found. (view found.value, found.size)) result
         (then_at byte_at (extended_at (inside_at room)) place text.now) }
     ensures within { IfOk result (λ found. found.size ≤ length text.now) }
 {
@@ -150,7 +152,7 @@ fn read_inside(
 ) -> Result<Found<Contents>, AmlFault>
     requires back { back ≤ place }
     requires place { place + length text.now < 2 ^ 32 }
-    ensures inside { Gives (λ found. ((found.value.path, views found.value.terms), found.size)) result
+    ensures inside { Agrees reported (λ found. ((found.value.path, views found.value.terms), found.size)) result
         (inside_at room back place text.now) }
     ensures within { IfOk result (λ found. found.size ≤ length text.now) }
 {
@@ -170,7 +172,7 @@ fn enclosed_contents(
     text: &[u8],
 ) -> Result<Found<Contents>, AmlFault>
     requires { place + length text.now < 2 ^ 32 }
-    ensures inside { Gives (λ found. ((found.value.path, views found.value.terms), found.size)) result
+    ensures inside { Agrees reported (λ found. ((found.value.path, views found.value.terms), found.size)) result
         (enclosed_at (inside (term_at room)) place text.now) }
     ensures within { IfOk result (λ found. found.size ≤ length text.now) }
 {
@@ -188,7 +190,7 @@ fn enclosed_contents(
 #[tactic(auto, unfolding(aml_terms::specs::Reading::inside))]
 fn contents_in(alloc: Global, room: u8, place: u32, text: &[u8]) -> Result<Contents, AmlFault>
     requires { place + length text.now < 2 ^ 32 }
-    ensures { Gives (λ contents. (contents.path, views contents.terms)) result (inside (term_at room) place text.now) }
+    ensures { Agrees reported (λ contents. (contents.path, views contents.terms)) result (inside (term_at room) place text.now) }
 {
     let path = read_path(alloc, place, text)?;
     let terms = read_terms(alloc, room, place + path.size as u32, &text[path.size..])?;

@@ -1,7 +1,8 @@
 ghost use Rattle.std.specs.Prelude.{◌≡◌, ◌+◌, ◌<◌, ◌≤◌, ◌^◌, List, [], ◌∷◌, ◌++◌, length, nat_lt, Ok, Err, IfOk, IfErr, OnOk, if◌then◌else◌};
 ghost use Rattle.std.specs.List.{prefix_len};
+ghost use Rattle.vt_outside.specs.Readings.{Agrees};
 ghost use Rattle.aml_terms.specs.Trees.{Tree, int, chars, buffer, pack, trees_of, view, views};
-ghost use Rattle.aml_terms.specs.Reading.{Gives, enclosed_at, made_at, integer_behind, chars_at, buffer_in, package_in, value_behind, value_at, all_in};
+ghost use Rattle.aml_terms.specs.Reading.{enclosed_at, made_at, integer_behind, chars_at, buffer_in, package_in, value_behind, value_at, all_in, reported};
 ghost use Rattle.aml_decode.specs.Chars.{is_char};
 ghost use Rattle.aml_decode.specs.Kept.{IsKept};
 ghost use Rattle.aml_decode.specs.Rooms.{buffer_at, package_at};
@@ -27,7 +28,7 @@ pub(crate) fn read_value(
     text: &[u8],
 ) -> Result<Found<Term>, AmlFault>
     requires { place + length text.now < 2 ^ 32 }
-    ensures value { Gives (λ found. (view found.value, found.size)) result (value_at room place text.now) }
+    ensures value { Agrees reported (λ found. (view found.value, found.size)) result (value_at room place text.now) }
     ensures within { IfOk result (λ found. found.size ≤ length text.now) }
     ensures some { IfOk result (λ found. 1 ≤ found.size) }
 {
@@ -50,7 +51,7 @@ fn value_behind(
     requires wide { IsWide opcode }
     requires behind { 1 ≤ place }
     requires place { place + length text.now < 2 ^ 32 }
-    ensures value { Gives (λ found. (view found.value, found.size)) result
+    ensures value { Agrees reported (λ found. (view found.value, found.size)) result
         (value_behind (buffer_at room) (package_at room) byte opcode place text.now) }
     ensures within { IfOk result (λ found. found.size ≤ length text.now) }
 {
@@ -74,7 +75,7 @@ fn int_behind(byte: u8, opcode: Opcode, place: u32, text: &[u8]) -> Result<Found
     requires wide { IsWide opcode }
     requires behind { 1 ≤ place }
     requires place { place + length text.now < 2 ^ 32 }
-    ensures int { Gives (λ found. (view found.value, found.size)) result
+    ensures int { Agrees reported (λ found. (view found.value, found.size)) result
         (made_at int (integer_behind byte opcode) place text.now) }
     ensures within { IfOk result (λ found. found.size ≤ length text.now) }
 {
@@ -88,7 +89,7 @@ fn int_behind(byte: u8, opcode: Opcode, place: u32, text: &[u8]) -> Result<Found
 // Reads the characters of a text, up to its NUL.
 fn read_chars(alloc: Global, place: u32, text: &[u8]) -> Result<Found<Term>, AmlFault>
     requires { place + length text.now < 2 ^ 32 }
-    ensures chars { Gives (λ found. (view found.value, found.size)) result (made_at chars chars_at place text.now) }
+    ensures chars { Agrees reported (λ found. (view found.value, found.size)) result (made_at chars chars_at place text.now) }
     ensures within { IfOk result (λ found. found.size ≤ length text.now) }
 {
     let count = char_count(text);
@@ -120,7 +121,7 @@ fn char_count(text: &[u8]) -> usize
 fn read_buffer(alloc: Global, room: u8, place: u32, text: &[u8]) -> Result<Found<Term>, AmlFault>
     requires behind { 1 ≤ place }
     requires place { place + length text.now < 2 ^ 32 }
-    ensures buffer { Gives (λ found. (view found.value, found.size)) result (buffer_at room place text.now) }
+    ensures buffer { Agrees reported (λ found. (view found.value, found.size)) result (buffer_at room place text.now) }
     ensures within { IfOk result (λ found. found.size ≤ length text.now) }
 {
     if room == 0 {
@@ -133,7 +134,7 @@ fn read_buffer(alloc: Global, room: u8, place: u32, text: &[u8]) -> Result<Found
 #[tactic(auto, unfolding(aml_terms::specs::Reading::enclosed_at))]
 fn enclosed_buffer(alloc: Global, place: u32, text: &[u8]) -> Result<Found<Term>, AmlFault>
     requires { place + length text.now < 2 ^ 32 }
-    ensures buffer { Gives (λ found. (view found.value, found.size)) result (enclosed_at buffer_in place text.now) }
+    ensures buffer { Agrees reported (λ found. (view found.value, found.size)) result (enclosed_at buffer_in place text.now) }
     ensures within { IfOk result (λ found. found.size ≤ length text.now) }
 {
     let length = read_enclosing(place, text)?;
@@ -149,7 +150,7 @@ fn enclosed_buffer(alloc: Global, place: u32, text: &[u8]) -> Result<Found<Term>
 #[tactic(auto, unfolding(aml_terms::specs::Reading::buffer_in, aml_terms::specs::Reading::sized_in))]
 fn buffer_in(alloc: Global, place: u32, text: &[u8]) -> Result<Bytes, AmlFault>
     requires { place + length text.now < 2 ^ 32 }
-    ensures { Gives (λ bytes. buffer bytes) result (buffer_in place text.now) }
+    ensures { Agrees reported (λ bytes. buffer bytes) result (buffer_in place text.now) }
 {
     let size = read_integer(place, text)?;
     let content = &text[size.size..];
@@ -167,7 +168,7 @@ fn buffer_in(alloc: Global, place: u32, text: &[u8]) -> Result<Bytes, AmlFault>
 fn read_package(alloc: Global, room: u8, place: u32, text: &[u8]) -> Result<Found<Term>, AmlFault>
     requires behind { 1 ≤ place }
     requires place { place + length text.now < 2 ^ 32 }
-    ensures package { Gives (λ found. (view found.value, found.size)) result (package_at room place text.now) }
+    ensures package { Agrees reported (λ found. (view found.value, found.size)) result (package_at room place text.now) }
     ensures within { IfOk result (λ found. found.size ≤ length text.now) }
 {
     if room == 0 {
@@ -186,7 +187,7 @@ fn enclosed_package(
     text: &[u8],
 ) -> Result<Found<Term>, AmlFault>
     requires { place + length text.now < 2 ^ 32 }
-    ensures package { Gives (λ found. (view found.value, found.size)) result
+    ensures package { Agrees reported (λ found. (view found.value, found.size)) result
         (enclosed_at (package_in (value_at room)) place text.now) }
     ensures within { IfOk result (λ found. found.size ≤ length text.now) }
 {
@@ -204,7 +205,7 @@ fn enclosed_package(
 #[tactic(auto, unfolding(aml_terms::specs::Reading::package_in, aml_terms::specs::Reading::counted_in))]
 fn package_in(alloc: Global, room: u8, place: u32, text: &[u8]) -> Result<List<Term>, AmlFault>
     requires { place + length text.now < 2 ^ 32 }
-    ensures { Gives (λ values. pack (views values)) result (package_in (value_at room) place text.now) }
+    ensures { Agrees reported (λ values. pack (views values)) result (package_in (value_at room) place text.now) }
 {
     let count = read_byte(place, text)?;
     let kept = read_values(alloc, room, place + 1, &text[1..])?;
@@ -243,7 +244,7 @@ fn read_values(alloc: Global, room: u8, place: u32, text: &[u8]) -> Result<Kept,
     requires { place + length text.now < 2 ^ 32 }
     ensures values { IfOk result (λ kept. (trees : List Tree) × IsKept kept trees
         × (all_in (value_at room) place text.now ≡ Ok (trees_of trees))) }
-    ensures fault { IfErr result (λ fault. Gives views (Err fault) (all_in (value_at room) place text.now)) }
+    ensures fault { IfErr result (λ fault. Agrees reported views (Err fault) (all_in (value_at room) place text.now)) }
 {
     let mut kept = Kept {
         values: List::new(alloc),

@@ -3,12 +3,13 @@ use Rattle.std.proofs.Common.{◌≡◌, ℕ, suc, ◌+◌, ◌≤◌, List, [],
 use Rattle.std.specs.Prelude.{◌==◌, nat_lt}
 use Rattle.std.specs.List.{AllByRecursion}
 use Rattle.std.proofs.lemmas.Bool.{ltb-true, lt-ltb, eqb-true, eqb-false, eq-eqb, ne_eqb}
+use Rattle.vt_outside.specs.Readings.{◌into◌}
 use Rattle.aml_terms.specs.declared.fault.AmlFault.{AmlFault}
 use Rattle.aml_terms.specs.declared.fault.AmlFault.TheVariants.{Truncated, OutsideGrammar}
 use Rattle.aml_terms.specs.Trees.{Tree, buffer}
 use Rattle.aml_terms.specs.Lengths.{IsInteger}
 use Rattle.aml_terms.specs.Grammar.{Spelling, IsChar, IsBuffer}
-use Rattle.aml_terms.specs.Reading.{◌>>=◌, then_whole, integer_at, chars_at, sized_in, buffer_in, IsPlacedIn}
+use Rattle.aml_terms.specs.Reading.{then_whole, integer_at, chars_at, sized_in, buffer_in, IsPlacedIn}
 use Rattle.aml_terms.proofs.Choices.{held, failed, chosen, when_held, when_failed}
 use Rattle.aml_terms.proofs.ReadSteps.{Went, bind_ok, bind_err, bind_on, ok_same, err_same, no_fault, value_same, count_same}
 use Rattle.aml_terms.proofs.Readers.{farther, Front, Laws, WholeLaws, Both, then_whole_laws, Made}
@@ -37,7 +38,7 @@ chars_found (c ∷ cs) place x count e =
             );
           }
       | failed t h ↦
-          elim (chosen (nat_lt c 0x80) (chars_at (place + 1) cs >>= with_char c) (Err (OutsideGrammar place)) (Ok (x, count)) h) [
+          elim (chosen (nat_lt c 0x80) (chars_at (place + 1) cs into with_char c) (Err (OutsideGrammar place)) (Ok (x, count)) h) [
             | held u k ↦
                 let b : Went (chars_at (place + 1) cs) (with_char c) (Ok (x, count)) = bind_ok (chars_at (place + 1) cs) (with_char c) (x, count) k in
                 let f : Front IsText cs b.x.0 b.x.1 = chars_found cs (place + 1) b.x.0 b.x.1 b.is in
@@ -62,7 +63,7 @@ chars_again [] place text rest e h = ap (chars_at place) e
 chars_again (c ∷ cs) place text rest e h =
     let left : List ℕ = (cs ++ 0 ∷ []) ++ rest in
     ap (chars_at place) e ∙ when_failed (c == 0) (Ok ([], 1)) _ (ne_eqb c 0 (λ z. omega (arith, h.0.0)))
-    ∙ when_held (nat_lt c 0x80) (chars_at (place + 1) left >>= with_char c) (Err (OutsideGrammar place)) (lt-ltb c 0x80 h.0.1)
+    ∙ when_held (nat_lt c 0x80) (chars_at (place + 1) left into with_char c) (Err (OutsideGrammar place)) (lt-ltb c 0x80 h.0.1)
     ∙ bind_on (chars_at (place + 1) left) (with_char c) (cs, length (cs ++ 0 ∷ [])) (Ok (c ∷ cs, suc (length (cs ++ 0 ∷ []))))
     (chars_again cs (place + 1) left rest refl h.1) refl
 
@@ -73,7 +74,7 @@ chars_placed (c ∷ cs) place fault e =
     elim (chosen (c == 0) (Ok ([], 1)) _ (Err fault) e) [
       | held t h ↦ no_fault ([], 1) fault h
       | failed t h ↦
-          elim (chosen (nat_lt c 0x80) (chars_at (place + 1) cs >>= with_char c) (Err (OutsideGrammar place)) (Err fault) h) [
+          elim (chosen (nat_lt c 0x80) (chars_at (place + 1) cs into with_char c) (Err (OutsideGrammar place)) (Err fault) h) [
             | held u k ↦
                 elim (bind_err (chars_at (place + 1) cs) (with_char c) fault k) [
                   | inl d ↦ farther fault (place + 1 + length cs) (place + suc (length cs)) (omega arith) (chars_placed cs (place + 1) fault d)

@@ -4,12 +4,13 @@ use Rattle.std.proofs.Common.{append_assoc, arith, length-append, length-take-le
 use Rattle.std.specs.Prelude.{nat_lt, nat_le, ◌||◌}
 use Rattle.std.proofs.lemmas.Bool.{ltb-true, ltb-false, lt-ltb, le-ltb, leb-false, lt-leb}
 use Rattle.std.proofs.Math.Seq.{drop-append_seam, take-append_seam}
+use Rattle.vt_outside.specs.Readings.{◌into◌}
 use Rattle.vt_bytes.specs.Numbers.{le}
 use Rattle.aml_terms.specs.declared.fault.AmlFault.{AmlFault}
 use Rattle.aml_terms.specs.declared.fault.AmlFault.TheVariants.{BadLength}
 use Rattle.aml_terms.specs.Grammar.{Spelling, Enclosed}
 use Rattle.aml_terms.specs.Lengths.{IsLength, short, long}
-use Rattle.aml_terms.specs.Reading.{◌>>=◌, Whole, made_at, number_at, total_behind, total_at, enclosing_at, enclosed_at, IsPlacedIn}
+use Rattle.aml_terms.specs.Reading.{Whole, made_at, number_at, total_behind, total_at, enclosing_at, enclosed_at, IsPlacedIn}
 use Rattle.aml_terms.proofs.Choices.{held, failed, chosen, when_held, when_failed, neither}
 use Rattle.aml_terms.proofs.ReadSteps.{Went, bind_ok, bind_err, bind_on, err_same, no_fault, value_same, count_same}
 use Rattle.aml_terms.proofs.Readers.{Front, Laws, WholeLaws, Made, made_laws, alike, farther}
@@ -161,7 +162,7 @@ module _ {A : Type 0} (inner : Whole A) (Is : A → Spelling) (place : ℕ) wher
   counted size x = Ok (x, size.1 + size.0)
 
   abbrev inside_of : List ℕ → ℕ × ℕ → Result (A × ℕ) AmlFault
-  inside_of text size = inner (place + size.1) (body_of text size) >>= counted size
+  inside_of text size = inner (place + size.1) (body_of text size) into counted size
 
   pub enclosed_laws : ((count : ℕ) → WholeLaws inner Is (place + count)) → Laws (enclosed_at inner) (λ x. Enclosed (Is x)) place
   unfolding enclosed_at

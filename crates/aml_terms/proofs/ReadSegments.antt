@@ -4,11 +4,12 @@ use Rattle.std.proofs.Common.{inl, inr, arith, append-nil, take-add, Result, Ok,
 use Rattle.std.specs.Prelude.{◌==◌, ◌&&◌, ◌||◌, nat_le}
 use Rattle.std.specs.List.{AllByRecursion}
 use Rattle.std.proofs.lemmas.Bool.{eqb-true, eqb-false, ne_eqb, leb-true}
+use Rattle.vt_outside.specs.Readings.{◌into◌}
 use Rattle.aml_terms.specs.declared.fault.AmlFault.{AmlFault}
 use Rattle.aml_terms.specs.declared.fault.AmlFault.TheVariants.{Truncated, BadName}
 use Rattle.aml_terms.specs.Grammar.{Spelling, Then}
 use Rattle.aml_terms.specs.Paths.{HasShape, IsSegment, is_lead_char, segment_shape, joined, AreSegments, one, two, many}
-use Rattle.aml_terms.specs.Reading.{◌>>=◌, behind, then_at, made_at, byte_at, shape_at, segment_at, segments_at, counted_at, names_at, IsPlacedIn}
+use Rattle.aml_terms.specs.Reading.{behind, then_at, made_at, byte_at, shape_at, segment_at, segments_at, counted_at, names_at, IsPlacedIn}
 use Rattle.aml_terms.proofs.Choices.{held, failed, chosen, when_held, when_failed}
 use Rattle.aml_terms.proofs.ReadSteps.{Went, bind_ok, bind_err, bind_on, err_same, no_fault, value_same, count_same, ReadBehind, behind_ok}
 use Rattle.aml_terms.proofs.ReadSteps.{behind_err, behind_on}
@@ -34,7 +35,7 @@ module _ (is : ℕ → Bool) (shape : List (ℕ → Bool)) (l : (place : ℕ) �
   char_found : (place : ℕ) (text s : List ℕ) (count : ℕ) → shape_at (is ∷ shape) place text ≡ Ok (s, count) → Front (IsShaped (is ∷ shape)) text s count
   char_found place [] s count e = cc
   char_found place (c ∷ cs) s count e =
-      elim (chosen (is c) (shape_at shape (place + 1) cs >>= with_char c) (Err (BadName place)) (Ok (s, count)) e) [
+      elim (chosen (is c) (shape_at shape (place + 1) cs into with_char c) (Err (BadName place)) (Ok (s, count)) e) [
         | held t h ↦
             let b : Went (shape_at shape (place + 1) cs) (with_char c) (Ok (s, count)) = bind_ok (shape_at shape (place + 1) cs) (with_char c) (s, count) h in
             let f : Front (IsShaped shape) cs b.x.0 b.x.1 = (l (place + 1)).found cs b.x.0 b.x.1 b.is in
@@ -52,7 +53,7 @@ module _ (is : ℕ → Bool) (shape : List (ℕ → Bool)) (l : (place : ℕ) �
   char_again place text first rest [] e h = absurd h.1
   char_again place text first rest (c ∷ cs) e h =
       ap (shape_at (is ∷ shape) place) (e ∙ ap (λ first. first ++ rest) h.0)
-      ∙ when_held (is c) (shape_at shape (place + 1) (cs ++ rest) >>= with_char c) (Err (BadName place)) h.1.0
+      ∙ when_held (is c) (shape_at shape (place + 1) (cs ++ rest) into with_char c) (Err (BadName place)) h.1.0
       ∙ bind_on (shape_at shape (place + 1) (cs ++ rest)) (with_char c) (cs, length cs) (Ok (c ∷ cs, suc (length cs)))
       ((l (place + 1)).again (cs ++ rest) cs rest cs refl (refl, h.1.1)) refl
       ∙ ap (λ first. Ok (c ∷ cs, length first)) (sym h.0)
@@ -60,7 +61,7 @@ module _ (is : ℕ → Bool) (shape : List (ℕ → Bool)) (l : (place : ℕ) �
   char_placed : (place : ℕ) (text : List ℕ) (fault : AmlFault) → shape_at (is ∷ shape) place text ≡ Err fault → IsPlacedIn (place + length text) fault
   char_placed place [] fault e = subst (IsPlacedIn (place + 0)) (err_same (Truncated place) fault e) (omega arith)
   char_placed place (c ∷ cs) fault e =
-      elim (chosen (is c) (shape_at shape (place + 1) cs >>= with_char c) (Err (BadName place)) (Err fault) e) [
+      elim (chosen (is c) (shape_at shape (place + 1) cs into with_char c) (Err (BadName place)) (Err fault) e) [
         | held t h ↦
             elim (bind_err (shape_at shape (place + 1) cs) (with_char c) fault h) [
               | inl d ↦ farther fault (place + 1 + length cs) (place + suc (length cs)) (omega arith) ((l (place + 1)).placed cs fault d)

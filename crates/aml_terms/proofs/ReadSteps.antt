@@ -1,7 +1,8 @@
 -- What a reading in steps gave, step by step.
 use Rattle.std.proofs.Common.{◌≡◌, ℕ, ◌+◌, ◌⊎◌, refl, sym, ap, ◌∙◌, inl, inr, Result, Ok, Err}
+use Rattle.vt_outside.specs.Readings.{◌into◌}
 use Rattle.aml_terms.specs.declared.fault.AmlFault.{AmlFault}
-use Rattle.aml_terms.specs.Reading.{◌>>=◌, behind}
+use Rattle.aml_terms.specs.Reading.{behind}
 
 -- a step that was made, and how it went on
 pub record Went {A B : Type 0} (read : Result A AmlFault) (f : A → Result B AmlFault) (y : Result B AmlFault) : Type 0 where
@@ -9,19 +10,19 @@ pub record Went {A B : Type 0} (read : Result A AmlFault) (f : A → Result B Am
   pub is : read ≡ Ok x
   pub on : f x ≡ y
 
-pub bind_ok : {A B : Type 0} (read : Result A AmlFault) (f : A → Result B AmlFault) (y : B) → (read >>= f) ≡ Ok y → Went read f (Ok y)
+pub bind_ok : {A B : Type 0} (read : Result A AmlFault) (f : A → Result B AmlFault) (y : B) → (read into f) ≡ Ok y → Went read f (Ok y)
 bind_ok (Ok x) f y e = record { x = x; is = refl; on = e }
 bind_ok (Err d) f y e = cc
 
 -- a step that failed, or was made before the one that failed
-pub bind_err : {A B : Type 0} (read : Result A AmlFault) (f : A → Result B AmlFault) (d : AmlFault) → (read >>= f) ≡ Err d
+pub bind_err : {A B : Type 0} (read : Result A AmlFault) (f : A → Result B AmlFault) (d : AmlFault) → (read into f) ≡ Err d
     → (read ≡ Err d) ⊎ Went read f (Err d)
 bind_err (Ok x) f d e = inr (record { x = x; is = refl; on = e })
 bind_err (Err c) f d e = let same : Err c ≡ Err d = e in inl (cc)
 
 pub bind_on : {A B : Type 0} (read : Result A AmlFault) (f : A → Result B AmlFault) (x : A) (y : Result B AmlFault) → read ≡ Ok x → f x ≡ y
-    → (read >>= f) ≡ y
-bind_on read f x y e h = ap (λ r. r >>= f) e ∙ h
+    → (read into f) ≡ y
+bind_on read f x y e h = ap (λ r. r into f) e ∙ h
 
 pub ok_same : {A : Type 0} (a b : A) → ◌≡◌ {A = Result A AmlFault} (Ok a) (Ok b) → a ≡ b
 ok_same a b e = cc

@@ -2,6 +2,7 @@
 use Rattle.std.proofs.Common.{◌≡◌, ℕ, zero, suc, ◌+◌, List, ◌∷◌, length, refl, sym, ap, ◌∙◌, subst, inl, inr, arith, Result, Ok, Err}
 use Rattle.std.specs.Prelude.{◌==◌}
 use Rattle.std.proofs.lemmas.Bool.{eqb-true, eq-eqb}
+use Rattle.vt_outside.specs.Readings.{◌into◌}
 use Rattle.aml_terms.specs.declared.fault.AmlFault.{AmlFault}
 use Rattle.aml_terms.specs.declared.opcode.Opcode.{Opcode}
 use Rattle.aml_terms.specs.declared.opcode.Opcode.TheVariants.{Constant, Integer, Ones, Chars, Buffer, Package, Name, Scope, Extended, Other}
@@ -10,7 +11,7 @@ use Rattle.aml_terms.specs.Opcodes.{opcode_of}
 use Rattle.aml_terms.specs.Trees.{Tree, Trees, int, fixed, ones, chars, buffer, pack, named, scope, device}
 use Rattle.aml_terms.specs.Paths.{IsPath}
 use Rattle.aml_terms.specs.Grammar.{Spelling, Then, Enclosed, Deeper, SpellsValue, Spells, SpellAll, levels, Aml}
-use Rattle.aml_terms.specs.Reading.{◌>>=◌, Reader, Whole, made_at, path_at, all_in, enclosed_at, outside, value_at, inside, named_at, extended_at}
+use Rattle.aml_terms.specs.Reading.{Reader, Whole, made_at, path_at, all_in, enclosed_at, outside, value_at, inside, named_at, extended_at}
 use Rattle.aml_terms.specs.Reading.{term_behind, term_with, term_at, read_terms, IsPlacedIn}
 use Rattle.aml_terms.proofs.Choices.{held, failed, chosen, when_held}
 use Rattle.aml_terms.proofs.FirstBytes.{Told, is_constant, is_integer, is_ones, is_chars, is_buffer, is_package, is_name, is_scope, is_extended, is_other, told}
@@ -31,7 +32,7 @@ module _ (read : Reader Tree) (Is : Tree → Spelling) (All : Trees → Spelling
   with_path path terms = Ok (path, terms)
 
   abbrev terms_in : Path → Whole (Path × Trees)
-  terms_in path place text = all_in read place text >>= with_path path
+  terms_in path place text = all_in read place text into with_path path
 
   in_path_laws : (path : Path) (place : ℕ) → WholeLaws (terms_in path) (InPath path) place
   in_path_laws path place = let a : WholeLaws (all_in read) All place = all_laws read Is All l o place in record {

@@ -1,8 +1,10 @@
 -- What is read: for any bytes their terms, or the first fault. A reader is given the text up to the end of what encloses it, and the text's
 -- place; it gives a value and how many bytes it took. There is one for each part of the grammar, in its order (ACPI 6.5, 20.2).
-use Rattle.std.specs.Prelude.{◌≡◌, ℕ, zero, suc, ◌+◌, ◌-◌, ◌*◌, ◌/◌, ◌%◌, ◌≤◌, ⊤, Bool, true, false, ◌==◌, ◌||◌, nat_lt, nat_le, min, List, [], ◌∷◌}
+use Rattle.std.specs.Prelude.{ℕ, zero, suc, ◌+◌, ◌-◌, ◌*◌, ◌/◌, ◌%◌, ◌≤◌, Bool, true, false, ◌==◌, ◌||◌, nat_lt, nat_le, min, List, [], ◌∷◌}
 use Rattle.std.specs.Prelude.{length, take, drop, Result, Ok, Err, if◌then◌else◌}
 use Rattle.std.specs.List.{prefix_len}
+use Rattle.vt_outside.specs.Readings.{◌into◌}
+use Rattle.std.specs.Prelude.{Option, Some, None}
 use Rattle.vt_bytes.specs.Numbers.{le}
 use Rattle.aml_terms.specs.declared.term.Path.{Path}
 use Rattle.aml_terms.specs.declared.fault.AmlFault.{AmlFault}
@@ -14,11 +16,6 @@ use Rattle.aml_terms.specs.Opcodes.{opcode_of}
 use Rattle.aml_terms.specs.Paths.{segment_shape}
 use Rattle.aml_terms.specs.Grammar.{levels}
 
-infixl 10 ◌>>=◌
-abbrev pub ◌>>=◌ : {A B : Type 0} → Result A AmlFault → (A → Result B AmlFault) → Result B AmlFault
-(Ok x) >>= f = f x
-(Err e) >>= f = Err e
-
 -- a value at the front of a text, and how many bytes it took
 abbrev pub Reader : Type 0 → Type 0
 Reader A = ℕ → List ℕ → Result (A × ℕ) AmlFault
@@ -29,19 +26,19 @@ Whole A = ℕ → List ℕ → Result A AmlFault
 
 -- a value behind so many bytes more
 abbrev pub behind : {A : Type 0} → ℕ → Result (A × ℕ) AmlFault → Result (A × ℕ) AmlFault
-behind count read = read >>= λ x. Ok (x.0, count + x.1)
+behind count read = read into λ x. Ok (x.0, count + x.1)
 
 -- one value, and the one behind it
 abbrev pub then_at : {A B : Type 0} → Reader A → (A → Reader B) → Reader B
-then_at read next place text = read place text >>= λ x. behind x.1 (next x.0 (place + x.1) (drop x.1 text))
+then_at read next place text = read place text into λ x. behind x.1 (next x.0 (place + x.1) (drop x.1 text))
 
 -- one value, and what is left as another
 abbrev pub then_whole : {A B : Type 0} → Reader A → (A → Whole B) → Whole B
-then_whole read next place text = read place text >>= λ x. next x.0 (place + x.1) (drop x.1 text)
+then_whole read next place text = read place text into λ x. next x.0 (place + x.1) (drop x.1 text)
 
 -- a value made of the one that is read
 abbrev pub made_at : {A B : Type 0} → (A → B) → Reader A → Reader B
-made_at make read place text = read place text >>= λ x. Ok (make x.0, x.1)
+made_at make read place text = read place text into λ x. Ok (make x.0, x.1)
 
 abbrev pub byte_at : Reader ℕ
 byte_at place [] = Err (Truncated place)
@@ -68,23 +65,22 @@ total_at = then_at byte_at total_behind
 -- then its value, as how many bytes it encloses behind its own
 unfoldable pub enclosing_at : Reader ℕ
 enclosing_at place text =
-    total_at place text >>= λ total. (if nat_lt total.0 total.1 || nat_lt (length text) total.0 then Err (BadLength place) else Ok (total.0 - total.1, total.1))
+    total_at place text
+    into λ total. (if nat_lt total.0 total.1 || nat_lt (length text) total.0 then Err (BadLength place) else Ok (total.0 - total.1, total.1))
 
 -- what a package length encloses, read as a whole
 unfoldable pub enclosed_at : {A : Type 0} → Whole A → Reader A
-enclosed_at inner place text = do
-  size ← enclosing_at place text
-  x ← inner (place + size.1) (take size.0 (drop size.1 text))
-  Ok (x, size.1 + size.0)
+enclosed_at inner place text =
+    enclosing_at place text into λ size. inner (place + size.1) (take size.0 (drop size.1 text)) into λ x. Ok (x, size.1 + size.0)
 
 abbrev pub with_tree : Tree → Result Trees AmlFault → Result Trees AmlFault
-with_tree t read = read >>= λ ts. Ok (tree t ts)
+with_tree t read = read into λ ts. Ok (tree t ts)
 
 -- one after the other, in at most so many steps
 unfoldable pub all_from : Reader Tree → ℕ → Whole Trees
 all_from read zero place text = Ok no_trees
 all_from read (suc steps) place [] = Ok no_trees
-all_from read (suc steps) place (b ∷ bs) = read place (b ∷ bs) >>= λ t. with_tree t.0 (all_from read steps (place + t.1) (drop t.1 (b ∷ bs)))
+all_from read (suc steps) place (b ∷ bs) = read place (b ∷ bs) into λ t. with_tree t.0 (all_from read steps (place + t.1) (drop t.1 (b ∷ bs)))
 
 -- one after the other, to the end of the text
 unfoldable pub all_in : Reader Tree → Whole Trees
@@ -95,7 +91,7 @@ abbrev pub shape_at : List (ℕ → Bool) → Reader (List ℕ)
 shape_at [] place text = Ok ([], 0)
 shape_at (is ∷ shape) place [] = Err (Truncated place)
 shape_at (is ∷ shape) place (c ∷ cs) =
-    if is c then (shape_at shape (place + 1) cs >>= λ s. Ok (c ∷ s.0, suc s.1)) else Err (BadName place)
+    if is c then (shape_at shape (place + 1) cs into λ s. Ok (c ∷ s.0, suc s.1)) else Err (BadName place)
 
 unfoldable pub segment_at : Reader (List ℕ)
 segment_at = shape_at segment_shape
@@ -155,7 +151,7 @@ unfoldable pub chars_at : Reader (List ℕ)
 chars_at place [] = Err (Truncated place)
 chars_at place (c ∷ cs) =
     if c == 0 then Ok ([], 1)
-    else if nat_lt c 0x80 then (chars_at (place + 1) cs >>= λ text. Ok (c ∷ text.0, suc text.1))
+    else if nat_lt c 0x80 then (chars_at (place + 1) cs into λ text. Ok (c ∷ text.0, suc text.1))
     else Err (OutsideGrammar place)
 
 -- a buffer's size, which stands at a place, and the bytes behind it, whose number it tells
@@ -168,7 +164,7 @@ buffer_in place text = then_whole integer_at (sized_in place) place text
 -- the values behind a package's count, which tells how many they are
 unfoldable pub counted_in : Reader Tree → ℕ → Whole Tree
 counted_in read_value count place text =
-    all_in read_value place text >>= λ values. (if count == count_of values then Ok (pack values) else Err (OutsideGrammar (place - 1)))
+    all_in read_value place text into λ values. (if count == count_of values then Ok (pack values) else Err (OutsideGrammar (place - 1)))
 
 unfoldable pub package_in : Reader Tree → Whole Tree
 package_in read_value = then_whole byte_at (counted_in read_value)
@@ -196,7 +192,7 @@ value_at (suc room) = value_with (enclosed_at buffer_in) (enclosed_at (package_i
 
 -- a scope's or a device's path and terms
 unfoldable pub inside : Reader Tree → Whole (Path × Trees)
-inside read_term = then_whole path_at (λ path place text. all_in read_term place text >>= λ terms. Ok (path, terms))
+inside read_term = then_whole path_at (λ path place text. all_in read_term place text into λ terms. Ok (path, terms))
 
 -- a name's path and value
 unfoldable pub named_at : Reader Tree → Reader Tree
@@ -231,14 +227,10 @@ term_at (suc room) = term_with (value_at (suc room)) (λ back. enclosed_at (insi
 abbrev pub read_terms : List ℕ → Result Trees AmlFault
 read_terms bytes = all_in (term_at levels) 0 bytes
 
--- What a function returned, as it is seen, is what reading gives, unless memory ran out.
-abbrev pub Gives : {X Y : Type 0} → (X → Y) → Result X AmlFault → Result Y AmlFault → Type 0
-Gives seen (Ok x) read = read ≡ Ok (seen x)
-Gives seen (Err OutOfMemory) read = ⊤
-Gives seen (Err (Truncated place)) read = read ≡ Err (Truncated place)
-Gives seen (Err (BadLength place)) read = read ≡ Err (BadLength place)
-Gives seen (Err (BadName place)) read = read ≡ Err (BadName place)
-Gives seen (Err (OutsideGrammar place)) read = read ≡ Err (OutsideGrammar place)
+-- the fault that an error reports, or none where memory ran out
+abbrev pub reported : AmlFault → Option AmlFault
+reported OutOfMemory = None
+reported fault = Some fault
 
 -- a fault whose place is among so many bytes or at their end
 abbrev pub IsPlacedIn : ℕ → AmlFault → Type 0

@@ -22,20 +22,9 @@ use Rattle.table_model.proofs.OneInventory.{one_inventory}
 use Rattle.anchor_scan.specs.declared.fault.ScanFault.{ScanFault}
 use Rattle.anchor_scan.specs.declared.fault.ScanFault.TheVariants.{Acpi, Smbios, OutOfMemory}
 use Rattle.anchor_scan.specs.Shown.{HasNoAnchor, RefusesSmbios}
-use Rattle.anchor_scan.specs.Scan.{of_acpi, of_smbios, RefusesAcpi, ShowsSomeTables, Refuses, ScannedAs, OrOutOfMemory}
+use Rattle.anchor_scan.specs.Scan.{of_smbios, RefusesAcpi, ShowsSomeTables, Refuses, ScannedAs, OrOutOfMemory}
 use Rattle.anchor_scan.specs.Gathered.{IsShown, inventory_of}
 use Rattle.anchor_scan.proofs.Scanned.{none_refused, shown_is_read, told_is_refused}
-
--- a fault is told as it is, unless memory ran out
-pub acpi_told : (view : View) (fault : AcpiFault) → (fault ≡ acpi.OutOfMemory) ⊎ RefusesAcpi view fault
-    → (of_acpi fault ≡ OutOfMemory) ⊎ Refuses view (of_acpi fault)
-acpi_told view acpi.OutOfMemory is = inl refl
-acpi_told view (acpi.OutsideRam a) is = ⊎_elim (λ memory. absurd (cc memory)) (λ refuses. inr ((λ same. absurd (cc same)), refuses)) is
-acpi_told view (acpi.BadSum a) is = ⊎_elim (λ memory. absurd (cc memory)) (λ refuses. inr ((λ same. absurd (cc same)), refuses)) is
-acpi_told view (acpi.BadLength a) is = ⊎_elim (λ memory. absurd (cc memory)) (λ refuses. inr ((λ same. absurd (cc same)), refuses)) is
-acpi_told view (acpi.BadEntry a) is = ⊎_elim (λ memory. absurd (cc memory)) (λ refuses. inr ((λ same. absurd (cc same)), refuses)) is
-acpi_told view (acpi.WrongSignature a) is = ⊎_elim (λ memory. absurd (cc memory)) (λ refuses. inr ((λ same. absurd (cc same)), refuses)) is
-acpi_told view (acpi.TwiceGiven a) is = ⊎_elim (λ memory. absurd (cc memory)) (λ refuses. inr ((λ same. absurd (cc same)), refuses)) is
 
 pub smbios_told : (view : View) (fault : SmbiosFault) → ShowsSomeTables view
     → (fault ≡ smbios.OutOfMemory) ⊎ RefusesSmbios view fault → (of_smbios fault ≡ OutOfMemory) ⊎ Refuses view (of_smbios fault)

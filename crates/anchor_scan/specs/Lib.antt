@@ -11,5 +11,3 @@ pub use Rattle.smbios_model.specs.Smbios
 pub use Rattle.smbios_decode.specs.Faults
 pub use Rattle.acpi_decode.specs.Faults as AcpiFaults
 pub use Rattle.table_model.specs.Inventory
-pub use Rattle.table_describe.specs.Candidate
-pub use Rattle.table_describe.specs.Failing

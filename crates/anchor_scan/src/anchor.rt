@@ -5,9 +5,10 @@ ghost use Rattle.smbios_model.specs.Anchor.{HasAnchor};
 ghost use Rattle.anchor_scan.specs.Shown.{HasNoAnchor, IsFirstAnchor};
 ghost use Rattle.anchor_scan.specs.Found.{HasMark, HasNumbers};
 
-use crate::least::{ANCHORS_END, AnchorKind, least_anchor};
+use crate::least::{AnchorKind, least_anchor};
 use guest_memory::GuestMemory;
 use smbios_model::{Anchor, anchor_of, anchor_rows};
+use vt_bytes::BIOS_END;
 use vt_layout::{Row, read_u8, read_u32, read_u64};
 
 // The mark of an anchor, with which it begins: the standard's anchor string.
@@ -50,7 +51,7 @@ impl AnchorKind for SmbiosAnchor {
     ghost Stands = { HasAnchor };
 
     fn stands(memory: &GuestMemory, address: u64) -> bool {
-        let room = ANCHORS_END - address;
+        let room = BIOS_END - address;
         if room < ANCHOR_SIZE || !has_mark(memory, address) {
             return false;
         }

@@ -5,13 +5,11 @@ ghost use Rattle.anchor_scan.specs.Shown.{IsLeast};
 ghost use Rattle.anchor_scan.specs.Found.{IsPlace};
 
 use guest_memory::GuestMemory;
-
-/// Where anchors end: at the end of the first MiB.
-pub(crate) const ANCHORS_END: u64 = 0x10_0000;
+use vt_bytes::BIOS_END;
 
 const ANCHOR_STEP: u64 = 16;
 
-/// A kind of anchor, which stands on a multiple of 16 from an address of its own on, below 1 MiB.
+/// A kind of anchor, which stands on a multiple of 16 from an address of its own on, in a PC's BIOS area, which ends at 1 MiB.
 pub(crate) trait AnchorKind {
     /// The least address where one may stand, a multiple of 16.
     const START: u64;
@@ -40,7 +38,7 @@ pub(crate) fn least_anchor<A: AnchorKind>(memory: &GuestMemory) -> Option<u64>
     ensures none { result ≡ None ↔ ((address : ℕ) → A.Stands (seen memory.now.memory) address → ⊥) }
 {
     let mut address = A::START;
-    while address < ANCHORS_END {
+    while address < BIOS_END {
         if A::stands(memory, address) {
             return Some(address);
         }

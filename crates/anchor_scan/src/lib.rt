@@ -4,7 +4,7 @@
 //! An anchor stands on a multiple of 16 below 1 MiB. The contract is that the least valid one of each kind is found exactly, and that [`scan`]
 //! reads the inventory of a memory, which is what both lead to, exactly where the memory shows it, and else tells the first fault: that of the
 //! ACPI tables, or where these have none that of the SMBIOS structures. An anchor that isn't there is no fault. The law is that a memory is
-//! scanned in one way. The machine of an inventory, [`describe`], is passed on.
+//! scanned in one way.
 #![tactic(auto)]
 
 mod acpi;
@@ -23,5 +23,4 @@ pub use fault::ScanFault;
 pub use inventory::scan;
 pub use rsdp::find_rsdp;
 pub use smbios::scan_smbios;
-pub use table_describe::{DescribeFault, describe};
 pub use view::Seen;

@@ -5,9 +5,9 @@ ghost use Rattle.acpi_model.specs.Rsdp.{HasRsdp};
 ghost use Rattle.anchor_scan.specs.Shown.{IsLeast, HasNoRsdp};
 ghost use Rattle.anchor_scan.specs.Found.{HasRsdpSignature, HasRevisionAndSums};
 
-use crate::least::{ANCHORS_END, AnchorKind, least_anchor};
+use crate::least::{AnchorKind, least_anchor};
 use guest_memory::GuestMemory;
-use vt_bytes::byte_sum;
+use vt_bytes::{BIOS_END, BIOS_START, byte_sum};
 
 // The signature of an RSDP, with which it begins.
 const SIGNATURE: &[u8] = b"RSD PTR ";
@@ -34,14 +34,14 @@ pub fn find_rsdp(memory: &GuestMemory) -> Option<u64>
 struct RsdpAnchor;
 
 impl AnchorKind for RsdpAnchor {
-    const START: u64 = 0xE_0000;
+    const START: u64 = BIOS_START;
 
     ghost START = { 0xE0000 };
 
     ghost Stands = { HasRsdp };
 
     fn stands(memory: &GuestMemory, address: u64) -> bool {
-        if ANCHORS_END - address < RSDP_SIZE as u64 || !has_signature(memory, address) {
+        if BIOS_END - address < RSDP_SIZE as u64 || !has_signature(memory, address) {
             return false;
         }
         let mut bytes = [0; RSDP_SIZE];

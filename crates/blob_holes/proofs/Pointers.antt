@@ -1,6 +1,7 @@
 -- Pointer fields, and the numbers in them.
 use Rattle.std.proofs.Common.{◌≡◌, ℕ, ◌+◌, ◌^◌, ◌<◌, ◌≤◌, ◌⊎◌, inl, inr, List, [], ◌∷◌, ◌++◌, length, slice_index, arith, refl, ap, subst, sym, ◌∙◌}
 use Rattle.std.specs.List.{AllByRecursion}
+use Rattle.vt_bytes.proofs.PutAt.{length-put_at, index-beside_put}
 use Rattle.vt_bytes.specs.Numbers.{le, le_bytes}
 use Rattle.vt_bytes.proofs.Numbers.{length-le_bytes, le-le_bytes}
 use Rattle.vt_bytes.specs.Parts.{part, put_at}
@@ -9,7 +10,7 @@ use Rattle.vt_layout.specs.Rows.{IsPointerSize}
 use Rattle.blob_holes.specs.Blob.{IsOutsideField, AreApart, ArePointers}
 use Rattle.blob_holes.specs.Filled.{with_pointers}
 use Rattle.vt_bytes.proofs.Each.{each_weaker, each_from, each_push}
-use Rattle.blob_holes.proofs.Put.{length-put_at, part-put_at, index-put_at, part_same}
+use Rattle.blob_holes.proofs.Put.{part-put_at, part_same}
 
 -- fields stay in a file that is no shorter
 pub ArePointers-longer : (bytes more : List ℕ) (holes : List PointerHole) → length bytes ≤ length more → ArePointers bytes holes → ArePointers more holes
@@ -33,22 +34,22 @@ abbrev pub number_in : List ℕ → PointerHole → ℕ
 number_in bytes hole = le (part bytes hole.at hole.size)
 
 -- a number in its field leaves as many bytes
-length-put_number : (bytes : List ℕ) (hole : PointerHole) (number : ℕ) → hole.at + hole.size ≤ length bytes
+pub length-put_number : (bytes : List ℕ) (hole : PointerHole) (number : ℕ) → hole.at + hole.size ≤ length bytes
     → length (put_number bytes hole number) ≡ length bytes
 length-put_number bytes hole number within =
     let size = length-le_bytes hole.size number in
     length-put_at bytes hole.at (le_bytes hole.size number) (omega arith)
 
 -- and each byte outside the field
-index-put_number : (bytes : List ℕ) (hole : PointerHole) (number place : ℕ) → hole.at + hole.size ≤ length bytes → IsOutsideField place hole
+pub index-put_number : (bytes : List ℕ) (hole : PointerHole) (number place : ℕ) → hole.at + hole.size ≤ length bytes → IsOutsideField place hole
     → slice_index (put_number bytes hole number) place ≡ slice_index bytes place
 index-put_number bytes hole number place within outside =
     let size = length-le_bytes hole.size number in
     let past : (place < hole.at) ⊎ (hole.at + length (le_bytes hole.size number) ≤ place) = elim outside [ inl a ↦ inl a | inr a ↦ inr (omega arith) ] in
-    index-put_at bytes hole.at (le_bytes hole.size number) place (omega arith) past
+    index-beside_put bytes hole.at (le_bytes hole.size number) place (omega arith) past
 
 -- a number that fits is then in its field
-number-put_number : (bytes : List ℕ) (hole : PointerHole) (number : ℕ) → hole.at + hole.size ≤ length bytes → number < 256 ^ hole.size
+pub number-put_number : (bytes : List ℕ) (hole : PointerHole) (number : ℕ) → hole.at + hole.size ≤ length bytes → number < 256 ^ hole.size
     → number_in (put_number bytes hole number) hole ≡ number
 number-put_number bytes hole number within fits =
     let size = length-le_bytes hole.size number in

@@ -1,13 +1,9 @@
 -- Bytes that are put in place of others, and parts of a list.
-use Rattle.std.proofs.Common.{◌≡◌, ℕ, ◌+◌, ◌-◌, ◌<◌, ◌≤◌, ◌⊎◌, List, ◌++◌, length, slice_index, take, drop, min, arith, ap, sym, ◌∙◌, length-append}
+use Rattle.std.proofs.Common.{◌≡◌, ℕ, ◌+◌, ◌-◌, ◌<◌, ◌≤◌, List, ◌++◌, length, slice_index, take, drop, min, arith, ap, sym, ◌∙◌}
 use Rattle.std.proofs.Common.{length-take, length-drop, get_or-take, get_or-drop, append_assoc}
 use Rattle.std.proofs.lemmas.Grind.{same_number_lists}
-use Rattle.std.proofs.lemmas.List.{places, take_at, drop_at}
+use Rattle.std.proofs.lemmas.List.{take_at, drop_at}
 use Rattle.vt_bytes.specs.Parts.{part, put_at}
-
--- as many bytes as before
-pub length-put_at : (bytes : List ℕ) (at : ℕ) (piece : List ℕ) → at + length piece ≤ length bytes → length (put_at bytes at piece) ≡ length bytes
-length-put_at bytes at piece within = simp (length-append, length-take, length-drop) (omega arith)
 
 -- the bytes stand at their place
 pub part-put_at : (bytes : List ℕ) (at : ℕ) (piece : List ℕ) (n : ℕ) → at + length piece ≤ length bytes → n ≡ length piece
@@ -17,11 +13,6 @@ part-put_at bytes at piece n within size =
     ap (λ all. take n (drop at all)) (append_assoc (take at bytes) piece (drop (at + length piece) bytes))
     ∙ ap (take n) (drop_at (take at bytes) (piece ++ drop (at + length piece) bytes) at front)
     ∙ take_at piece (drop (at + length piece) bytes) n (sym size)
-
--- each other byte stays
-pub index-put_at : (bytes : List ℕ) (at : ℕ) (piece : List ℕ) (place : ℕ) → at + length piece ≤ length bytes → (place < at) ⊎ (at + length piece ≤ place)
-    → slice_index (put_at bytes at piece) place ≡ slice_index bytes place
-index-put_at bytes at piece place within outside = grind (arith, places)
 
 -- lists of one length that agree in a part have the same part
 pub part_same : (xs ys : List ℕ) (at n : ℕ) → length xs ≡ length ys → ((place : ℕ) → at ≤ place → place < at + n

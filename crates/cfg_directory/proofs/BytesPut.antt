@@ -1,15 +1,16 @@
 -- Bytes that are put into the file of a selector.
-use Rattle.std.proofs.Common.{◌≡◌, ℕ, zero, suc, ◌+◌, ◌≤◌, ◌==◌, Bool, true, false, cond, List, [], ◌∷◌, ◌++◌, length, map, take, drop, Option, Some, None}
+use Rattle.std.proofs.Common.{◌≡◌, ℕ, zero, suc, ◌+◌, ◌≤◌, ◌==◌, Bool, true, false, cond, List, [], ◌∷◌, length, map, Option, Some, None}
 use Rattle.std.proofs.Common.{slice_set, ltb, inl, inr, arith, sym, refl, ap, ap₂, subst, ◌∙◌}
 use Rattle.std.specs.Prelude.{IsSomeAnd}
 use Rattle.std.specs.List.{AllByRecursion, slice_get, position, position_or_len}
 use Rattle.std.specs.Str.{bytes_eq}
 use Rattle.std.proofs.lemmas.Bool.{ltb-false, ne_eqb, eqb-false, eqb-true, eq-eqb, cond-true, cond-false, cases_Bool, cond_both}
-use Rattle.std.proofs.lemmas.List.{length-append, length-take-le, length-drop, length-set}
+use Rattle.std.proofs.lemmas.List.{length-set}
 use Rattle.std.proofs.lemmas.List.Folds.{find_at}
 use Rattle.std.proofs.lemmas.List.Quantifiers.{position-Some}
 use Rattle.std.proofs.lemmas.List.Sums.{sum_by-set}
 use Rattle.std.proofs.lemmas.Option.{none-some, same_Some, cond_some, slice_get_within, slice_get_past, get_or_from_slice_get}
+use Rattle.vt_bytes.proofs.PutAt.{length-put_at}
 use Rattle.vt_bytes.specs.Parts.{put_at}
 use Rattle.cfg_directory.specs.declared.item.Item.{Item}
 use Rattle.cfg_directory.specs.Items.{IsItems, HasNoName, HasNoSelect, AreDistinct, total_size, with_bytes_at, selected}
@@ -86,17 +87,6 @@ put_alike select offset piece = record {
   select = λ item. cond_both (has select item) (put_in offset piece item) item (λ (i : Item). i.select ≡ item.select) (λ _. refl) (λ _. refl);
 }
 
--- bytes that fit leave the length
-pub length-put_at : (bytes piece : List ℕ) (offset : ℕ) → offset + length piece ≤ length bytes → length (put_at bytes offset piece) ≡ length bytes
-length-put_at bytes piece offset fits =
-    omega (
-      arith,
-      length-append (take offset bytes ++ piece) (drop (offset + length piece) bytes),
-      length-append (take offset bytes) piece,
-      length-take-le offset bytes (omega arith),
-      length-drop (offset + length piece) bytes,
-    )
-
 -- the item that a place of a selector is
 pub record IsFound (items : List Item) (select place : ℕ) (item : Item) : Type 0 where
   pub at : slice_get items place ≡ Some item
@@ -132,7 +122,7 @@ IsItems-put items select place item offset piece are found fits =
       arith,
       sum_by-set (λ (i : Item). length i.bytes) items place put item (slice_get_within items place item found.at),
       ap (λ (i : Item). length i.bytes) was,
-      length-put_at item.bytes piece offset fits,
+      length-put_at item.bytes offset piece fits,
     ) in
     record {
       few = omega (arith, are.few, length-set items place put);

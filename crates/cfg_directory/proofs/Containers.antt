@@ -3,14 +3,15 @@ use Rattle.std.proofs.Common.{◌≡◌, ℕ, ◌*◌, ◌≤◌, Bool, false, c
 use Rattle.std.proofs.Common.{◌∙◌, append_assoc}
 use Rattle.std.proofs.lemmas.Bool.{ltb-false, le-ltb, cond-false}
 use Rattle.std.proofs.lemmas.List.{take_at, drop_at, take-append-drop, length-append, length-take-le, length-map}
+use Rattle.vt_outside.specs.Readings.{◌into◌}
+use Rattle.vt_outside.proofs.Readings.{part_read, past_test}
 use Rattle.vt_bytes.specs.Numbers.{be}
 use Rattle.cfg_directory.specs.declared.item.Item.{Item}
 use Rattle.cfg_directory.specs.declared.listed.Listed.{Listed}
 use Rattle.cfg_directory.specs.declared.container.ImageFault.{ImageFault}
 use Rattle.cfg_directory.specs.declared.container.ImageFault.TheVariants.{Truncated, TooMany}
 use Rattle.cfg_directory.specs.Items.{file_limit}
-use Rattle.cfg_directory.specs.Container.{IsContainer, ◌>>=◌, flag_of, directory_so, flags_so, contents_so, flagged_so, counted_so, read_so}
-use Rattle.cfg_directory.proofs.Steps.{bind_ok, guard_ok}
+use Rattle.cfg_directory.specs.Container.{IsContainer, flag_of, directory_so, flags_so, contents_so, flagged_so, counted_so, read_so}
 use Rattle.cfg_directory.proofs.Entries.{said, AreSaid, AreNew, AreSaid-from_entries, AreEntries-from_said, length-entries, AreNew-from_distinct, each_new}
 use Rattle.cfg_directory.proofs.Entries.{AreDistinct-from_new, entries_read, entries_said}
 use Rattle.cfg_directory.proofs.Contents.{writable, flags_of, held_by, sizes, sizes-said, flags_read, flags_are, flags_of-map, items_stand, Stand}
@@ -32,7 +33,7 @@ read_entries n entries rest listed few size is =
     let long : ltb (length (entries ++ rest)) (64 * n) ≡ false = le-ltb (length (entries ++ rest)) (64 * n) (omega (arith, length-append entries rest)) in
     cond-false (ltb file_limit n) _ _ (le-ltb file_limit n few)
     ∙ cond-false (ltb (length (entries ++ rest)) (64 * n)) _ _ long
-    ∙ ap (λ read. read >>= (λ l. flagged_so n l (drop (64 * n) (entries ++ rest)))) is
+    ∙ ap (λ read. read into (λ l. flagged_so n l (drop (64 * n) (entries ++ rest)))) is
     ∙ ap (flagged_so n listed) (drop_at entries rest (64 * n) size)
 
 pub read_flags : (n : ℕ) (listed : List Listed) (flags rest : List ℕ) (bools : List Bool) → length flags ≡ n → flags_so 0 flags ≡ Ok bools
@@ -41,7 +42,7 @@ unfolding flagged_so
 read_flags n listed flags rest bools size is =
     let long : ltb (length (flags ++ rest)) n ≡ false = le-ltb (length (flags ++ rest)) n (omega (arith, length-append flags rest)) in
     cond-false (ltb (length (flags ++ rest)) n) _ _ long
-    ∙ ap (λ read. read >>= (λ bs. contents_so listed bs (drop n (flags ++ rest)))) (ap (flags_so 0) (take_at flags rest n size) ∙ is)
+    ∙ ap (λ read. read into (λ bs. contents_so listed bs (drop n (flags ++ rest)))) (ap (flags_so 0) (take_at flags rest n size) ∙ is)
     ∙ ap (contents_so listed bools) (drop_at flags rest n size)
 
 -- ---- a container is read
@@ -98,7 +99,7 @@ record Counted (bytes : List ℕ) (items : List Item) : Type 0 where
 counted : (bytes : List ℕ) (items : List Item) → read_so bytes ≡ Ok items → Counted bytes items
 unfolding read_so
 counted bytes items is =
-    let a = guard_ok (ltb (length bytes) 4) Truncated (counted_so (be (take 4 bytes)) (drop 4 bytes)) items is in
+    let a = past_test (ltb (length bytes) 4) Truncated (counted_so (be (take 4 bytes)) (drop 4 bytes)) items is in
     record { long = ltb-false (length bytes) 4 a.0; rest = a.1 }
 
 record Entries (n : ℕ) (bytes : List ℕ) (items : List Item) : Type 0 where
@@ -112,10 +113,10 @@ entries_of : (n : ℕ) (bytes : List ℕ) (items : List Item) → counted_so n b
 unfolding counted_so
 entries_of n bytes items is =
     let next : List Listed → Result (List Item) ImageFault = λ listed. flagged_so n listed (drop (64 * n) bytes) in
-    let step : Result (List Item) ImageFault = directory_so n 0 [] bytes >>= next in
-    let a = guard_ok (ltb file_limit n) TooMany (cond (ltb (length bytes) (64 * n)) (Err Truncated) step) items is in
-    let b = guard_ok (ltb (length bytes) (64 * n)) Truncated step items a.1 in
-    let c = bind_ok (directory_so n 0 [] bytes) next items b.1 in
+    let step : Result (List Item) ImageFault = directory_so n 0 [] bytes into next in
+    let a = past_test (ltb file_limit n) TooMany (cond (ltb (length bytes) (64 * n)) (Err Truncated) step) items is in
+    let b = past_test (ltb (length bytes) (64 * n)) Truncated step items a.1 in
+    let c = part_read (directory_so n 0 [] bytes) next items b.1 in
     record {
       few = ltb-false file_limit n a.0;
       long = ltb-false (length bytes) (64 * n) b.0;
@@ -134,8 +135,8 @@ flags_in : (n : ℕ) (listed : List Listed) (bytes : List ℕ) (items : List Ite
 unfolding flagged_so
 flags_in n listed bytes items is =
     let next : List Bool → Result (List Item) ImageFault = λ bools. contents_so listed bools (drop n bytes) in
-    let a = guard_ok (ltb (length bytes) n) Truncated (flags_so 0 (take n bytes) >>= next) items is in
-    let b = bind_ok (flags_so 0 (take n bytes)) next items a.1 in
+    let a = past_test (ltb (length bytes) n) Truncated (flags_so 0 (take n bytes) into next) items is in
+    let b = part_read (flags_so 0 (take n bytes)) next items a.1 in
     record { long = ltb-false (length bytes) n a.0; bools = b.0; flags = b.1; rest = b.2 }
 
 -- what stands behind the directory

@@ -7,13 +7,14 @@ use Rattle.std.proofs.lemmas.List.{take_at, drop_at, take-append-drop, length-ta
 use Rattle.std.proofs.lemmas.List.Concat.{length-flat_map}
 use Rattle.std.proofs.lemmas.List.Folds.{fold-map}
 use Rattle.std.proofs.lemmas.List.Sums.{sum_by-cons}
+use Rattle.vt_outside.specs.Readings.{◌into◌}
+use Rattle.vt_outside.proofs.Readings.{part_read, past_test}
 use Rattle.cfg_directory.specs.declared.item.Item.{Item}
 use Rattle.cfg_directory.specs.declared.listed.Listed.{Listed}
 use Rattle.cfg_directory.specs.declared.container.ImageFault.{ImageFault}
 use Rattle.cfg_directory.specs.declared.container.ImageFault.TheVariants.{Truncated, TooLarge, TrailingBytes}
 use Rattle.cfg_directory.specs.Items.{total_size, bytes_limit}
-use Rattle.cfg_directory.specs.Container.{◌>>=◌, flag_of, flags_so, items_so, contents_so}
-use Rattle.cfg_directory.proofs.Steps.{bind_ok, guard_ok}
+use Rattle.cfg_directory.specs.Container.{flag_of, flags_so, items_so, contents_so}
 use Rattle.cfg_directory.proofs.Entries.{said, ok_is}
 
 -- what an item's flag says, and what it holds
@@ -47,8 +48,8 @@ unfolding flags_so
 flags_read [] index = refl
 flags_read (item ∷ items) index =
     elim item.writable as (λ b. flags_so index (flag_of b ∷ flags_of items) ≡ Ok (b ∷ map writable items)) [
-      | false ↦ ap (λ read. read >>= (λ rest. Ok (false ∷ rest))) (flags_read items (index + 1))
-      | true ↦ ap (λ read. read >>= (λ rest. Ok (true ∷ rest))) (flags_read items (index + 1))
+      | false ↦ ap (λ read. read into (λ rest. Ok (false ∷ rest))) (flags_read items (index + 1))
+      | true ↦ ap (λ read. read into (λ rest. Ok (true ∷ rest))) (flags_read items (index + 1))
     ]
 
 -- flags that were read are those of the answers
@@ -56,10 +57,10 @@ pub flags_are : (flags : List ℕ) (index : ℕ) (bools : List Bool) → flags_s
 unfolding flags_so
 flags_are [] index bools is = ap (map flag_of) (sym (ok_is [] bools is))
 flags_are (zero ∷ flags) index bools is =
-    let rest = bind_ok (flags_so (index + 1) flags) (λ others. Ok (false ∷ others)) bools is in
+    let rest = part_read (flags_so (index + 1) flags) (λ others. Ok (false ∷ others)) bools is in
     ap (map flag_of) (sym (ok_is (false ∷ rest.0) bools rest.2)) ∙ ap (λ (fs : List ℕ). 0 ∷ fs) (flags_are flags (index + 1) rest.0 rest.1)
 flags_are (suc zero ∷ flags) index bools is =
-    let rest = bind_ok (flags_so (index + 1) flags) (λ others. Ok (true ∷ others)) bools is in
+    let rest = part_read (flags_so (index + 1) flags) (λ others. Ok (true ∷ others)) bools is in
     ap (map flag_of) (sym (ok_is (true ∷ rest.0) bools rest.2)) ∙ ap (λ (fs : List ℕ). 1 ∷ fs) (flags_are flags (index + 1) rest.0 rest.1)
 flags_are (suc (suc flag) ∷ flags) index bools is = absurd cc
 
@@ -139,9 +140,9 @@ contents_were listed bools contents items is =
     let all : Result (List Item) ImageFault = Ok (items_so listed bools contents) in
     let exact : Result (List Item) ImageFault = cond (ltb (sizes listed) (length contents)) (Err TrailingBytes) all in
     let long : Result (List Item) ImageFault = cond (ltb (length contents) (sizes listed)) (Err Truncated) exact in
-    let a = guard_ok (ltb bytes_limit (sizes listed)) TooLarge long items is in
-    let b = guard_ok (ltb (length contents) (sizes listed)) Truncated exact items a.1 in
-    let c = guard_ok (ltb (sizes listed) (length contents)) TrailingBytes all items b.1 in
+    let a = past_test (ltb bytes_limit (sizes listed)) TooLarge long items is in
+    let b = past_test (ltb (length contents) (sizes listed)) Truncated exact items a.1 in
+    let c = past_test (ltb (sizes listed) (length contents)) TrailingBytes all items b.1 in
     let low = ltb-false (length contents) (sizes listed) b.0 in
     let high = ltb-false (sizes listed) (length contents) c.0 in
     record {

@@ -9,6 +9,9 @@ use Rattle.std.proofs.lemmas.List.{append-nil, take_at, drop_at, length-append, 
 use Rattle.std.proofs.lemmas.List.Folds.{list_any-append}
 use Rattle.vt_outside.specs.Name.{name_of, before_nul}
 use Rattle.vt_outside.specs.declared.name.NameFault.{NameFault}
+use Rattle.vt_outside.specs.Readings.{◌into◌}
+use Rattle.vt_outside.proofs.Texts.{other_turned}
+use Rattle.vt_outside.proofs.Readings.{part_read, past_test}
 use Rattle.vt_bytes.specs.Numbers.{be}
 use Rattle.vt_bytes.specs.View.{view_of}
 use Rattle.vt_layout.specs.Shown.{LayoutShown}
@@ -19,10 +22,8 @@ use Rattle.cfg_directory.specs.declared.listed.Listed.{Listed}
 use Rattle.cfg_directory.specs.declared.container.ImageFault.{ImageFault}
 use Rattle.cfg_directory.specs.declared.container.ImageFault.TheVariants.{TwiceNamed, BadSelect, TwiceSelected}
 use Rattle.cfg_directory.specs.Items.{entry_rows, IsFileSelect, HasNoName, HasNoSelect, AreDistinct}
-use Rattle.cfg_directory.specs.Container.{◌>>=◌, AreEntries, listed_so, entry_so, directory_so}
-use Rattle.cfg_directory.proofs.Names.{other_name}
+use Rattle.cfg_directory.specs.Container.{AreEntries, listed_so, entry_so, directory_so}
 use Rattle.cfg_directory.proofs.OneMoreItem.{other_select}
-use Rattle.cfg_directory.proofs.Steps.{bind_ok, guard_ok}
 
 -- whether an entry has the name, and the selector
 abbrev pub is_named : List ℕ → Listed → Bool
@@ -89,7 +90,7 @@ each_pushed : (before : List Listed) (one : Item) (items : List Item) → AllByR
     → HasNoName items one.name → HasNoSelect items one.select → AllByRecursion (λ (item : Item). IsNew (before ++ said one ∷ []) (said item)) items
 each_pushed before one [] new names selects = tt
 each_pushed before one (item ∷ items) new names selects = (
-  IsNew-push before (said one) (said item) new.0 (other_name item.name one.name names.0) (other_select item.select one.select selects.0),
+  IsNew-push before (said one) (said item) new.0 (other_turned item.name one.name names.0) (other_select item.select one.select selects.0),
   each_pushed before one items new.1 names.1 selects.1,
 )
 
@@ -136,7 +137,7 @@ Apart-from before one (item ∷ items) each =
     let rest = Apart-from before one items each.1 in
     record {
       new = (other.new, rest.new);
-      names = (other_name one.name item.name other.name, rest.names);
+      names = (other_turned one.name item.name other.name, rest.names);
       selects = (other_select one.select item.select other.select, rest.selects);
     }
 
@@ -201,7 +202,7 @@ entries_read (one ∷ listed) index before bytes rest said new =
     let back : drop 64 (bytes ++ rest) ≡ others ++ rest = ap (drop 64) parts ∙ drop_at entry (others ++ rest) 64 said.3.size in
     let first : entry_so index before (take 64 (bytes ++ rest)) ≡ Ok one = ap (entry_so index before) front
     ∙ entry_read index before entry one said.3 new.0 new.1 in
-    ap (λ read. read >>= (λ l. directory_so (length listed) (index + 1) (before ++ l ∷ []) (drop 64 (bytes ++ rest)))) first
+    ap (λ read. read into (λ l. directory_so (length listed) (index + 1) (before ++ l ∷ []) (drop 64 (bytes ++ rest)))) first
     ∙ ap (directory_so (length listed) (index + 1) (before ++ one ∷ [])) back
     ∙ entries_read listed (index + 1) (before ++ one ∷ []) others rest said.4 new.2
     ∙ ap (λ (l : List Listed). Ok l) (append_assoc before (one ∷ []) listed)
@@ -228,9 +229,9 @@ fields_from index before size select (Ok name) listed is =
     let one : Result Listed ImageFault = Ok (record { name = name; select = select; size = size }) in
     let by_select : Result Listed ImageFault = cond (list_any (is_selected select) before) (Err (TwiceSelected index)) one in
     let by_file : Result Listed ImageFault = cond (not lawful) (Err (BadSelect index)) by_select in
-    let names = guard_ok (list_any (is_named name) before) (TwiceNamed index) by_file listed is in
-    let file = guard_ok (not lawful) (BadSelect index) by_select listed names.1 in
-    let selects = guard_ok (list_any (is_selected select) before) (TwiceSelected index) one listed file.1 in
+    let names = past_test (list_any (is_named name) before) (TwiceNamed index) by_file listed is in
+    let file = past_test (not lawful) (BadSelect index) by_select listed names.1 in
+    let selects = past_test (list_any (is_selected select) before) (TwiceSelected index) one listed file.1 in
     let in_range = and_parts (leb 0x20 select) (leb select 0x3FFF) (not-false lawful file.0) in
     subst (λ (l : Listed). Fields before size select (Ok name) l) (ok_is (record { name = name; select = select; size = size }) listed selects.1) (record {
       size = refl;
@@ -293,7 +294,7 @@ entries_said zero index before bytes all long is = record {
 }
 entries_said (suc count) index before bytes all long is =
     let next : Listed → Result (List Listed) ImageFault = λ l. directory_so count (index + 1) (before ++ l ∷ []) (drop 64 bytes) in
-    let first = bind_ok (entry_so index before (take 64 bytes)) next all is in
+    let first = part_read (entry_so index before (take 64 bytes)) next all is in
     let one = first.0 in
     let fields = entry_said index before (take 64 bytes) one first.1 in
     let said = IsSaid-from before (take 64 bytes) one (length-take-le 64 bytes (omega arith)) fields in

@@ -3,12 +3,13 @@ use Rattle.std.proofs.Common.{◌≡◌, ℕ, ◌+◌, ◌*◌, ◌<◌, ◌≤�
 use Rattle.std.proofs.Common.{arith, sym, ap, ap₂, subst, ◌∙◌, inl}
 use Rattle.std.proofs.lemmas.Bool.{lt-ltb, le-ltb, cond-true, cond-false}
 use Rattle.std.proofs.lemmas.List.{append-nil, take-append-le, drop-append-le, take_at, drop_at, take_all, drop-drop, length-append, length-drop}
+use Rattle.vt_outside.specs.Readings.{◌into◌, Agrees}
 use Rattle.vt_bytes.specs.Numbers.{be}
 use Rattle.cfg_directory.specs.declared.listed.Listed.{Listed}
 use Rattle.cfg_directory.specs.declared.container.ImageFault.{ImageFault}
 use Rattle.cfg_directory.specs.declared.container.ImageFault.TheVariants.{Truncated, TrailingBytes, TooLarge}
 use Rattle.cfg_directory.specs.Items.{bytes_limit}
-use Rattle.cfg_directory.specs.Container.{◌>>=◌, Gives, HasEntries, directory_so, flags_so, items_so, contents_so, flagged_so, counted_so, read_so}
+use Rattle.cfg_directory.specs.Container.{HasEntries, directory_so, flags_so, items_so, contents_so, flagged_so, counted_so, read_so, reported}
 use Rattle.cfg_directory.specs.Parts.{directory_at, flags_at}
 use Rattle.cfg_directory.specs.Held.{HasCount, HasListed, Opens, IsRefusal, sizes_of}
 use Rattle.cfg_directory.proofs.Entries.{entries_said}
@@ -33,11 +34,11 @@ abbrev first : {A B : Type 0} → A → Result (A × B) ImageFault → A
 first other (Ok pair) = pair.0
 first other (Err fault) = other
 
-first_of : {A B : Type 0} (step : Result A ImageFault) (b : B) (x : A) (y : B) → (step >>= paired b) ≡ paired y x → step ≡ Ok x
+first_of : {A B : Type 0} (step : Result A ImageFault) (b : B) (x : A) (y : B) → (step into paired b) ≡ paired y x → step ≡ Ok x
 first_of (Ok a) b x y is = ap (λ n. Ok n) (ap (first a) is)
 first_of (Err fault) b x y is = absurd cc
 
-fault_of : {A B : Type 0} (step : Result A ImageFault) (b : B) (fault : ImageFault) → (step >>= paired b) ≡ Err fault → step ≡ Err fault
+fault_of : {A B : Type 0} (step : Result A ImageFault) (b : B) (fault : ImageFault) → (step into paired b) ≡ Err fault → step ≡ Err fault
 fault_of (Ok a) b fault is = absurd cc
 fault_of (Err other) b fault is =
     let same : other ≡ fault = cc in
@@ -62,16 +63,17 @@ HasListed-from head count listed rest has there is = record {
 }
 
 pub entries_refused : (head bytes : List ℕ) (count : ℕ) (fault : ImageFault) → HasCount head count
-    → 4 + 64 * count ≤ length head → bytes ≡ drop 4 head → Gives (λ (x : List Listed × List ℕ). x) (Err fault) (directory_at count bytes) → IsRefusal head fault
+    → 4 + 64 * count ≤ length head → bytes ≡ drop 4 head
+    → Agrees reported (λ (x : List Listed × List ℕ). x) (Err fault) (directory_at count bytes) → IsRefusal head fault
 entries_refused head bytes count fault has there bytes_are told =
-    let gives = subst (λ (b : List ℕ). Gives (λ (x : List Listed × List ℕ). x) (Err fault) (directory_at count b)) bytes_are told in
+    let gives = subst (λ (b : List ℕ). Agrees reported (λ (x : List Listed × List ℕ). x) (Err fault) (directory_at count b)) bytes_are told in
     let long = long_entries head count there in
     let step = directory_so count 0 [] (drop 4 head) in
     let fails : (f : ImageFault) → directory_at count (drop 4 head) ≡ Err f → step ≡ Err f = λ f is.
     fault_of step (drop (64 * count) (drop 4 head)) f (sym (directory_at-long count (drop 4 head) long) ∙ is) in
     refused fault (directory_at count (drop 4 head)) head gives (λ is. directory_there Truncated tt count 0 [] (drop 4 head) (fails Truncated is))
     (λ f is. counts head count has ∙ entered count (drop 4 head) has.few long
-    ∙ ap (λ read. read >>= (λ listed. flagged_so count listed (drop (64 * count) (drop 4 head)))) (fails f is))
+    ∙ ap (λ read. read into (λ listed. flagged_so count listed (drop (64 * count) (drop 4 head)))) (fails f is))
     (HasEntries-from head count has there)
 
 -- there are as many entries as files
@@ -92,7 +94,7 @@ listed_says head count listed rest has =
     ∙ ap₂ (λ (front after : List ℕ). counted_so (be front) after) (take-append-le 4 head rest four) (drop-append-le 4 head rest four)
     ∙ ap (λ n. counted_so n (drop 4 head ++ rest)) has.counted.is
     ∙ entered count (drop 4 head ++ rest) has.counted.few (omega (arith, length-append (drop 4 head) rest))
-    ∙ ap₂ (λ (read : Result (List Listed) ImageFault) (after : List ℕ). read >>= (λ l. flagged_so count l after))
+    ∙ ap₂ (λ (read : Result (List Listed) ImageFault) (after : List ℕ). read into (λ l. flagged_so count l after))
     (directory-append count 0 [] (drop 4 head) rest long ∙ has.says) (drop-append-le (64 * count) (drop 4 head) rest long)
     ∙ ap (λ (after : List ℕ). flagged_so count listed (after ++ rest)) behind
 
@@ -122,9 +124,9 @@ Whole-from head count size =
 
 pub flags_refused : (head bytes : List ℕ) (count : ℕ) (listed : List Listed) (fault : ImageFault)
     → HasListed head count listed → length head ≡ 4 + 65 * count → bytes ≡ drop (4 + 64 * count) head
-    → Gives (λ (x : List Bool × List ℕ). x) (Err fault) (flags_at count bytes) → IsRefusal head fault
+    → Agrees reported (λ (x : List Bool × List ℕ). x) (Err fault) (flags_at count bytes) → IsRefusal head fault
 flags_refused head bytes count listed fault has size bytes_are told =
-    let gives = subst (λ (b : List ℕ). Gives (λ (x : List Bool × List ℕ). x) (Err fault) (flags_at count b)) bytes_are told in
+    let gives = subst (λ (b : List ℕ). Agrees reported (λ (x : List Bool × List ℕ). x) (Err fault) (flags_at count b)) bytes_are told in
     let tail = drop (4 + 64 * count) head in
     let whole = Whole-from head count size in
     let step = flags_so 0 (take count tail) in
@@ -132,7 +134,7 @@ flags_refused head bytes count listed fault has size bytes_are told =
     fault_of step (drop count tail) f (sym (flags_at-long count tail whole.long) ∙ is) in
     refused fault (flags_at count tail) head gives (λ is. flags_there Truncated tt 0 (take count tail) (fails Truncated is))
     (λ f is. listed_alone head count listed has ∙ flagged count listed tail whole.long
-    ∙ ap (λ read. read >>= (λ flags. contents_so listed flags (drop count tail))) (fails f is))
+    ∙ ap (λ read. read into (λ flags. contents_so listed flags (drop count tail))) (fails f is))
     (HasEntries-from head count has.counted has.there)
 
 -- what follows the flags
@@ -147,9 +149,9 @@ opens head count listed flags after rest has size is =
     ap (flags_so 0) (sym whole.all) ∙ first_of (flags_so 0 (take count tail)) (drop count tail) flags after (sym (flags_at-long count tail whole.long) ∙ is) in
     listed_says head count listed rest has
     ∙ flagged count listed (tail ++ rest) (omega (arith, length-append tail rest))
-    ∙ ap₂ (λ (front behind : List ℕ). flags_so 0 front >>= (λ bools. contents_so listed bools behind)) (take_at tail rest count as_many)
+    ∙ ap₂ (λ (front behind : List ℕ). flags_so 0 front into (λ bools. contents_so listed bools behind)) (take_at tail rest count as_many)
     (drop_at tail rest count as_many)
-    ∙ ap (λ read. read >>= (λ bools. contents_so listed bools rest)) said
+    ∙ ap (λ read. read into (λ bools. contents_so listed bools rest)) said
 
 pub Opens-from : (head : List ℕ) (count : ℕ) (listed : List Listed) (flags : List Bool) (after : List ℕ) → HasListed head count listed
     → length head ≡ 4 + 65 * count → flags_at count (drop (4 + 64 * count) head) ≡ Ok (flags, after) → sizes_of listed ≤ bytes_limit

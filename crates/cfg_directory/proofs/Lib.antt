@@ -1,7 +1,5 @@
-pub mod Names
 pub mod OneMoreItem
 pub mod BytesPut
-pub mod Steps
 pub mod Parts
 pub mod Entries
 pub mod Contents

@@ -5,10 +5,10 @@ use Rattle.std.specs.Str.{bytes_eq}
 use Rattle.std.proofs.lemmas.Bool.{ne_eqb, eqb-false}
 use Rattle.std.proofs.lemmas.List.{length_push}
 use Rattle.std.proofs.lemmas.List.Sums.{sum_by_push}
+use Rattle.vt_outside.proofs.Texts.{other_turned}
 use Rattle.vt_bytes.proofs.Each.{each_push}
 use Rattle.cfg_directory.specs.declared.item.Item.{Item}
 use Rattle.cfg_directory.specs.Items.{IsItems, IsFileSelect, HasNoName, HasNoSelect, AreDistinct, AreNumberedFrom, total_size, file_limit, bytes_limit}
-use Rattle.cfg_directory.proofs.Names.{other_name}
 
 -- numbers that differ do so from either side
 pub other_select : (a b : ℕ) → (a == b) ≡ false → (b == a) ≡ false
@@ -19,7 +19,7 @@ pub AreDistinct-push : (items : List Item) (item : Item) → AreDistinct items �
     → IsFileSelect item.select → AreDistinct (items ++ item ∷ [])
 AreDistinct-push [] item distinct names selects is_select = (tt, tt, is_select, tt)
 AreDistinct-push (first ∷ items) item distinct names selects is_select = (
-  each_push (λ (other : Item). bytes_eq other.name first.name ≡ false) items item distinct.0 (other_name first.name item.name names.0),
+  each_push (λ (other : Item). bytes_eq other.name first.name ≡ false) items item distinct.0 (other_turned first.name item.name names.0),
   each_push (λ (other : Item). (other.select == first.select) ≡ false) items item distinct.1 (other_select first.select item.select selects.0),
   distinct.2,
   AreDistinct-push items item distinct.3 names.1 selects.1 is_select,

@@ -5,18 +5,19 @@ use Rattle.std.specs.List.{position, position_or_len}
 use Rattle.std.proofs.lemmas.Bool.{lt-ltb, le-ltb, ltb-true, ltb-false, cond-true, cond-false, cases_Bool}
 use Rattle.std.proofs.lemmas.List.{append-nil, drop_more, drop_all, get_or-map, length-map}
 use Rattle.std.proofs.lemmas.Option.{none-some, cond_some}
+use Rattle.vt_outside.specs.Readings.{◌into◌}
 use Rattle.cfg_directory.specs.declared.item.Item.{Item}
 use Rattle.cfg_directory.specs.declared.listed.Listed.{Listed}
 use Rattle.cfg_directory.specs.declared.container.ImageFault.{ImageFault}
 use Rattle.cfg_directory.specs.declared.container.ImageFault.TheVariants.{Truncated, BadFlag}
-use Rattle.cfg_directory.specs.Container.{◌>>=◌, entry_so, directory_so, flags_so, item_so, items_so}
+use Rattle.cfg_directory.specs.Container.{entry_so, directory_so, flags_so, item_so, items_so}
 use Rattle.cfg_directory.specs.Parts.{is_set, directory_at, flags_at}
 
 -- ---- the directory
 
 -- where the entries are there, they are read
 pub directory_at-long : (count : ℕ) (bytes : List ℕ) → 64 * count ≤ length bytes
-    → directory_at count bytes ≡ (directory_so count 0 [] bytes >>= (λ listed. Ok (listed, drop (64 * count) bytes)))
+    → directory_at count bytes ≡ (directory_so count 0 [] bytes into (λ listed. Ok (listed, drop (64 * count) bytes)))
 unfolding directory_at
 directory_at-long count bytes long = cond-false (ltb (length bytes) (64 * count)) _ _ (le-ltb _ _ long)
 
@@ -34,7 +35,7 @@ entry_goes_on count index before bytes listed total within is so_far =
     let one_less : count - index ≡ suc (count - (index + 1)) = omega arith in
     let one : directory_so (count - index) index before bytes ≡ directory_so (count - (index + 1)) (index + 1) (before ++ listed ∷ []) (drop 64 bytes) =
     ap (λ left. directory_so left index before bytes) one_less
-    ∙ ap (λ read. read >>= (λ l. directory_so (count - (index + 1)) (index + 1) (before ++ l ∷ []) (drop 64 bytes))) is in
+    ∙ ap (λ read. read into (λ l. directory_so (count - (index + 1)) (index + 1) (before ++ l ∷ []) (drop 64 bytes))) is in
     sym one ∙ so_far
 
 -- the fault of an entry is the directory's
@@ -46,8 +47,8 @@ entry_fails count index before rest bytes within long so_far fault is =
     let one_less : count - index ≡ suc (count - (index + 1)) = omega arith in
     let one : directory_so (count - index) index before rest ≡ Err fault =
     ap (λ left. directory_so left index before rest) one_less
-    ∙ ap (λ read. read >>= (λ l. directory_so (count - (index + 1)) (index + 1) (before ++ l ∷ []) (drop 64 rest))) is in
-    directory_at-long count bytes long ∙ ap (λ read. read >>= (λ listed. Ok (listed, drop (64 * count) bytes))) (sym so_far ∙ one)
+    ∙ ap (λ read. read into (λ l. directory_so (count - (index + 1)) (index + 1) (before ++ l ∷ []) (drop 64 rest))) is in
+    directory_at-long count bytes long ∙ ap (λ read. read into (λ listed. Ok (listed, drop (64 * count) bytes))) (sym so_far ∙ one)
 
 -- behind the last entry the directory is read
 pub entries_done : (count index : ℕ) (listed : List Listed) (rest bytes : List ℕ) → index ≡ count → 64 * count ≤ length bytes
@@ -59,7 +60,7 @@ entries_done count index listed rest bytes at_end long so_far rest_is =
     let one : directory_so (count - index) index listed rest ≡ Ok listed = ap (λ left. directory_so left index listed rest) none_left in
     let rest_at : drop (64 * count) bytes ≡ rest = sym (rest_is ∙ ap (λ n. drop (64 * n) bytes) at_end) in
     directory_at-long count bytes long
-    ∙ ap (λ read. read >>= (λ l. Ok (l, drop (64 * count) bytes))) (sym so_far ∙ one)
+    ∙ ap (λ read. read into (λ l. Ok (l, drop (64 * count) bytes))) (sym so_far ∙ one)
     ∙ ap (λ (after : List ℕ). Ok (listed, after)) rest_at
 
 -- ---- the flags
@@ -75,10 +76,10 @@ unfolding flags_so
 first_bad [] index within = absurd (omega arith)
 first_bad (zero ∷ flags) index within =
     let later : index + 1 + position_or_len is_bad flags ≡ index + (1 + position_or_len is_bad flags) = omega arith in
-    ap (λ read. read >>= (λ rest. Ok (false ∷ rest))) (first_bad flags (index + 1) (omega arith)) ∙ ap (λ place. Err (BadFlag place)) later
+    ap (λ read. read into (λ rest. Ok (false ∷ rest))) (first_bad flags (index + 1) (omega arith)) ∙ ap (λ place. Err (BadFlag place)) later
 first_bad (suc zero ∷ flags) index within =
     let later : index + 1 + position_or_len is_bad flags ≡ index + (1 + position_or_len is_bad flags) = omega arith in
-    ap (λ read. read >>= (λ rest. Ok (true ∷ rest))) (first_bad flags (index + 1) (omega arith)) ∙ ap (λ place. Err (BadFlag place)) later
+    ap (λ read. read into (λ rest. Ok (true ∷ rest))) (first_bad flags (index + 1) (omega arith)) ∙ ap (λ place. Err (BadFlag place)) later
 first_bad (suc (suc flag) ∷ flags) index within =
     let first : position_or_len is_bad (suc (suc flag) ∷ flags) ≡ 0 =
     ap (λ bad. cond (not bad) (1 + position_or_len is_bad flags) 0) (lt-ltb 1 (suc (suc flag)) (omega arith)) in
@@ -90,9 +91,9 @@ none_bad : (flags : List ℕ) (index : ℕ) → length flags ≤ position_or_len
 unfolding flags_so
 none_bad [] index none = refl
 none_bad (zero ∷ flags) index none =
-    ap (λ read. read >>= (λ rest. Ok (false ∷ rest))) (none_bad flags (index + 1) (omega arith))
+    ap (λ read. read into (λ rest. Ok (false ∷ rest))) (none_bad flags (index + 1) (omega arith))
 none_bad (suc zero ∷ flags) index none =
-    ap (λ read. read >>= (λ rest. Ok (true ∷ rest))) (none_bad flags (index + 1) (omega arith))
+    ap (λ read. read into (λ rest. Ok (true ∷ rest))) (none_bad flags (index + 1) (omega arith))
 none_bad (suc (suc flag) ∷ flags) index none =
     let first : position_or_len is_bad (suc (suc flag) ∷ flags) ≡ 0 =
     ap (λ bad. cond (not bad) (1 + position_or_len is_bad flags) 0) (lt-ltb 1 (suc (suc flag)) (omega arith)) in
@@ -100,7 +101,7 @@ none_bad (suc (suc flag) ∷ flags) index none =
 
 -- where the flags are there, they are read
 pub flags_at-long : (count : ℕ) (bytes : List ℕ) → count ≤ length bytes
-    → flags_at count bytes ≡ (flags_so 0 (take count bytes) >>= (λ flags. Ok (flags, drop count bytes)))
+    → flags_at count bytes ≡ (flags_so 0 (take count bytes) into (λ flags. Ok (flags, drop count bytes)))
 unfolding flags_at
 flags_at-long count bytes long = cond-false (ltb (length bytes) count) _ _ (le-ltb _ _ long)
 
@@ -123,14 +124,14 @@ flag_fails count place bytes flags long is found =
     let bad : flags_so 0 flags ≡ Err (BadFlag place) =
     first_bad flags 0 (ltb-true _ _ parts.0) ∙ ap (λ k. Err (BadFlag k)) (zero_more (position_or_len is_bad flags) ∙ parts.1) in
     flags_at-long count bytes long
-    ∙ ap (λ read. read >>= (λ bools. Ok (bools, drop count bytes))) (ap (flags_so 0) (sym is) ∙ bad)
+    ∙ ap (λ read. read into (λ bools. Ok (bools, drop count bytes))) (ap (flags_so 0) (sym is) ∙ bad)
 
 pub flags_read : (count : ℕ) (bytes flags rest : List ℕ) → count ≤ length bytes → flags ≡ take count bytes → rest ≡ drop count bytes
     → position is_bad flags ≡ None → flags_at count bytes ≡ Ok (map is_set flags, rest)
 flags_read count bytes flags rest long is rest_is none =
     let good : flags_so 0 flags ≡ Ok (map is_set flags) = none_bad flags 0 (ltb-false _ _ (no_place is_bad flags none)) in
     flags_at-long count bytes long
-    ∙ ap (λ read. read >>= (λ bools. Ok (bools, drop count bytes))) (ap (flags_so 0) (sym is) ∙ good)
+    ∙ ap (λ read. read into (λ bools. Ok (bools, drop count bytes))) (ap (flags_so 0) (sym is) ∙ good)
     ∙ ap (λ (after : List ℕ). Ok (map is_set flags, after)) (sym rest_is)
 
 -- ---- the items

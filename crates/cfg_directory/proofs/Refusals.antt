@@ -6,6 +6,7 @@ use Rattle.std.specs.List.{list_any}
 use Rattle.std.specs.Str.{bytes_eq}
 use Rattle.std.proofs.lemmas.List.{take-append-le, drop-append-le, length-append}
 use Rattle.vt_outside.specs.declared.name.NameFault.{NameFault}
+use Rattle.vt_outside.specs.Readings.{◌into◌, Agrees}
 use Rattle.vt_bytes.specs.Numbers.{be}
 use Rattle.vt_layout.specs.Reading.{read_number, read_name}
 use Rattle.cfg_directory.specs.declared.item.Item.{Item}
@@ -14,7 +15,7 @@ use Rattle.cfg_directory.specs.declared.container.ImageFault.{ImageFault}
 use Rattle.cfg_directory.specs.declared.container.ImageFault.TheVariants.{Truncated, TooMany, BadName, TwiceNamed, TwiceSelected, BadSelect, BadFlag}
 use Rattle.cfg_directory.specs.declared.container.ImageFault.TheVariants.{TrailingBytes, TooLarge, OutOfMemory}
 use Rattle.cfg_directory.specs.Items.{file_limit, bytes_limit, entry_rows}
-use Rattle.cfg_directory.specs.Container.{◌>>=◌, Gives, HasEntries, listed_so, entry_so, directory_so, flags_so, items_so, contents_so, flagged_so}
+use Rattle.cfg_directory.specs.Container.{HasEntries, listed_so, entry_so, directory_so, flags_so, items_so, contents_so, flagged_so, reported}
 use Rattle.cfg_directory.specs.Container.{counted_so, read_so}
 use Rattle.cfg_directory.specs.Fed.{Refuses, judged_by, judged}
 use Rattle.cfg_directory.specs.Held.{IsRefusal, sizes_of}
@@ -69,7 +70,7 @@ guarded other true fault rest differs behind is =
 guarded other false fault rest differs behind is = behind is
 
 bound : {A B : Type 0} (other : ImageFault) (step : Result A ImageFault) (next : A → Result B ImageFault) → (step ≡ Err other → ⊥)
-    → ((x : A) → next x ≡ Err other → ⊥) → (step >>= next) ≡ Err other → ⊥
+    → ((x : A) → next x ≡ Err other → ⊥) → (step into next) ≡ Err other → ⊥
 bound other (Ok x) next first behind is = behind x is
 bound other (Err fault) next first behind is =
     let same : fault ≡ other = cc in
@@ -147,7 +148,7 @@ reading_there bytes is =
 
 -- ---- what a call that judges a part tells
 
-pub refused : {A : Type 0} (fault : ImageFault) (step : Result A ImageFault) (bytes : List ℕ) → Gives (λ (x : A). x) (Err fault) step
+pub refused : {A : Type 0} (fault : ImageFault) (step : Result A ImageFault) (bytes : List ℕ) → Agrees reported (λ (x : A). x) (Err fault) step
     → (step ≡ Err Truncated → ⊥) → ((f : ImageFault) → step ≡ Err f → read_so bytes ≡ Err f) → HasEntries bytes → IsRefusal bytes fault
 refused OutOfMemory step bytes gives there is entries = inr (refl, entries)
 refused Truncated step bytes gives there is entries = absurd (there gives)

@@ -7,12 +7,13 @@ use Rattle.std.proofs.lemmas.Bool.{eqb-true, cond-true, cond-false, cases_Bool}
 use Rattle.std.proofs.lemmas.List.{length-map}
 use Rattle.std.proofs.lemmas.Option.{none-some, same_Some}
 use Rattle.std.proofs.lemmas.Simd.{map-map}
+use Rattle.vt_bytes.proofs.PutAt.{length-put_at}
 use Rattle.cfg_directory.specs.declared.item.Item.{Item}
 use Rattle.cfg_directory.specs.declared.listed.Listed.{Listed}
 use Rattle.cfg_directory.specs.Items.{HasNoSelect, AreDistinct, named, selected, with_bytes_at}
 use Rattle.cfg_directory.specs.Listing.{listed_of}
 use Rattle.cfg_directory.specs.Shapes.{Shape, shape_of, HaveOneShape}
-use Rattle.cfg_directory.proofs.BytesPut.{has, put_in, none_put, length-put_at}
+use Rattle.cfg_directory.proofs.BytesPut.{has, put_in, none_put}
 
 -- ---- bytes that are put into a file
 
@@ -21,7 +22,7 @@ shape-put_in : (item : Item) (offset : ℕ) (piece : List ℕ) → offset + leng
     → shape_of (put_in offset piece item) ≡ shape_of item
 shape-put_in item offset piece fits =
     let sized : ℕ → Shape = λ size. record { listed = record { name = item.name; select = item.select; size = size }; writable = item.writable } in
-    ap sized (length-put_at item.bytes piece offset fits)
+    ap sized (length-put_at item.bytes offset piece fits)
 
 -- items keep their shape where bytes are put into the one of a selector, and fit in it
 pub put_keeps_shape : (items : List Item) (select offset : ℕ) (piece : List ℕ)

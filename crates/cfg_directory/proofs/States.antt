@@ -9,8 +9,8 @@ use Rattle.cfg_directory.specs.declared.held.Stage.TheVariants.{Count, Entries, 
 use Rattle.cfg_directory.specs.declared.container.ImageFault.{ImageFault}
 use Rattle.cfg_directory.specs.declared.container.ImageFault.TheVariants.{Truncated}
 use Rattle.cfg_directory.specs.Container.{read_so}
-use Rattle.cfg_directory.specs.Fed.{Fed, Takes, Refuses, IsFed, judged_by, judged, answer_of, finished}
-use Rattle.cfg_directory.specs.Held.{HasCount, HasListed, Gathers, LacksBytes, IsHeld, KeepsHeld, IsTaken, IsTakenAt, IsRefusal, fed_by, bytes_of, contents_of}
+use Rattle.cfg_directory.specs.Fed.{Fed, Takes, IsFed, judged_by, judged, answer_of, finished}
+use Rattle.cfg_directory.specs.Held.{HasCount, HasListed, Gathers, LacksBytes, IsHeld, KeepsHeld, IsTaken, IsTakenAt, fed_by, bytes_of, contents_of}
 use Rattle.cfg_directory.proofs.Fronts.{short_count}
 use Rattle.cfg_directory.proofs.Heads.{entries_lack, flags_lack}
 use Rattle.cfg_directory.proofs.Gathered.{read_lacks, read_whole}
@@ -81,22 +81,6 @@ taken_on (Entries count) old piece stage held is = taken (bytes_of old) piece st
 taken_on (Flags count) old piece stage held is = taken (bytes_of old) piece stage held is
 taken_on Contents old piece stage held is = taken (bytes_of old) piece stage held is
 taken_on (Refused fault) old piece stage held is = absurd cc
-
--- ---- a piece that was refused
-
-refused_now : (bytes piece : List ℕ) (fault : ImageFault) → IsRefusal (bytes ++ piece) fault → IsFed (Takes bytes) piece (Refuses fault)
-refused_now bytes piece fault (inl is) = inl (sym is)
-refused_now bytes piece fault (inr (lack, entries)) = inr (ap (λ f. Refuses f) lack, entries)
-
-pub refused_on : (before : Stage) (old : Held) (piece : List ℕ) (held : Held) (fault : ImageFault)
-    → IsTakenAt before (bytes_of old ++ piece) held (Err fault) → IsFed (fed_by before old) piece (Refuses fault)
-refused_on Count old piece held fault is = refused_now (bytes_of old) piece fault is
-refused_on (Entries count) old piece held fault is = refused_now (bytes_of old) piece fault is
-refused_on (Flags count) old piece held fault is = refused_now (bytes_of old) piece fault is
-refused_on Contents old piece held fault is = refused_now (bytes_of old) piece fault is
-refused_on (Refused other) old piece held fault is =
-    let same : fault ≡ other = cc in
-    ap (λ f. Refuses f) same
 
 -- ---- the end
 

@@ -1,10 +1,11 @@
 -- What is told of bytes that were fed at once: the items that are contained, or the fault of reading.
 use Rattle.std.proofs.Common.{◌≡◌, ℕ, List, [], Result, Ok, Err, sym, ap, subst, ◌∙◌, inl, inr}
 use Rattle.std.specs.Prelude.{IfOk, ◌⊎◌}
+use Rattle.vt_outside.specs.Readings.{Agrees}
 use Rattle.cfg_directory.specs.declared.item.Item.{Item}
 use Rattle.cfg_directory.specs.declared.container.ImageFault.{ImageFault}
 use Rattle.cfg_directory.specs.declared.container.ImageFault.TheVariants.{Truncated, OutOfMemory}
-use Rattle.cfg_directory.specs.Container.{IsContainer, Gives, HasEntries, read_so}
+use Rattle.cfg_directory.specs.Container.{IsContainer, HasEntries, read_so, reported}
 use Rattle.cfg_directory.specs.Fed.{Fed, Takes, IsFed, judged_by, answer_of, finished}
 use Rattle.cfg_directory.proofs.Refusals.{reading_there}
 use Rattle.cfg_directory.proofs.Containers.{contained_is_read, read_is_contained}
@@ -53,11 +54,11 @@ were_refused bytes after fault (inr (lack, entries)) told =
 -- that is what reading gives
 pub record IsRead (bytes : List ℕ) (result : Result (List Item) ImageFault) : Type 0 where
   pub found : IfOk result (λ items. IsContainer bytes items)
-  pub only : (items : List Item) → IsContainer bytes items → Gives (λ (read : List Item). read) result (Ok items)
-  pub exact : Gives (λ (read : List Item). read) result (read_so bytes)
+  pub only : (items : List Item) → IsContainer bytes items → Agrees reported (λ (read : List Item). read) result (Ok items)
+  pub exact : Agrees reported (λ (read : List Item). read) result (read_so bytes)
   pub no_memory : result ≡ Err OutOfMemory → HasEntries bytes
 
-gives_itself : (result read : Result (List Item) ImageFault) → read ≡ result → Gives (λ (items : List Item). items) result read
+gives_itself : (result read : Result (List Item) ImageFault) → read ≡ result → Agrees reported (λ (items : List Item). items) result read
 gives_itself (Ok items) read is = is
 gives_itself (Err OutOfMemory) read is = tt
 gives_itself (Err fault) read is = is

@@ -5,6 +5,8 @@ use Rattle.std.specs.Prelude.{Ok, Err, nat_lt, nat_le, ◌==◌, if◌then◌els
 use Rattle.std.specs.List.{flat_map, list_any}
 use Rattle.std.specs.Str.{bytes_eq}
 use Rattle.vt_outside.specs.declared.name.NameFault.{NameFault}
+use Rattle.vt_outside.specs.Readings.{◌into◌}
+use Rattle.std.specs.Prelude.{Option, Some, None}
 use Rattle.vt_bytes.specs.Numbers.{be}
 use Rattle.vt_bytes.specs.View.{view_of}
 use Rattle.vt_layout.specs.Shown.{LayoutShown}
@@ -47,11 +49,6 @@ pub record IsContainer (bytes : List ℕ) (items : List Item) : Type 0 where
   pub are_entries : AreEntries entries items
   pub lawful : IsItems items
 
-infixl 10 ◌>>=◌
-abbrev pub ◌>>=◌ : {A B : Type 0} → Result A ImageFault → (A → Result B ImageFault) → Result B ImageFault
-(Ok x) >>= f = f x
-(Err fault) >>= f = Err fault
-
 -- What the fields of an entry at an index say, or its first fault: its name is none, or was given before; its selector is no file's, or
 -- was given before.
 abbrev pub listed_so : ℕ → List Listed → ℕ → ℕ → Result (List ℕ) NameFault → Result Listed ImageFault
@@ -72,13 +69,13 @@ entry_so index before entry =
 unfoldable pub directory_so : ℕ → ℕ → List Listed → List ℕ → Result (List Listed) ImageFault
 directory_so zero index before bytes = Ok before
 directory_so (suc left) index before bytes =
-    entry_so index before (take 64 bytes) >>= (λ listed. directory_so left (index + 1) (before ++ listed ∷ []) (drop 64 bytes))
+    entry_so index before (take 64 bytes) into (λ listed. directory_so left (index + 1) (before ++ listed ∷ []) (drop 64 bytes))
 
 -- what the flags say, from an index on
 unfoldable pub flags_so : ℕ → List ℕ → Result (List Bool) ImageFault
 flags_so index [] = Ok []
-flags_so index (zero ∷ flags) = flags_so (index + 1) flags >>= (λ rest. Ok (false ∷ rest))
-flags_so index (suc zero ∷ flags) = flags_so (index + 1) flags >>= (λ rest. Ok (true ∷ rest))
+flags_so index (zero ∷ flags) = flags_so (index + 1) flags into (λ rest. Ok (false ∷ rest))
+flags_so index (suc zero ∷ flags) = flags_so (index + 1) flags into (λ rest. Ok (true ∷ rest))
 flags_so index (suc (suc flag) ∷ flags) = Err (BadFlag index)
 
 -- the item of an entry
@@ -104,14 +101,14 @@ contents_so listed flags contents =
 unfoldable pub flagged_so : ℕ → List Listed → List ℕ → Result (List Item) ImageFault
 flagged_so count listed bytes =
     if nat_lt (length bytes) count then Err Truncated
-    else (flags_so 0 (take count bytes) >>= (λ flags. contents_so listed flags (drop count bytes)))
+    else (flags_so 0 (take count bytes) into (λ flags. contents_so listed flags (drop count bytes)))
 
 -- so many entries are due, and then the rest
 unfoldable pub counted_so : ℕ → List ℕ → Result (List Item) ImageFault
 counted_so count bytes =
     if nat_lt file_limit count then Err TooMany
     else (if nat_lt (length bytes) (64 * count) then Err Truncated
-    else (directory_so count 0 [] bytes >>= (λ listed. flagged_so count listed (drop (64 * count) bytes))))
+    else (directory_so count 0 [] bytes into (λ listed. flagged_so count listed (drop (64 * count) bytes))))
 
 -- The items that the bytes are a container of, or the first refusal.
 unfoldable pub read_so : List ℕ → Result (List Item) ImageFault
@@ -121,8 +118,7 @@ read_so bytes = if nat_lt (length bytes) 4 then Err Truncated else counted_so (b
 abbrev pub HasEntries : List ℕ → Type 0
 HasEntries bytes = (4 ≤ length bytes) × (be (take 4 bytes) ≤ file_limit) × (64 * be (take 4 bytes) ≤ length (drop 4 bytes))
 
--- What a call answered is what reading gives, unless memory ran out.
-abbrev pub Gives : {T A : Type 0} → (T → A) → Result T ImageFault → Result A ImageFault → Type 0
-Gives seen (Ok value) read = read ≡ Ok (seen value)
-Gives seen (Err OutOfMemory) read = Unit {0}
-Gives seen (Err fault) read = read ≡ Err fault
+-- the fault that an error reports, or none where memory ran out
+abbrev pub reported : ImageFault → Option ImageFault
+reported OutOfMemory = None
+reported fault = Some fault

@@ -1,8 +1,9 @@
 ghost use Rattle.std.specs.Prelude.{◌≡◌, ◌++◌, List as ListOf, map, Ok, Err, IfOk, OnOk};
 ghost use Rattle.std.specs.List.{flat_map};
+ghost use Rattle.vt_outside.specs.Readings.{Agrees};
 ghost use Rattle.cfg_directory.specs.declared.item.Item.{Item};
 ghost use Rattle.cfg_directory.specs.declared.container.ImageFault.TheVariants.{OutOfMemory as NoMemory};
-ghost use Rattle.cfg_directory.specs.Container.{IsContainer, Gives, HasEntries, read_so, container_of, flag_of};
+ghost use Rattle.cfg_directory.specs.Container.{IsContainer, HasEntries, read_so, container_of, flag_of, reported};
 
 use crate::directory::put_directory;
 use crate::item::Item;
@@ -26,7 +27,7 @@ pub enum ImageFault {
     TwiceSelected(u32),
     /// A selector is below 0x20 or above 0x3FFF.
     BadSelect(u32),
-    /// A flag is neither 0 nor 1.
+    /// A flag is a byte other than 0 and 1.
     BadFlag(u32),
     /// Bytes follow the files.
     TrailingBytes,
@@ -49,12 +50,12 @@ impl From<OutOfMemory> for ImageFault {
 /// there is tested before the first of them is read, and so it is with the flags. It fails with `OutOfMemory` where memory runs out.
 /// Memory is needed only once the number of files is there, is at most 1,024, and so many entries are there.
 pub fn read_image(alloc: Global, bytes: &[u8]) -> Result<Items, ImageFault>
-    // What is read is spelled so.
+    // Bytes that are accepted are a container of the items.
     ensures found { IfOk result (λ items. IsContainer bytes.now items) }
-    // What is spelled so is read, unless memory runs out.
-    ensures only { (items : ListOf Item) → IsContainer bytes.now items → Gives (λ read. read) result (Ok items) }
-    // Which refusal it is.
-    ensures exact { Gives (λ read. read) result (read_so bytes.now) }
+    // A container is accepted as its items, unless memory runs out.
+    ensures only { (items : ListOf Item) → IsContainer bytes.now items → Agrees reported (λ read. read) result (Ok items) }
+    // Other bytes are refused for the first fault of their parts.
+    ensures exact { Agrees reported (λ read. read) result (read_so bytes.now) }
     // Memory is needed only once the entries are there.
     ensures no_memory { result ≡ Err NoMemory → HasEntries bytes.now }
 {

@@ -2,8 +2,8 @@
 //! carries the items as one run of bytes.
 //!
 //! The directory is the one of QEMU's fw_cfg (docs/specs/fw_cfg); the container is this project's own. Contracts
-//! see the list of the items, whose names and selectors differ. What is read is spelled so, what is spelled so is
-//! read, and each refusal is the first one, part by part from the front. A container may be read in pieces, as they come.
+//! see the list of the items, whose names and selectors differ. Bytes are accepted exactly where they are a container,
+//! as its items; others are refused for the first fault of their parts. A container may be read in pieces, as they come.
 #![tactic(auto)]
 
 mod container;

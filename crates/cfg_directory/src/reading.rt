@@ -3,9 +3,10 @@
 ghost use Rattle.std.specs.Prelude.{◌≡◌, ◌≢◌, ◌==◌, ◌*◌, ◌≤◌, Ok, Err, IfOk, length, drop, map, nat_lt, sum_by};
 ghost use Rattle.std.specs.List.{list_any, position};
 ghost use Rattle.std.specs.Str.{bytes_eq};
+ghost use Rattle.vt_outside.specs.Readings.{Agrees};
 ghost use Rattle.cfg_directory.specs.declared.container.ImageFault.TheVariants.{OutOfMemory as NoMemory};
 ghost use Rattle.cfg_directory.specs.Items.{file_limit};
-ghost use Rattle.cfg_directory.specs.Container.{Gives, listed_so, entry_so};
+ghost use Rattle.cfg_directory.specs.Container.{listed_so, entry_so, reported};
 ghost use Rattle.cfg_directory.specs.Parts.{is_set, directory_at, flags_at};
 
 use crate::container::ImageFault;
@@ -21,7 +22,7 @@ pub(crate) fn read_directory(
     bytes: &[u8],
 ) -> Result<(List<Listed>, &[u8]), ImageFault>
     requires { count ≤ file_limit }
-    ensures exact { Gives (λ x. (x.0, x.1.now)) result (directory_at count bytes.now) }
+    ensures exact { Agrees reported (λ x. (x.0, x.1.now)) result (directory_at count bytes.now) }
     ensures count { IfOk result (λ x. length x.0 ≡ count) }
     ensures there { IfOk result (λ _. 64 * count ≤ length bytes.now) }
     ensures rest { IfOk result (λ x. x.1.now ≡ drop (64 * count) bytes.now) }
@@ -45,7 +46,7 @@ pub(crate) fn read_directory(
 #[tactic(auto, unfolding(crate::specs::Container::entry_so))]
 fn read_entry(index: u32, before: &[Listed], entry: &[u8]) -> Result<Listed, ImageFault>
     requires { length entry.now ≡ 64 }
-    ensures exact { Gives (λ listed. listed) result (entry_so index before.now entry.now) }
+    ensures exact { Agrees reported (λ listed. listed) result (entry_so index before.now entry.now) }
     ensures sure { result ≢ Err NoMemory }
 {
     let Ok(listed) = Listed::read(entry) else {
@@ -87,7 +88,7 @@ fn is_selected(listed: &[Listed], select: u16) -> bool
 /// Reads the flags of so many files.
 #[tactic(auto, unfolding(crate::specs::Parts::flags_at))]
 pub(crate) fn read_flags(count: u32, bytes: &[u8]) -> Result<(&[u8], &[u8]), ImageFault>
-    ensures exact { Gives (λ x. (map is_set x.0.now, x.1.now)) result (flags_at count bytes.now) }
+    ensures exact { Agrees reported (λ x. (map is_set x.0.now, x.1.now)) result (flags_at count bytes.now) }
     ensures count { IfOk result (λ x. length x.0.now ≡ count) }
     ensures there { IfOk result (λ _. count ≤ length bytes.now) }
     ensures rest { IfOk result (λ x. x.1.now ≡ drop count bytes.now) }

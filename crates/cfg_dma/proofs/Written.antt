@@ -9,6 +9,7 @@ use Rattle.std.proofs.lemmas.List.{places, same_lists, length-map}
 use Rattle.std.proofs.lemmas.List.Folds.{find_at}
 use Rattle.std.proofs.lemmas.List.Sums.{passes_at_first}
 use Rattle.std.proofs.lemmas.Option.{slice_get_cases}
+use Rattle.vt_bytes.proofs.PutAt.{length-put_at, put_at-none}
 use Rattle.vt_bytes.specs.Numbers.{be_bytes}
 use Rattle.vt_bytes.specs.Parts.{put_at}
 use Rattle.vt_bytes.proofs.Each.{each_weaker}
@@ -97,12 +98,6 @@ put_twice : (bytes front back : List ℕ) (offset : ℕ)
     → put_at (put_at bytes offset front) (offset + length front) back ≡ put_at bytes offset (front ++ back)
 put_twice bytes front back offset = same_lists _ _ (grind (arith, places)) (λ k d h. grind (arith, places))
 
-put_none : (bytes : List ℕ) (offset : ℕ) → put_at bytes offset [] ≡ bytes
-put_none bytes offset = same_lists _ _ (grind (arith, places)) (λ k d h. grind (arith, places))
-
-length-put : (bytes piece : List ℕ) (offset : ℕ) → offset + length piece ≤ length bytes → length (put_at bytes offset piece) ≡ length bytes
-length-put bytes piece offset within = grind (arith, places)
-
 -- an item with a selector is changed, and no other
 changed : (select offset : ℕ) (piece : List ℕ) (item : Item) → has select item ≡ true → put_if select offset piece item ≡ put_in offset piece item
 changed select offset piece item its = cond-true (has select item) (put_in offset piece item) item its
@@ -127,7 +122,7 @@ item_twice select offset front back item =
 item_none : (select offset : ℕ) (item : Item) → put_if select offset [] item ≡ item
 item_none select offset item =
     elim (cases_Bool (has select item)) as (λ _. put_if select offset [] item ≡ item) [
-      | inl its ↦ changed select offset [] item its ∙ ap (λ (bytes : List ℕ). record item { bytes = bytes }) (put_none item.bytes offset)
+      | inl its ↦ changed select offset [] item its ∙ ap (λ (bytes : List ℕ). record item { bytes = bytes }) (put_at-none item.bytes offset)
       | inr other ↦ kept select offset [] item other
     ]
 
@@ -140,13 +135,13 @@ item_length : (select offset : ℕ) (piece : List ℕ) (item : Item) → (has se
     → length (put_if select offset piece item).bytes ≡ length item.bytes
 item_length select offset piece item within =
     cond_both (has select item) (put_in offset piece item) item (λ (i : Item). length i.bytes ≡ length item.bytes)
-    (λ its. length-put item.bytes piece offset (within its)) (λ _. refl)
+    (λ its. length-put_at item.bytes offset piece (within its)) (λ _. refl)
 
 item_entry : (select offset : ℕ) (piece : List ℕ) (item : Item) → (has select item ≡ true → offset + length piece ≤ length item.bytes)
     → entry_bytes (put_if select offset piece item) ≡ entry_bytes item
 item_entry select offset piece item within =
     cond_both (has select item) (put_in offset piece item) item (λ (i : Item). entry_bytes i ≡ entry_bytes item)
-    (λ its. ap (λ size. spelled (entry_rows size item.select item.name)) (length-put item.bytes piece offset (within its))) (λ _. refl)
+    (λ its. ap (λ size. spelled (entry_rows size item.select item.name)) (length-put_at item.bytes offset piece (within its))) (λ _. refl)
 
 -- ---- all items
 

@@ -1,6 +1,5 @@
 -- Ranges of zones and of placed files.
-use Rattle.std.proofs.Common.{◌≡◌, ℕ, false, ◌+◌, ◌≤◌, ◌^◌, inl, inr, List, [], ◌∷◌, map, is_some, Option, Some, None, arith, refl, ap, ap₂}
-use Rattle.std.proofs.lemmas.Bool.{true≢false}
+use Rattle.std.proofs.Common.{◌≡◌, ℕ, ◌+◌, ◌≤◌, ◌^◌, inl, inr, List, [], ◌∷◌, map, arith, refl, ap, ap₂}
 use Rattle.vt_outside.specs.Placement.{Range}
 use Rattle.vt_bytes.specs.Memory.{Memory, IsTop, IsRamRange}
 use Rattle.vt_bytes.proofs.Bytes.{length-bytes_at}
@@ -23,8 +22,3 @@ ranges_in m [] = refl
 ranges_in m (p ∷ files) =
     ap₂ (λ (r : Range) (rs : List Range). r ∷ rs) (ap (λ size. record { start = p.place; end = p.place + size }) (length-bytes_at m p.place p.size))
     (ranges_in m files)
-
--- an option that passes no test of being there is none
-pub none_from : {A : Type 0} (o : Option A) → is_some o ≡ false → o ≡ None
-none_from None none = refl
-none_from (Some x) none = absurd (true≢false none)

@@ -18,6 +18,7 @@ use Rattle.loader_script.specs.Conditions.{CanAddPointer, CanAllocate}
 use Rattle.loader_script.specs.Left.{range_of}
 use Rattle.loader_script.specs.Refusal.{AreDistinct, info_of}
 use Rattle.vt_outside.specs.File.{File}
+use Rattle.vt_outside.proofs.Results.{none_from}
 use Rattle.loader_script.specs.Run.{Placed, Progress, placed_of, bytes_of, infos_of, cause_of}
 use Rattle.loader_script.proofs.Conditions.{conditions_from}
 use Rattle.loader_script.proofs.Named.{none_passes, find-map}
@@ -30,7 +31,7 @@ use Rattle.command_acts.specs.FilesInMemory.{place_of, placed_named, files_in, p
 use Rattle.command_acts.specs.Placing.{places_in, count_places, place_named}
 use Rattle.command_acts.specs.Runs.{Answers, allocated, at_files, early_cause, request_of, with_file}
 use Rattle.command_acts.specs.Steps.{LeadsOn}
-use Rattle.command_acts.proofs.Allocations.{in_zone, none_from, ranges_in}
+use Rattle.command_acts.proofs.Allocations.{in_zone, ranges_in}
 use Rattle.command_acts.proofs.Causes.{cause_early}
 use Rattle.command_acts.proofs.Checksums.{IsSum, byte_ram, sum_after, sum_stays}
 use Rattle.command_acts.proofs.NamedInMemory.{some_named, none_named}

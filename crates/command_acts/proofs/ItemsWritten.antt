@@ -6,13 +6,14 @@ use Rattle.std.proofs.lemmas.Bool.{cases_Bool, cond-true, cond-false, eq-eqb}
 use Rattle.std.proofs.lemmas.Option.{same_Some, none-some}
 use Rattle.vt_bytes.specs.Parts.{put_at}
 use Rattle.vt_outside.specs.File.{File}
+use Rattle.vt_outside.proofs.Texts.{same_text}
 use Rattle.cfg_directory.specs.declared.item.Item.{Item}
 use Rattle.cfg_directory.specs.Items.{HasNoName, HasNoSelect, AreDistinct, named, selected, with_bytes_at}
 use Rattle.cfg_directory.specs.Files.{files_of}
 use Rattle.cfg_directory.proofs.BytesPut.{none_put, put_in}
 use Rattle.cfg_directory.proofs.OneMoreItem.{other_select}
 use Rattle.loader_script.specs.Run.{bytes_of, files_with}
-use Rattle.loader_script.proofs.Named.{find-map, of_found, same_name}
+use Rattle.loader_script.proofs.Named.{find-map, of_found}
 
 -- an item as a file
 abbrev pub as_file : Item → File
@@ -68,7 +69,7 @@ put_by_name (first ∷ items) name item offset piece distinct there =
       | inl its ↦
           let same : first ≡ item = same_Some first item (sym (cond-true _ _ _ its) ∙ there) in
           let selects : first.select ≡ item.select = ap (λ (i : Item). i.select) same in
-          let named_so : first.name ≡ name = same_name first.name name its in
+          let named_so : first.name ≡ name = same_text first.name name its in
           ap₂ (λ (f : File) (fs : List File). f ∷ fs)
           (ap as_file (cond-true (first.select == item.select) (put_in offset piece first) first (eq-eqb first.select item.select selects))
           ∙ ap (λ (i : Item). file_with (put_at i.bytes offset piece) first) same

@@ -1,6 +1,5 @@
 -- One command on memory, as it stands in the run of the script.
 use Rattle.std.proofs.Common.{◌≡◌, ℕ, ◌+◌, ◌^◌, ◌<◌, ◌≤◌, List, [], ◌∷◌, length, Option, option_map, Some, None, refl, ap, sym, subst, ◌∙◌}
-use Rattle.std.proofs.Common.{Result, Ok, Err, OnErr}
 use Rattle.std.specs.List.{AllByRecursion}
 use Rattle.std.proofs.lemmas.Option.{same_Some, none-some}
 use Rattle.vt_bytes.specs.Memory.{Memory}
@@ -11,18 +10,14 @@ use Rattle.vt_outside.specs.File.{File}
 use Rattle.loader_script.specs.Run.{Placed, Progress, file_of, placed_of, pointer_sum, with_pointer, with_sum, carried_out}
 use Rattle.loader_script.specs.Conditions.{CanAddChecksum}
 use Rattle.loader_script.proofs.Conditions.{IsPointerEarly, pointer_early, conditions_from, conditions_suffice}
-use Rattle.loader_script.proofs.Named.{same_name, of_found, found_passes}
+use Rattle.loader_script.proofs.Named.{of_found, found_passes}
 use Rattle.std.specs.Str.{bytes_eq}
+use Rattle.vt_outside.proofs.Texts.{same_text}
 use Rattle.command_acts.specs.declared.placed.PlacedFile.{PlacedFile}
 use Rattle.command_acts.specs.FilesInMemory.{files_in, progress_in, IsOfSize, IsLoading, CanPoint, CanSum}
 use Rattle.command_acts.specs.Runs.{Answers, carried, at_files, early_cause}
 use Rattle.command_acts.specs.Steps.{CarriesTo, LeadsOn}
 use Rattle.command_acts.proofs.Causes.{cause_late, pointer_goes}
-
--- what holds in any case holds where the result is an error
-pub on_err : {A E : Type 0} (result : Result A E) (P : Type 0) → P → OnErr result P
-on_err (Ok _) P holds = tt
-on_err (Err _) P holds = holds
 
 -- a placed file is one of the files, and has as many bytes
 abbrev IsOf : List File → Placed → Type 0
@@ -33,7 +28,7 @@ of_placed : (files : List File) (placed : List Placed) (name : List ℕ) (d : Pl
     → (file : File) × (file_of files name ≡ Some file) × (length file.bytes ≡ length d.bytes)
 of_placed files placed name d are found =
     let is = of_found (IsOf files) (λ (p : Placed). bytes_eq p.name name) placed d found are in
-    let named : d.name ≡ name = same_name d.name name (found_passes (λ (p : Placed). bytes_eq p.name name) placed d found) in
+    let named : d.name ≡ name = same_text d.name name (found_passes (λ (p : Placed). bytes_eq p.name name) placed d found) in
     (is.0, ap (file_of files) (sym named) ∙ is.1, is.2)
 
 sized_from : (found : Option File) (size : ℕ) → option_map (λ (file : File). length file.bytes) found ≡ Some size

@@ -4,12 +4,13 @@ use Rattle.std.specs.List.{AllByRecursion}
 use Rattle.std.specs.Str.{bytes_eq}
 use Rattle.std.proofs.lemmas.Bool.{cases_Bool, cond-true, cond-false}
 use Rattle.std.proofs.lemmas.Option.{same_Some, none-some}
+use Rattle.vt_outside.proofs.Texts.{same_text, other_text}
 use Rattle.vt_bytes.specs.Parts.{put_at}
 use Rattle.vt_bytes.specs.Memory.{Memory, IsRam, IsRamRange, bytes_at, Puts}
 use Rattle.command_acts.specs.declared.placed.PlacedFile.{PlacedFile}
 use Rattle.loader_script.specs.Run.{Placed, placed_with}
 use Rattle.command_acts.specs.FilesInMemory.{EndsLow, placed_named, placed_in, files_in, AreApart, ArePlaced, IsBeside, Stays}
-use Rattle.loader_script.proofs.Named.{same_name, other_name, of_found}
+use Rattle.loader_script.proofs.Named.{of_found}
 use Rattle.command_acts.proofs.Writes.{stays, written}
 
 -- a write of bytes at an offset of a placed file, inside the file
@@ -49,7 +50,7 @@ others_stay : (old new : Memory) (p : PlacedFile) (offset : ℕ) (bytes : List �
     → files_in new placed ≡ placed_with (files_in old placed) name held
 others_stay old new p offset bytes name held [] write named apart placed = refl
 others_stay old new p offset bytes name held (q ∷ files) write named apart placed =
-    let other : bytes_eq q.name name ≡ false = other_name q.name name (λ same. apart.0.names (named ∙ sym same)) in
+    let other : bytes_eq q.name name ≡ false = other_text q.name name (λ same. apart.0.names (named ∙ sym same)) in
     ap₂ (λ (x : Placed) (xs : List Placed). x ∷ xs)
     (other_stays old new p q offset bytes write placed.0 apart.0.ranges ∙ sym (cond-false _ _ _ other))
     (others_stay old new p offset bytes name held files write named apart.1 placed.3)
@@ -62,7 +63,7 @@ first_written old new p offset bytes name files write named placed =
     ap₂ (λ (x : Placed) (xs : List Placed). x ∷ xs)
     (ap (λ held. record { name = p.name; place = p.place; bytes = held })
     (written old new p.place p.size offset bytes write.puts placed.0 write.within) ∙ sym (cond-true _ _ _ named))
-    (others_stay old new p offset bytes name _ files write (same_name p.name name named) placed.2 placed.3)
+    (others_stay old new p offset bytes name _ files write (same_text p.name name named) placed.2 placed.3)
 
 -- a write inside the file of a name gives that file other bytes
 pub file_written : (old new : Memory) (placed : List PlacedFile) (name : List ℕ) (p : PlacedFile) (offset : ℕ) (bytes : List ℕ)

@@ -9,7 +9,6 @@ use Rattle.std.specs.Str.{bytes_eq}
 use Rattle.std.proofs.lemmas.Bool.{cases_Bool, cases_lt, cond-true, cond-false, true≢false, lt-ltb}
 use Rattle.std.proofs.lemmas.Option.{same_Some, none-some, slice_get_past}
 use Rattle.std.proofs.lemmas.List.Folds.{find_at}
-use Rattle.std.proofs.lemmas.Slice.Eq.{bytes_eq-Decides}
 use Rattle.vt_bytes.specs.Memory.{Memory}
 use Rattle.cfg_directory.specs.declared.item.Item.{Item}
 use Rattle.cfg_directory.specs.Items.{HasNoName, AreDistinct as AreDistinctItems}
@@ -19,8 +18,9 @@ use Rattle.loader_script.specs.Order.{IsOrderOf}
 use Rattle.loader_script.specs.declared.entry.Entry.{Entry}
 use Rattle.command_acts.specs.Runs.{at_files, early_cause}
 use Rattle.vt_outside.specs.File.{File}
+use Rattle.vt_outside.proofs.Texts.{same_text, other_turned, text_itself}
 use Rattle.loader_script.specs.Run.{Placed, file_of, placed_of, infos_of, places_of}
-use Rattle.loader_script.proofs.Named.{same_name, other_name, of_found, found_passes}
+use Rattle.loader_script.proofs.Named.{of_found, found_passes}
 use Rattle.cfg_directory.specs.Files.{files_of}
 use Rattle.command_acts.specs.declared.placed.PlacedFile.{PlacedFile}
 use Rattle.command_acts.specs.declared.placements.Placements.{Placements}
@@ -43,14 +43,6 @@ same_places m placed (file ∷ files) =
     ap (option_map (λ (p : Placed). p.place)) (named_in m placed file.name) ∙ place_after m (placed_named placed file.name) in
     ap₂ (λ (p : Option ℕ) (ps : List (Option ℕ)). p ∷ ps) (sym named) (same_places m placed files)
 
--- a name is tested equal to itself
-passes_itself : (a b : List ℕ) → a ≡ b → bytes_eq a b ≡ true
-passes_itself a b = (bytes_eq-Decides a b).1
-
--- names differ either way
-other_way : (a b : List ℕ) → bytes_eq a b ≡ false → bytes_eq b a ≡ false
-other_way a b differ = other_name b a (λ same. true≢false (sym (passes_itself a b (sym same)) ∙ differ))
-
 -- items of names of their own are files of such names
 no_name : (items : List Item) (name : List ℕ) → HasNoName items name
     → AllByRecursion (λ (other : FileInfo). bytes_eq other.name name ≡ false) (infos_of (files_of items))
@@ -69,18 +61,18 @@ behind_first : (first : File) (files rest : List File) → AllByRecursion (λ (o
     → AllByRecursion (IsItsOwn files) rest → AllByRecursion (IsItsOwn (first ∷ files)) rest
 behind_first first files [] differ own = tt
 behind_first first files (file ∷ rest) differ own =
-    (cond-false _ _ _ (other_way file.name first.name differ.0) ∙ own.0, behind_first first files rest differ.1 own.1)
+    (cond-false _ _ _ (other_turned file.name first.name differ.0) ∙ own.0, behind_first first files rest differ.1 own.1)
 
 pub each_its_own : (files : List File) → AreDistinct (infos_of files) → AllByRecursion (IsItsOwn files) files
 each_its_own [] distinct = tt
 each_its_own (file ∷ files) distinct =
-    (cond-true _ _ _ (passes_itself file.name file.name refl), behind_first file files files distinct.0 (each_its_own files distinct.1))
+    (cond-true _ _ _ (text_itself file.name), behind_first file files files distinct.0 (each_its_own files distinct.1))
 
 -- a placed file ends low by the size that it has in fw_cfg
 low_by_size : (files : List File) (placed : List PlacedFile) (file : File) (p : PlacedFile) → placed_named placed file.name ≡ Some p
     → IsItsOwn files file → AllByRecursion (IsOfSize files) placed → AllByRecursion EndsLow placed → p.place + length file.bytes ≤ 2 ^ 32
 low_by_size files placed file p found own sizes low =
-    let named : p.name ≡ file.name = same_name p.name file.name (found_passes (λ (q : PlacedFile). bytes_eq q.name file.name) placed p found) in
+    let named : p.name ≡ file.name = same_text p.name file.name (found_passes (λ (q : PlacedFile). bytes_eq q.name file.name) placed p found) in
     let size = of_found (IsOfSize files) (λ (q : PlacedFile). bytes_eq q.name file.name) placed p found sizes in
     let is : length file.bytes ≡ p.size =
     same_Some (length file.bytes) p.size (sym (ap (option_map (λ (f : File). length f.bytes)) (ap (file_of files) named ∙ own)) ∙ size) in
@@ -135,7 +127,7 @@ named_more (p ∷ placed) f name other =
     ]
 
 named_last : (placed : List PlacedFile) (f : PlacedFile) → placed_named placed f.name ≡ None → placed_named (placed ++ f ∷ []) f.name ≡ Some f
-named_last [] f none = cond-true _ _ _ (passes_itself f.name f.name refl)
+named_last [] f none = cond-true _ _ _ (text_itself f.name)
 named_last (p ∷ placed) f none =
     elim (cases_Bool (bytes_eq p.name f.name)) as (λ _. placed_named ((p ∷ placed) ++ f ∷ []) f.name ≡ Some f) [
       | inl same ↦ absurd (none-some p (sym none ∙ cond-true _ _ _ same))
@@ -148,7 +140,7 @@ places_others : (placed : List PlacedFile) (f : PlacedFile) (infos : List FileIn
 places_others placed f [] others = refl
 places_others placed f (info ∷ infos) others =
     ap₂ (λ (p : Option ℕ) (ps : List (Option ℕ)). p ∷ ps)
-    (ap (option_map (λ (p : PlacedFile). p.place)) (named_more placed f info.name (other_way info.name f.name others.0)))
+    (ap (option_map (λ (p : PlacedFile). p.place)) (named_more placed f info.name (other_turned info.name f.name others.0)))
     (places_others placed f infos others.1)
 
 -- the index of the file of a name
@@ -164,7 +156,7 @@ places_put placed f (info ∷ infos) distinct none there =
     elim (cases_Bool (bytes_eq info.name f.name)) as
     (λ _. slice_set (places_in placed (info ∷ infos)) (index_of (info ∷ infos) f.name) (Some f.place) ≡ places_in (placed ++ f ∷ []) (info ∷ infos)) [
       | inl same ↦
-          let is : info.name ≡ f.name = same_name info.name f.name same in
+          let is : info.name ≡ f.name = same_text info.name f.name same in
           let here : index_of (info ∷ infos) f.name ≡ 0 = rw same refl in
           let others = subst (λ n. AllByRecursion (λ (other : FileInfo). bytes_eq other.name n ≡ false) infos) is distinct.0 in
           let now : place_named (placed ++ f ∷ []) info.name ≡ Some f.place =
@@ -176,7 +168,7 @@ places_put placed f (info ∷ infos) distinct none there =
           let later : index_of (info ∷ infos) f.name ≡ suc (index_of infos f.name) = rw other next in
           let rest : IsSome (info_of infos f.name) = subst IsSome (cond-false _ _ _ other) there in
           let same : place_named placed info.name ≡ place_named (placed ++ f ∷ []) info.name =
-          ap (option_map (λ (p : PlacedFile). p.place)) (sym (named_more placed f info.name (other_way info.name f.name other))) in
+          ap (option_map (λ (p : PlacedFile). p.place)) (sym (named_more placed f info.name (other_turned info.name f.name other))) in
           ap (λ i. slice_set (places_in placed (info ∷ infos)) i (Some f.place)) later
           ∙ ap₂ (λ (p : Option ℕ) (ps : List (Option ℕ)). p ∷ ps) same (places_put placed f infos distinct.1 none rest)
     ]
@@ -262,7 +254,7 @@ unplaced_nowhere placed (info ∷ infos) name none =
       | inl same ↦
           let here : index_of (info ∷ infos) name ≡ 0 = rw same refl in
           ap (λ i. get_or (places_in placed (info ∷ infos)) i None) here
-          ∙ ap (place_named placed) (same_name info.name name same) ∙ ap (option_map (λ (p : PlacedFile). p.place)) none
+          ∙ ap (place_named placed) (same_text info.name name same) ∙ ap (option_map (λ (p : PlacedFile). p.place)) none
       | inr other ↦
           let next : 1 + index_of infos name ≡ suc (index_of infos name) = omega arith in
           let later : index_of (info ∷ infos) name ≡ suc (index_of infos name) = rw other next in
@@ -331,7 +323,7 @@ place_there placed (info ∷ infos) name there =
     ≡ place_named placed name) [
       | inl same ↦
           let here : index_of (info ∷ infos) name ≡ 0 = rw same refl in
-          ap (λ i. get_or (places_in placed (info ∷ infos)) i None) here ∙ ap (place_named placed) (same_name info.name name same)
+          ap (λ i. get_or (places_in placed (info ∷ infos)) i None) here ∙ ap (place_named placed) (same_text info.name name same)
       | inr other ↦
           let next : 1 + index_of infos name ≡ suc (index_of infos name) = omega arith in
           let later : index_of (info ∷ infos) name ≡ suc (index_of infos name) = rw other next in
@@ -343,7 +335,7 @@ place_there placed (info ∷ infos) name there =
 pub placed_there : (p : Placements) (name : List ℕ) → ArePlacements p → IsSome (placed_named p.placed.items name) → IsSome (info_of p.infos.items name)
 placed_there p name are placed =
     let file = from_some (placed_named p.placed.items name) placed in
-    let named : file.0.name ≡ name = same_name file.0.name name (found_passes (λ (q : PlacedFile). bytes_eq q.name name) p.placed.items file.0 file.1) in
+    let named : file.0.name ≡ name = same_text file.0.name name (found_passes (λ (q : PlacedFile). bytes_eq q.name name) p.placed.items file.0 file.1) in
     subst (λ n. IsSome (info_of p.infos.items n)) named
     (of_found (IsAmong p.infos.items) (λ (q : PlacedFile). bytes_eq q.name name) p.placed.items file.0 file.1 are.among)
 
@@ -399,7 +391,7 @@ pub standing_named : (placed : List PlacedFile) (name : List ℕ) (at : ℕ) →
 standing_named placed name at some is =
     let found = from_some (placed_named placed name) some in
     let p = found.0 in
-    let named : p.name ≡ name = same_name p.name name (found_passes (λ (q : PlacedFile). bytes_eq q.name name) placed p found.1) in
+    let named : p.name ≡ name = same_text p.name name (found_passes (λ (q : PlacedFile). bytes_eq q.name name) placed p found.1) in
     let place : p.place ≡ at = sym (ap (λ (o : Option PlacedFile). option_map_or (λ (q : PlacedFile). q.place) o 0) found.1) ∙ sym is in
     let size : p.size ≡ option_map_or (λ (q : PlacedFile). q.size) (placed_named placed name) 0 =
     sym (ap (λ (o : Option PlacedFile). option_map_or (λ (q : PlacedFile). q.size) o 0) found.1) in

@@ -10,6 +10,7 @@ use Rattle.std.specs.Ordering.{nat_cmp, is_le}
 use Rattle.std.specs.String.{string_cmp}
 use Rattle.std.specs.Map.{keys_of}
 use Rattle.std.specs.Str.{bytes_eq}
+use Rattle.std.proofs.lemmas.Option.{same_Some}
 use Rattle.toml.specs.View.{members_view}
 use Rattle.toml.specs.declared.value.Value.{Value as Node}
 use Rattle.desc_schema.specs.declared.schema.Key.{Key}
@@ -19,7 +20,7 @@ use Rattle.desc_schema.specs.declared.fault.WalkFault.{WalkFault}
 use Rattle.desc_schema.specs.declared.fault.WalkFault.TheVariants.{UnknownKey}
 use Rattle.desc_schema.specs.Form.{Field, fields_of, schema_of, fields_at}
 use Rattle.desc_schema.specs.Walk.{is_known, lesser, least_unknown, known_or, all_known}
-use Rattle.desc_schema.proofs.Least.{none_some, some_is}
+use Rattle.desc_schema.proofs.Least.{none_some}
 
 -- as `all_known`, of the keys alone
 abbrev pub names_known : Place → List Field → List (String Global) → Result (Unit {0}) WalkFault
@@ -48,7 +49,7 @@ le_all fields k (e ∷ es) (here, all) other is =
     ⊎_elim
     (λ known. le_all fields k es all other (rw known at is))
     (λ unknown.
-    let same : lesser (string_bytes e.0) (least_unknown fields (members_view es)) ≡ other = some_is _ _ (rw unknown at is) in
+    let same : lesser (string_bytes e.0) (least_unknown fields (members_view es)) ≡ other = same_Some _ _ (rw unknown at is) in
     rw (sym same) (le_lesser k (string_bytes e.0) (least_unknown fields (members_view es)) here (λ found found_is. le_all fields k es all found found_is)))
     (cases_Bool (is_known fields (string_bytes e.0)))
 

@@ -6,6 +6,7 @@ use Rattle.std.proofs.lemmas.Cmp.{nat_list_cmp_total}
 use Rattle.std.specs.Cmp.{tied_itself}
 use Rattle.std.specs.Cmp.Lexicographic.{slice_cmp}
 use Rattle.std.specs.Ordering.{is_le, ordering_reverse}
+use Rattle.std.proofs.lemmas.Option.{same_Some}
 use Rattle.toml.specs.Data.{Members, no_members, member}
 use Rattle.desc_schema.specs.declared.fault.Place.{Place}
 use Rattle.desc_schema.specs.declared.fault.WalkFault.{WalkFault}
@@ -18,9 +19,6 @@ some_none name is = cc
 
 pub none_some : (name : List ℕ) → None ≡ Some name → ⊥
 none_some name is = cc
-
-pub some_is : (k l : List ℕ) → Some k ≡ Some l → k ≡ l
-some_is k l is = cc
 
 same_name : (place : Place) (k name : List ℕ) (given : Result (Unit {0}) WalkFault) → given ≡ Err (UnknownKey place k) → given ≡ Err (UnknownKey place name)
     → k ≡ name
@@ -89,7 +87,7 @@ least fields (member k d more) name is =
     (inr key, unknown, (λ not_known. absurd (false≢true (sym not_known ∙ known)), at_most)))
     (λ unknown.
     let (key, alone, le, at_most) = least_of fields k more (least_unknown fields more) refl unknown (λ n e. least fields more n e) in
-    let same : lesser k (least_unknown fields more) ≡ name = some_is _ _ (rw unknown at is) in
+    let same : lesser k (least_unknown fields more) ≡ name = same_Some _ _ (rw unknown at is) in
     subst (λ (n : List ℕ). IsLeastUnknown fields n (member k d more)) same
     (⊎_elim (λ there. inr there) (λ here. inl here) key, alone, (λ not_known. le, at_most)))
     (cases_Bool (is_known fields k))

@@ -2,8 +2,6 @@ pub mod Known
 pub mod Parts
 pub mod Loops
 pub mod Depth
-pub mod Deeper
-pub mod SameAnswer
 pub mod Least
 pub mod OneValue
 pub mod Saying

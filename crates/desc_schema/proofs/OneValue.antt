@@ -1,7 +1,7 @@
 -- Single values: the text of a UUID that isn't one, words as a loop takes them, and that what is read is of its kind.
-use Rattle.std.proofs.Common.{◌≡◌, ℕ, zero, suc, ◌+◌, ◌<◌, ◌≤◌, true, false, List, [], ◌∷◌, length, get_or, drop, Option, Some, None, Result}
-use Rattle.std.proofs.Common.{Ok, Err, refl, sym, arith}
-use Rattle.std.proofs.lemmas.List.{drop_more}
+use Rattle.std.proofs.Common.{◌≡◌, ℕ, ◌+◌, ◌<◌, ◌≤◌, true, false, List, length, get_or, drop, Option, Some, None, Result}
+use Rattle.std.proofs.Common.{Ok, Err, refl, sym}
+use Rattle.std.proofs.lemmas.List.{drop_more, drop_all}
 use Rattle.std.specs.Borrow.{Bor}
 use Rattle.std.specs.Str.{bytes_eq}
 use Rattle.desc_schema.specs.declared.value.Value.{Value}
@@ -27,13 +27,7 @@ pub word_passed : (at : KeyPlace) (i : ℕ) (words : List (Bor (List ℕ))) (wor
 unfolding word_from
 word_passed at i words word text total within other so_far = rw (drop_more words i word within, other) at so_far
 
-drop_all : {X : Type 0} (xs : List X) (i : ℕ) → length xs ≤ i → drop i xs ≡ []
-drop_all [] zero le = refl
-drop_all [] (suc i) le = refl
-drop_all (x ∷ xs) zero le = absurd (omega arith)
-drop_all (x ∷ xs) (suc i) le = drop_all xs i (omega arith)
-
 pub no_word : (at : KeyPlace) (i : ℕ) (words : List (Bor (List ℕ))) (text : List ℕ) (total : Result Value WalkFault) → length words ≤ i
     → word_from at i (texts_of (drop i words)) text ≡ total → total ≡ Err (OutOfRange at)
 unfolding word_from
-no_word at i words text total past so_far = sym (rw (drop_all words i past) at so_far)
+no_word at i words text total past so_far = sym (rw (drop_all i words past) at so_far)

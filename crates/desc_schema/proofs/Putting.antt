@@ -9,21 +9,11 @@ use Rattle.std.specs.Cmp.{tied_itself}
 use Rattle.std.specs.Cmp.Lexicographic.{slice_cmp}
 use Rattle.std.specs.Ordering.{is_eq, match_ordering}
 use Rattle.std.specs.Str.{bytes_eq}
+use Rattle.vt_outside.proofs.Texts.{other_turned}
 use Rattle.toml.specs.Data.{Data, Members, no_members, member, get_member, depth, members_depth, has_valid_dates, members_have_valid_dates}
 use Rattle.desc_schema.specs.Form.{Field}
 use Rattle.desc_schema.specs.Walk.{least_unknown, is_known, lesser}
 use Rattle.desc_schema.specs.Written.{put_member, with_member}
-
-pub same_bytes : (k : List ℕ) → bytes_eq k k ≡ true
-same_bytes k = (bytes_eq-Decides k k).1 refl
-
--- names that differ, in the other order
-other_way : (k l : List ℕ) → bytes_eq k l ≡ false → bytes_eq l k ≡ false
-other_way k l differ =
-    ⊎_elim
-    (λ same. absurd (false≢true (sym differ ∙ (bytes_eq-Decides k l).1 (sym ((bytes_eq-Decides l k).0 same)))))
-    (λ other. other)
-    (cases_Bool (bytes_eq l k))
 
 -- look-ups
 
@@ -80,7 +70,7 @@ get_here name (Some node) entries none = put_here name node entries
 pub get_other : (name key : List ℕ) (node : Option Data) (entries : Members) → bytes_eq key name ≡ false
     → get_member name (with_member key node entries) ≡ get_member name entries
 get_other name key None entries differ = refl
-get_other name key (Some node) entries differ = put_other name key node entries (other_way key name differ)
+get_other name key (Some node) entries differ = put_other name key node entries (other_turned key name differ)
 
 -- keys
 

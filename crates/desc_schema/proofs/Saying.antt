@@ -6,6 +6,9 @@ use Rattle.std.proofs.lemmas.Slice.Eq.{bytes_eq-Decides}
 use Rattle.std.specs.Prelude.{nat_le, ◌&&◌}
 use Rattle.std.specs.Int.{w128, from_be_bytes}
 use Rattle.std.specs.Str.{bytes_eq}
+use Rattle.vt_outside.specs.Readings.{◌into◌}
+use Rattle.std.specs.Option.{ok_or}
+use Rattle.vt_outside.proofs.Readings.{part_read}
 use Rattle.toml.specs.Data.{Data, string, integer, boolean, array, table, Items, no_items, item, Members, no_members, member, get_member}
 use Rattle.toml.specs.Data.{as_table, as_array}
 use Rattle.uuid.specs.Text.{parsed}
@@ -13,9 +16,10 @@ use Rattle.desc_schema.specs.declared.value.Value.{Value}
 use Rattle.desc_schema.specs.declared.fault.Place.{Place}
 use Rattle.desc_schema.specs.declared.fault.KeyPlace.{KeyPlace}
 use Rattle.desc_schema.specs.declared.fault.WalkFault.{WalkFault}
+use Rattle.desc_schema.specs.declared.fault.WalkFault.TheVariants.{WrongKind}
 use Rattle.desc_schema.specs.Form.{Form, Shape, Field, fields_at}
 use Rattle.desc_schema.specs.Form as forms
-use Rattle.desc_schema.specs.Faults.{◌>>=◌, of_kind, key_at, alone}
+use Rattle.desc_schema.specs.Faults.{key_at, alone}
 use Rattle.desc_schema.specs.Single.{value_of, number_of, uuid_from, word_from, otherwise_of}
 use Rattle.desc_schema.specs.Walk.{Part, Walk, Inner, after, joined, one, element, elements, singles, shaped, found_or, at_field, at_fields, all_known}
 use Rattle.desc_schema.specs.Walk.{table_walked, walked, position, advanced, count_of, is_known}
@@ -28,12 +32,6 @@ Gives {A} given Is = (a : A) → (given ≡ Ok a) ↔ Is a
 
 abbrev GivesValues : Part → (List Value → Type 0) → Type 0
 GivesValues given Are = (values : List Value) → ((left : List ℕ) × (given ≡ Ok (values, left))) ↔ Are values
-
--- what was given before what came of it
-bound : {A B : Type 0} (given : Result A WalkFault) (next : A → Result B WalkFault) (b : B) → (given >>= next) ≡ Ok b
-    → (a : A) × (given ≡ Ok a) × (next a ≡ Ok b)
-bound (Ok a) next b is = (a, refl, is)
-bound (Err fault) next b is = absurd (cc)
 
 same_ok : {A : Type 0} (a b : A) (given : Result A WalkFault) → given ≡ Ok a → given ≡ Ok b → a ≡ b
 same_ok a b given is other = cc
@@ -51,9 +49,9 @@ not_refused : {A : Type 0} (a : A) (fault : WalkFault) → refused A fault ≡ O
 not_refused a fault is = cc
 
 gives_bound : {A : Type 0} (given : Result A WalkFault) (next : A → Part) (Is : A → Type 0) (Are : A → List Value → Type 0)
-    → Gives given Is → ((a : A) → GivesValues (next a) (Are a)) → GivesValues (given >>= next) (λ values. (a : A) × Is a × Are a values)
+    → Gives given Is → ((a : A) → GivesValues (next a) (Are a)) → GivesValues (given into next) (λ values. (a : A) × Is a × Are a values)
 gives_bound given next Is Are first second values = (
-  λ gave. let (a, is, e) = bound given next (values, gave.0) gave.1 in (a, (first a).0 is, (second a values).0 (gave.0, e)),
+  λ gave. let (a, is, e) = part_read given next (values, gave.0) gave.1 in (a, (first a).0 is, (second a values).0 (gave.0, e)),
   λ says. let made = (second says.0 values).1 says.2 in (made.0, rw ((first says.0).1 says.1) made.1),
 )
 
@@ -72,7 +70,7 @@ gives_after : (front : List Value) (given : Part) (Are : List Value → Type 0) 
     → GivesValues (after front given) (λ values. (rest : List Value) × (values ≡ front ++ rest) × Are rest)
 gives_after front given Are are values = (
   λ gave.
-      let (more, is, e) = bound given (λ more. Ok (front ++ more.0, more.1)) (values, gave.0) gave.1 in
+      let (more, is, e) = part_read given (λ more. Ok (front ++ more.0, more.1)) (values, gave.0) gave.1 in
       (more.0, ap (λ (p : List Value × List ℕ). p.0) (ok_is _ _ e), (are more.0).0 (more.1, is)),
   λ says. let made = (are says.0).1 says.2 in (made.0, rw (made.1, says.1) refl),
 )
@@ -81,7 +79,7 @@ gives_joined : (given : Part) (others : Walk) (First Second : List Value → Typ
     → ((positions : List ℕ) → GivesValues (others positions) Second) → GivesValues (joined given others) (AreInTurn First Second)
 gives_joined given others First Second first second values = (
   λ gave.
-      let (here, is, e) = bound given (λ here. after here.0 (others here.1)) (values, gave.0) gave.1 in
+      let (here, is, e) = part_read given (λ here. after here.0 (others here.1)) (values, gave.0) gave.1 in
       let (rest, same, says) = (gives_after here.0 (others here.1) Second (second here.1) values).0 (gave.0, e) in
       (here.0, rest, same, (first here.0).0 (here.1, is), says),
   λ says.
@@ -91,11 +89,11 @@ gives_joined given others First Second first second values = (
 )
 
 -- tables and arrays
-table_given : (at : KeyPlace) (node : Data) → Gives (of_kind at (as_table node)) (λ inside. node ≡ table inside)
+table_given : (at : KeyPlace) (node : Data) → Gives (ok_or (as_table node) (WrongKind at)) (λ inside. node ≡ table inside)
 table_given at (table ms) inside = (λ is. cc, λ is. cc)
 table_given at node inside = (λ is. absurd (cc), λ is. absurd (cc))
 
-array_given : (at : KeyPlace) (node : Data) → Gives (of_kind at (as_array node)) (λ inside. node ≡ array inside)
+array_given : (at : KeyPlace) (node : Data) → Gives (ok_or (as_array node) (WrongKind at)) (λ inside. node ≡ array inside)
 array_given at (array ds) inside = (λ is. cc, λ is. cc)
 array_given at node inside = (λ is. absurd (cc), λ is. absurd (cc))
 
@@ -184,7 +182,7 @@ unfolding elements
 elements_given inner Inside all at n no_items positions = gives_these [] positions
 elements_given inner Inside all at n (item node nodes) positions =
     gives_joined (element inner at n node positions) (elements inner at n nodes) (SaysTable (Inside n) node) (SayEach (SaysTable (Inside n)) nodes)
-    (gives_bound (of_kind at (as_table node)) (λ inside. inner (record { table = n; index = position n positions }) inside (advanced n positions))
+    (gives_bound (ok_or (as_table node) (WrongKind at)) (λ inside. inner (record { table = n; index = position n positions }) inside (advanced n positions))
     (λ inside. node ≡ table inside) (Inside n) (table_given at node)
     (λ inside. all (record { table = n; index = position n positions }) inside (advanced n positions)))
     (elements_given inner Inside all at n nodes)
@@ -201,16 +199,16 @@ shape_given : (inner : Inner) (Inside : ℕ → Members → List Value → Type 
     (positions : List ℕ) → GivesValues (shaped inner at shape node positions) (SaysShape Inside shape node)
 shape_given inner Inside all at (forms.One form) node positions = one_given at form node positions
 shape_given inner Inside all at (forms.Table n) node positions =
-    gives_bound (of_kind at (as_table node)) (λ inside. after (Value.Count 1 ∷ []) (inner (alone n) inside positions)) (λ inside. node ≡ table inside)
+    gives_bound (ok_or (as_table node) (WrongKind at)) (λ inside. after (Value.Count 1 ∷ []) (inner (alone n) inside positions)) (λ inside. node ≡ table inside)
     (λ inside. AreCounted 1 (Inside n inside)) (table_given at node)
     (λ inside. gives_after (Value.Count 1 ∷ []) (inner (alone n) inside positions) (Inside n inside) (all (alone n) inside positions))
 shape_given inner Inside all at (forms.Tables n) node positions =
-    gives_bound (of_kind at (as_array node)) (λ nodes. after (Value.Count (count_of nodes) ∷ []) (elements inner at n nodes positions))
+    gives_bound (ok_or (as_array node) (WrongKind at)) (λ nodes. after (Value.Count (count_of nodes) ∷ []) (elements inner at n nodes positions))
     (λ nodes. node ≡ array nodes) (λ nodes. AreCounted (count_of nodes) (SayEach (SaysTable (Inside n)) nodes)) (array_given at node)
     (λ nodes. gives_after (Value.Count (count_of nodes) ∷ []) (elements inner at n nodes positions) (SayEach (SaysTable (Inside n)) nodes)
     (elements_given inner Inside all at n nodes positions))
 shape_given inner Inside all at (forms.Values form) node positions =
-    gives_bound (of_kind at (as_array node)) (λ nodes. after (Value.Count (count_of nodes) ∷ []) (singles at form nodes positions))
+    gives_bound (ok_or (as_array node) (WrongKind at)) (λ nodes. after (Value.Count (count_of nodes) ∷ []) (singles at form nodes positions))
     (λ nodes. node ≡ array nodes) (λ nodes. AreCounted (count_of nodes) (SayEach (SaysOne form) nodes)) (array_given at node)
     (λ nodes. gives_after (Value.Count (count_of nodes) ∷ []) (singles at form nodes positions) (SayEach (SaysOne form) nodes)
     (singles_given at form nodes positions))
@@ -281,7 +279,7 @@ walked_says schema root values =
     let given = table_walked schema (length schema) (alone 0) root (replicate (length schema) 0) in
     let both = tables_given schema (length schema) (alone 0) root (replicate (length schema) 0) in (
       λ is.
-          let (part, gave, e) = bound given (λ part. Ok part.0) values is in
+          let (part, gave, e) = part_read given (λ part. Ok part.0) values is in
           subst (λ (vs : List Value). Says schema root vs) (sym (ok_is part.0 values e)) ((both part.0).0 (part.1, gave)),
       λ says. let made = (both values).1 says in rw made.1 refl,
     )

@@ -1,26 +1,28 @@
 -- A UUID that is spelled in the hyphenated form is read back.
-use Rattle.std.proofs.Common.{◌≡◌, ℕ, zero, suc, ◌+◌, ◌<◌, ◌^◌, true, false, Bool, ◌⊎◌, inl, inr, List, length, get_or, take, drop, All, ◌*◌, Option, Some}
+use Rattle.std.proofs.Common.{◌≡◌, ℕ, ◌+◌, ◌<◌, ◌^◌, true, false, Bool, ◌⊎◌, inl, inr, List, length, get_or, take, drop, ◌*◌, Option, Some}
 use Rattle.std.proofs.Common.{None}
 use Rattle.std.proofs.Common.{if◌then◌else◌, refl, sym, ◌∙◌, subst, ⊎_elim, arith}
 use Rattle.std.proofs.lemmas.Bool.{false≢true, cases_Bool, and_parts, eqb-true}
 use Rattle.std.proofs.lemmas.Bool.Decides.{nat_tests}
 use Rattle.std.proofs.lemmas.List.Folds.{list_all_at}
 use Rattle.std.specs.Prelude.{slice_index, ◌==◌, ◌&&◌}
-use Rattle.std.specs.Int.{w128, from_be_bytes, to_be_bytes, bytes_high_first, byte_at}
+use Rattle.std.specs.Int.{w128, from_be_bytes, to_be_bytes}
 use Rattle.std.specs.List.{list_all}
+use Rattle.std.proofs.lemmas.Option.{same_Some}
+use Rattle.vt_outside.proofs.NumberBytes.{bytes_small}
 use Rattle.uuid.specs.Text.{is_hex_digit, value_of, byte_of_digits, parsed_simple, digits_of, has_hyphens, parsed_hyphenated, parsed_braced, parsed_urn, parsed}
 use Rattle.uuid.specs.Text.{by_index, lower, open_brace, close_brace, has_urn_prefix}
 use Rattle.uuid.proofs.OrderLemmas.{from_be_bytes-to_be_bytes_16}
 use Rattle.uuid.proofs.RoundTrips.{parses_hyphenated}
 use Rattle.desc_schema.specs.Written.{IsReadBack, hyphenated}
 
-value_small : (c : ℕ) → is_hex_digit c ≡ true → value_of c < 16
-value_small c hex = grind (arith, nat_tests)
+nibble_small : (c : ℕ) → is_hex_digit c ≡ true → value_of c < 16
+nibble_small c hex = grind (arith, nat_tests)
 
 digit_small : (hex : List ℕ) → length hex ≡ 32 → list_all is_hex_digit hex ≡ true → (k : ℕ) → k < 32 → value_of (slice_index hex k) < 16
 digit_small hex long all k within =
     ⊎_elim
-    (λ yes. value_small (get_or hex k 0) yes)
+    (λ yes. nibble_small (get_or hex k 0) yes)
     (λ no. absurd (false≢true (sym (list_all_at is_hex_digit hex k 0 (omega arith) no) ∙ all)))
     (cases_Bool (is_hex_digit (get_or hex k 0)))
 
@@ -45,9 +47,6 @@ small_sum f small =
     let s15 = small 15 (omega arith) in
     omega arith
 
-some_is : (k l : List ℕ) → Some k ≡ Some l → k ≡ l
-some_is k l is = cc
-
 none_some : (name : List ℕ) → None ≡ Some name → ⊥
 none_some name is = cc
 
@@ -57,7 +56,7 @@ small_simple hex bytes is =
     (λ good.
     let (long, all) = and_parts (length hex == 32) (list_all is_hex_digit hex) good in
     let long : length hex ≡ 32 = eqb-true (length hex) 32 long in
-    let same : by_index 16 (byte_of_digits hex) ≡ bytes = some_is _ _ (rw good at is) in
+    let same : by_index 16 (byte_of_digits hex) ≡ bytes = same_Some _ _ (rw good at is) in
     subst (λ (bs : List ℕ). from_be_bytes w128 bs < 2 ^ 128) same
     (small_sum (byte_of_digits hex) (λ i within.
     let high : value_of (slice_index hex (2 * i)) < 16 = digit_small hex long all (2 * i) (omega arith) in
@@ -91,15 +90,6 @@ small_parsed s bytes is =
     (either (length s == 38) (parsed_braced s) _ bytes rest))
     (either (length s == 36) (parsed_hyphenated s) _ bytes rest))
     (either (length s == 32) (parsed_simple s) _ bytes is)
-
-byte_small : (k n : ℕ) → byte_at k n < 256
-byte_small zero n = omega arith
-byte_small (suc k) n = omega arith
-
-bytes_small : (k n : ℕ) → All (λ b. b < 256) (bytes_high_first k n)
-bytes_small zero n i d within = absurd (omega arith)
-bytes_small (suc k) n zero d within = byte_small k n
-bytes_small (suc k) n (suc i) d within = bytes_small k n i d (omega arith)
 
 pub hyphenated_reads : IsReadBack hyphenated
 hyphenated_reads text bytes from =

@@ -1,13 +1,14 @@
 -- The walk of the document that is written of values gives them again, part by part.
 use Rattle.std.proofs.Common.{◌≡◌, ℕ, zero, suc, pos, ◌+◌, ◌<◌, ◌==◌, ◌&&◌, true, false, Bool, not, List, [], ◌∷◌, ◌++◌, length, replicate, Option, Some}
 use Rattle.std.proofs.Common.{None, Ok, ◌⊎◌, refl, sym, ap, ◌∙◌, ⊎_elim, append_assoc, arith}
-use Rattle.std.proofs.lemmas.Bool.{false≢true, cases_Bool, and_parts, or_parts, or_left, or_right, le-leb, eqb-true}
+use Rattle.std.proofs.lemmas.Bool.{false≢true, cases_Bool, and_parts, or_parts, or_left, or_right, le-leb, eqb-true, not-true}
 use Rattle.std.proofs.lemmas.List.{append-nil}
 use Rattle.std.proofs.lemmas.Slice.Eq.{bytes_eq-Decides}
 use Rattle.std.specs.Prelude.{nat_le, is_some, if◌then◌else◌}
 use Rattle.std.specs.Int.{w128, from_be_bytes}
 use Rattle.std.specs.List.{list_any}
 use Rattle.std.specs.Str.{bytes_eq}
+use Rattle.vt_outside.proofs.Texts.{text_itself}
 use Rattle.toml.specs.Data.{Data, string, integer, boolean, array, table, Items, no_items, item, Members, no_members, get_member}
 use Rattle.desc_schema.specs.declared.value.Value.{Value}
 use Rattle.desc_schema.specs.declared.fault.Place.{Place}
@@ -23,11 +24,7 @@ use Rattle.desc_schema.specs.Fits.{FitsForm, IsOne, AreParts, IsCounted, FitsSha
 use Rattle.desc_schema.specs.Written.{Spelling, IsReadBack, greatest_integer, word_node, node_of, Write, tables_written, singles_written, array_written}
 use Rattle.desc_schema.specs.Written.{field_written, with_member, fields_written, written_to, written, words_differ, names_differ, IsSoundForm}
 use Rattle.desc_schema.specs.Written.{IsSoundDefault, IsSoundShape, AreSoundFields, IsSound}
-use Rattle.desc_schema.proofs.Putting.{same_bytes, get_here, get_other, none_unknown-with}
-
-not_true : (b : Bool) → not b ≡ true → b ≡ false
-not_true false is = refl
-not_true true is = absurd (false≢true is)
+use Rattle.desc_schema.proofs.Putting.{get_here, get_other, none_unknown-with}
 
 -- single values
 
@@ -39,14 +36,14 @@ word_back n [] within differ = absurd (omega arith)
 word_back zero (word ∷ words) within differ = (
   word,
   refl,
-  λ at k. let here : k + 0 ≡ k = omega arith in rw (same_bytes word, here) refl,
+  λ at k. let here : k + 0 ≡ k = omega arith in rw (text_itself word, here) refl,
   λ test none.
       (or_parts (test word) (list_any test words) none).0,
 )
 word_back (suc n) (front ∷ words) within differ =
     let (alone, others) = and_parts (not (list_any (bytes_eq front) words)) (words_differ words) differ in
     let (word, is, back, away) = word_back n words (omega arith) others in
-    let differs : bytes_eq front word ≡ false = away (bytes_eq front) (not_true _ alone) in (
+    let differs : bytes_eq front word ≡ false = away (bytes_eq front) (not-true _ alone) in (
       word,
       is,
       λ at k. let here : k + suc n ≡ k + 1 + n = omega arith in rw (differs, here) (back at (k + 1)),
@@ -276,8 +273,8 @@ fields_back spell reads inner write Inside all [] values is sound differ more ma
     (made, rw is refl, λ name unknown. refl, λ every is_in none. none, λ place positions new. (positions, rw is refl))
 fields_back spell reads inner write Inside all (field ∷ fields) values (part, others, is, fits, fit) (shape, defaults, sound) differ more made =
     let (alone, differs) = and_parts (not (is_known fields field.name)) (names_differ fields) differ in
-    let away : is_known fields field.name ≡ false = not_true _ alone in
-    let own : is_known (field ∷ fields) field.name ≡ true = or_left _ _ (same_bytes field.name) in
+    let away : is_known fields field.name ≡ false = not-true _ alone in
+    let own : is_known (field ∷ fields) field.name ≡ true = or_left _ _ (text_itself field.name) in
     let (node, written, walks) = field_back spell reads inner write Inside all field field.shape part refl fits shape defaults (others ++ more) in
     let (entries, writes, only, known, walk) =
     fields_back spell reads inner write Inside all fields others fit sound differs more (with_member field.name node made) in

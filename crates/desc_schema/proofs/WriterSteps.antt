@@ -1,7 +1,7 @@
 -- The steps of the writer: a node that is put into a table's map, words, texts that are left, and what its loops have written so far.
 use Rattle.std.proofs.Common.{◌≡◌, ℕ, zero, suc, ◌+◌, ◌-◌, ◌<◌, ◌≤◌, List, [], ◌∷◌, ◌++◌, length, get_or, drop, Some, None, String, Global, Ordering}
 use Rattle.std.proofs.Common.{Less, Equal, Greater, string_bytes, refl, sym, ap, ◌∙◌, arith}
-use Rattle.std.proofs.lemmas.List.{drop_more, drop_all}
+use Rattle.std.proofs.lemmas.List.{drop_all}
 use Rattle.std.specs.Borrow.{Bor}
 use Rattle.std.specs.BTreeMap.{insert_entry}
 use Rattle.std.specs.Ordering.{match_ordering}
@@ -12,10 +12,10 @@ use Rattle.toml.specs.View.{view, items_view, members_view}
 use Rattle.toml.specs.declared.value.Value.{Value as Node}
 use Rattle.desc_schema.specs.declared.schema.Key.{Key}
 use Rattle.desc_schema.specs.declared.value.Value.{Value}
-use Rattle.desc_schema.specs.Form.{Form, Field, texts_of, field_of, fields_of, fields_at}
+use Rattle.desc_schema.specs.Form.{Form, Field, texts_of, fields_of, fields_at}
 use Rattle.desc_schema.specs.Taken.{first, rest}
-use Rattle.desc_schema.specs.Written.{Spelling, IsTextValue, AreTexts, word_node, node_of, single_or_empty, Write, tables_written, singles_written}
-use Rattle.desc_schema.specs.Written.{put_member, with_member, field_written, fields_written, written_to}
+use Rattle.desc_schema.specs.Written.{Spelling, AreTexts, word_node, node_of, single_or_empty, Write, tables_written, singles_written}
+use Rattle.desc_schema.specs.Written.{put_member, fields_written, written_to}
 
 match_entries : (o : Ordering) (a b c : List Entry)
     → members_view (match_ordering o a b c) ≡ match_ordering o (members_view a) (members_view b) (members_view c)
@@ -40,10 +40,6 @@ word_past (front ∷ words) zero past = absurd (omega arith)
 word_past (front ∷ words) (suc n) past = word_past words n (omega arith)
 
 -- texts
-
-pub first_text : (values : List Value) → AreTexts values → IsTextValue (first values)
-first_text [] texts = tt
-first_text (value ∷ values) texts = texts.0
 
 pub rest_texts : (values : List Value) → AreTexts values → AreTexts (rest values)
 rest_texts [] texts = tt
@@ -91,15 +87,6 @@ singles_go_on spell form zero values nodes node total some seen so_far = absurd 
 singles_go_on spell form (suc left) values nodes node total some seen so_far =
     let fewer : suc left - 1 ≡ left = omega arith in
     rw (fewer, spliced_push nodes node (singles_written spell form left (rest values)), seen) so_far
-
--- the next key of a table
-pub fields_go_on : (spell : Spelling) (write : Write) (i : ℕ) (keys : List Key) (key : Key) (values next : List Value) (made more : Members)
-    (total : Members × List Value) → i < length keys
-    → more ≡ with_member (get_or keys i key).name.now (field_written spell write (field_of (get_or keys i key)) values).0 made
-    → next ≡ (field_written spell write (field_of (get_or keys i key)) values).1
-    → fields_written spell write (fields_of (drop i keys)) values made ≡ total
-    → fields_written spell write (fields_of (drop (i + 1) keys)) next more ≡ total
-fields_go_on spell write i keys key values next made more total within is left so_far = rw (is, left) (rw (drop_more keys i key within) at so_far)
 
 pub fields_done : (spell : Spelling) (write : Write) (i : ℕ) (keys : List Key) (values : List Value) (made : Members) (total : Members × List Value)
     → length keys ≤ i → fields_written spell write (fields_of (drop i keys)) values made ≡ total → (made, values) ≡ total

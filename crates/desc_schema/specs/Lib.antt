@@ -4,8 +4,6 @@ pub mod Taken
 pub mod Faults
 pub mod Single
 pub mod Walk
-pub mod Deep
-pub mod Answers
 pub mod Fits
 pub mod Says
 pub mod Written

@@ -2,15 +2,16 @@
 use Rattle.std.specs.Prelude.{ℕ, ℤ, pos, negsuc, ◌+◌, List, [], ◌∷◌, Option, Some, None, Result, Ok, Err, nat_le, ◌&&◌, if◌then◌else◌}
 use Rattle.std.specs.Int.{w128, from_be_bytes}
 use Rattle.std.specs.Str.{bytes_eq}
+use Rattle.vt_outside.specs.Readings.{◌into◌}
+use Rattle.std.specs.Option.{ok_or}
 use Rattle.toml.specs.Data.{Data, as_str, as_integer, as_bool}
 use Rattle.uuid.specs.Text.{parsed}
 use Rattle.desc_schema.specs.declared.value.Value.{Value}
 use Rattle.desc_schema.specs.declared.fault.KeyPlace.{KeyPlace}
 use Rattle.desc_schema.specs.declared.fault.WalkFault.{WalkFault}
-use Rattle.desc_schema.specs.declared.fault.WalkFault.TheVariants.{MissingKey, OutOfRange}
+use Rattle.desc_schema.specs.declared.fault.WalkFault.TheVariants.{MissingKey, OutOfRange, WrongKind}
 use Rattle.desc_schema.specs.Form.{Form}
 use Rattle.desc_schema.specs.Form as forms
-use Rattle.desc_schema.specs.Faults.{◌>>=◌, of_kind}
 
 -- an integer (TOML 1.1, "Integer") from the least to the most
 abbrev pub number_of : KeyPlace → ℕ → ℕ → ℤ → Result Value WalkFault
@@ -31,11 +32,11 @@ word_from at n [] text = Err (OutOfRange at)
 word_from at n (word ∷ words) text = if bytes_eq word text then Ok (Value.Word n) else word_from at (n + 1) words text
 
 abbrev pub value_of : KeyPlace → Form → Data → Result Value WalkFault
-value_of at forms.Text node = of_kind at (as_str node) >>= λ text. Ok (Value.Text text)
-value_of at (forms.Number least most) node = of_kind at (as_integer node) >>= number_of at least most
-value_of at forms.Flag node = of_kind at (as_bool node) >>= λ flag. Ok (Value.Flag flag)
-value_of at forms.Uuid node = of_kind at (as_str node) >>= uuid_of at
-value_of at (forms.Word words) node = of_kind at (as_str node) >>= word_from at 0 words
+value_of at forms.Text node = ok_or (as_str node) (WrongKind at) into λ text. Ok (Value.Text text)
+value_of at (forms.Number least most) node = ok_or (as_integer node) (WrongKind at) into number_of at least most
+value_of at forms.Flag node = ok_or (as_bool node) (WrongKind at) into λ flag. Ok (Value.Flag flag)
+value_of at forms.Uuid node = ok_or (as_str node) (WrongKind at) into uuid_of at
+value_of at (forms.Word words) node = ok_or (as_str node) (WrongKind at) into word_from at 0 words
 
 -- what stands for a key that is left out
 abbrev pub otherwise_of : KeyPlace → Option Value → Result Value WalkFault

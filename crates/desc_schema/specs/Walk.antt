@@ -5,15 +5,17 @@ use Rattle.std.specs.Cmp.Lexicographic.{slice_cmp}
 use Rattle.std.specs.List.{list_any}
 use Rattle.std.specs.Ordering.{nat_cmp, is_le}
 use Rattle.std.specs.Str.{bytes_eq}
+use Rattle.vt_outside.specs.Readings.{◌into◌}
+use Rattle.std.specs.Option.{ok_or}
 use Rattle.toml.specs.Data.{Data, Members, no_members, member, Items, no_items, item, get_member, as_table, as_array}
 use Rattle.desc_schema.specs.declared.value.Value.{Value}
 use Rattle.desc_schema.specs.declared.fault.Place.{Place}
 use Rattle.desc_schema.specs.declared.fault.KeyPlace.{KeyPlace}
 use Rattle.desc_schema.specs.declared.fault.WalkFault.{WalkFault}
-use Rattle.desc_schema.specs.declared.fault.WalkFault.TheVariants.{UnknownKey}
+use Rattle.desc_schema.specs.declared.fault.WalkFault.TheVariants.{UnknownKey, WrongKind}
 use Rattle.desc_schema.specs.Form.{Form, Shape, Field, fields_at}
 use Rattle.desc_schema.specs.Form as forms
-use Rattle.desc_schema.specs.Faults.{◌>>=◌, key_at, alone, of_kind}
+use Rattle.desc_schema.specs.Faults.{key_at, alone}
 use Rattle.desc_schema.specs.Single.{value_of, otherwise_of}
 
 -- Positions: for each number of a table, how many elements of its arrays were met before. So a position counts through all the
@@ -41,15 +43,15 @@ Inner = Place → Members → Walk
 
 -- values, and those that are given after them
 abbrev pub after : List Value → Part → Part
-after front given = given >>= λ part. Ok (front ++ part.0, part.1)
+after front given = given into λ part. Ok (front ++ part.0, part.1)
 
 -- two parts, one after the other
 abbrev pub joined : Part → Walk → Part
-joined given others = given >>= λ part. after part.0 (others part.1)
+joined given others = given into λ part. after part.0 (others part.1)
 
 -- one value alone
 abbrev pub one : Result Value WalkFault → Walk
-one given positions = given >>= λ found. Ok (found ∷ [], positions)
+one given positions = given into λ found. Ok (found ∷ [], positions)
 
 -- how many nodes an array has
 abbrev pub count_of : Items → ℕ
@@ -59,7 +61,7 @@ count_of (item node nodes) = suc (count_of nodes)
 -- an element of an array of tables
 abbrev pub element : Inner → KeyPlace → ℕ → Data → Walk
 element inner at table node positions =
-    of_kind at (as_table node) >>= λ inside. inner (record { table = table; index = position table positions }) inside (advanced table positions)
+    ok_or (as_table node) (WrongKind at) into λ inside. inner (record { table = table; index = position table positions }) inside (advanced table positions)
 
 -- the elements of an array of tables: each one is tested and walked whole before the next
 unfoldable pub elements : Inner → KeyPlace → ℕ → Items → Walk
@@ -75,11 +77,11 @@ singles at form (item node nodes) positions = joined (one (value_of at form node
 abbrev pub shaped : Inner → KeyPlace → Shape → Data → Walk
 shaped inner at (forms.One form) node positions = one (value_of at form node) positions
 shaped inner at (forms.Table table) node positions =
-    of_kind at (as_table node) >>= λ inside. after (Value.Count 1 ∷ []) (inner (alone table) inside positions)
+    ok_or (as_table node) (WrongKind at) into λ inside. after (Value.Count 1 ∷ []) (inner (alone table) inside positions)
 shaped inner at (forms.Tables table) node positions =
-    of_kind at (as_array node) >>= λ nodes. after (Value.Count (count_of nodes) ∷ []) (elements inner at table nodes positions)
+    ok_or (as_array node) (WrongKind at) into λ nodes. after (Value.Count (count_of nodes) ∷ []) (elements inner at table nodes positions)
 shaped inner at (forms.Values form) node positions =
-    of_kind at (as_array node) >>= λ nodes. after (Value.Count (count_of nodes) ∷ []) (singles at form nodes positions)
+    ok_or (as_array node) (WrongKind at) into λ nodes. after (Value.Count (count_of nodes) ∷ []) (singles at form nodes positions)
 
 abbrev pub found_or : Inner → KeyPlace → Field → Option Data → Walk
 found_or inner at field None positions = one (otherwise_of at field.default) positions
@@ -135,9 +137,9 @@ unfoldable pub table_walked : List (List Field) → ℕ → Inner
 table_walked schema zero place table positions = Ok ([], positions)
 table_walked schema (suc depth) place table positions =
     all_known place (fields_at schema place.table) table
-    >>= λ known. at_fields (table_walked schema depth) place (fields_at schema place.table) table positions
+    into λ known. at_fields (table_walked schema depth) place (fields_at schema place.table) table positions
 
 -- The walk of a document: its root is table 0. Where no table stands inside itself, no more tables are inside one another than the
 -- schema has.
 abbrev pub walked : List (List Field) → Members → Result (List Value) WalkFault
-walked schema root = table_walked schema (length schema) (alone 0) root (replicate (length schema) 0) >>= λ part. Ok part.0
+walked schema root = table_walked schema (length schema) (alone 0) root (replicate (length schema) 0) into λ part. Ok part.0

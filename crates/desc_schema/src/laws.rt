@@ -7,17 +7,10 @@ ghost use Rattle.desc_schema.specs.declared.fault.WalkFault.TheVariants.{Unknown
 ghost use Rattle.desc_schema.specs.Form.{Field};
 ghost use Rattle.desc_schema.specs.Names.{NumbersAscend, NumbersAreNames};
 ghost use Rattle.desc_schema.specs.Walk.{all_known, IsLeastUnknown};
-ghost use Rattle.desc_schema.specs.Answers.{OneAnswer};
-ghost use Rattle.desc_schema.specs.Deep.{WalksAreDeepEnough};
 ghost use Rattle.desc_schema.specs.Says.{WalkGivesWhatIsSaid};
 ghost use Rattle.desc_schema.specs.Fits.{WalkedValuesFit};
 ghost use Rattle.desc_schema.specs.Written.{IsReadBack, hyphenated, WrittenValuesAreWalked};
 ghost use Rattle.desc_schema.specs.Written.{WrittenDocumentsAreShallow, WrittenDocumentsHaveValidDates};
-
-/// Says that `walk_document` has one answer for a document and a schema, aside from want of memory.
-pub fn one_answer_is_given()
-    ensures { OneAnswer }
-{}
 
 /// Says that the unknown key that a walk names is the least of its table's by its bytes: it is one of them, it isn't the schema's,
 /// and no other such key comes before it.
@@ -29,12 +22,6 @@ pub fn least_unknown_key_is_named()
 /// Says that the number of a key is of that key alone, where in each table of the schema the numbers of the keys ascend: it names that key.
 pub fn keys_are_named_by_their_numbers()
     ensures { (schema : List (List Field)) → NumbersAscend schema → NumbersAreNames schema }
-{}
-
-/// Says that a walk leaves out no inner table, where each table of the schema stands before the tables inside it: one that may go
-/// deeper gives the same.
-pub fn walks_are_deep_enough()
-    ensures { WalksAreDeepEnough }
 {}
 
 /// Says that a walk gives values exactly where the document's tables say them, key by key, whatever the schema.

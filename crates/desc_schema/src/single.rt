@@ -1,9 +1,10 @@
 ghost use Rattle.std.specs.Prelude.{◌≡◌, Ok, Err};
+ghost use Rattle.vt_outside.specs.Readings.{Agrees};
+ghost use Rattle.desc_schema.specs.Faults.{reported};
 ghost use Rattle.toml.specs.View.{view};
 ghost use Rattle.desc_schema.specs.declared.fault.WalkError.TheVariants as errors;
 ghost use Rattle.desc_schema.specs.declared.fault.WalkFault.TheVariants as faults;
 ghost use Rattle.desc_schema.specs.Form.{form_of, texts_of, default_of};
-ghost use Rattle.desc_schema.specs.Faults.{Gives};
 ghost use Rattle.desc_schema.specs.Single.{value_of, number_of, uuid_of, word_from, otherwise_of};
 
 use crate::fault::{KeyPlace, WalkError, WalkFault};
@@ -20,7 +21,7 @@ pub(crate) fn value_of(
     scalar: Scalar,
     node: &toml::Value,
 ) -> Result<Value, WalkError>
-    ensures { Gives (λ found. found) result (value_of at (form_of scalar) (view node.now)) }
+    ensures { Agrees reported (λ found. found) result (value_of at (form_of scalar) (view node.now)) }
 {
     match scalar {
         Scalar::Text => match node.as_str() {
@@ -52,7 +53,7 @@ pub(crate) fn otherwise_of(
     at: KeyPlace,
     otherwise: Otherwise,
 ) -> Result<Value, WalkError>
-    ensures { Gives (λ found. found) result (otherwise_of at (default_of otherwise)) }
+    ensures { Agrees reported (λ found. found) result (otherwise_of at (default_of otherwise)) }
 {
     match otherwise {
         Otherwise::Required => Err(WalkError::Fault(WalkFault::MissingKey(at))),
@@ -67,7 +68,7 @@ pub(crate) fn otherwise_of(
 
 /// Returns a text with the bytes of `string`.
 pub(crate) fn text_of(alloc: Global, string: &str) -> Result<Text, WalkError>
-    ensures { Gives (λ text. text) result (Ok string.now) }
+    ensures { Agrees reported (λ text. text) result (Ok string.now) }
 {
     let mut text = Text::new(alloc);
     text.extend(string.as_bytes())?;
@@ -75,7 +76,7 @@ pub(crate) fn text_of(alloc: Global, string: &str) -> Result<Text, WalkError>
 }
 
 fn number_of(at: KeyPlace, least: u64, most: u64, integer: i64) -> Result<Value, WalkError>
-    ensures { Gives (λ found. found) result (number_of at least most integer) }
+    ensures { Agrees reported (λ found. found) result (number_of at least most integer) }
 {
     match u64::try_from(integer) {
         Ok(number) if least <= number && number <= most => Ok(Value::Number(number)),
@@ -84,7 +85,7 @@ fn number_of(at: KeyPlace, least: u64, most: u64, integer: i64) -> Result<Value,
 }
 
 fn uuid_of(at: KeyPlace, text: &str) -> Result<Value, WalkError>
-    ensures { Gives (λ found. found) result (uuid_of at text.now) }
+    ensures { Agrees reported (λ found. found) result (uuid_of at text.now) }
 {
     match Uuid::parse_str(text) {
         Ok(uuid) => Ok(Value::Uuid(uuid.as_u128())),
@@ -93,7 +94,7 @@ fn uuid_of(at: KeyPlace, text: &str) -> Result<Value, WalkError>
 }
 
 fn word_of(at: KeyPlace, words: &[&str], text: &str) -> Result<Value, WalkError>
-    ensures { Gives (λ found. found) result (word_from at 0 (texts_of words.now) text.now) }
+    ensures { Agrees reported (λ found. found) result (word_from at 0 (texts_of words.now) text.now) }
 {
     let mut place = 0;
     while place < words.len() {

@@ -1,10 +1,13 @@
 ghost use Rattle.std.specs.Prelude.{◌≡◌, option_map};
 ghost use Rattle.std.specs.List.{list_any};
+ghost use Rattle.std.specs.Option.{ok_or};
 ghost use Rattle.std.specs.Str.{bytes_eq};
+ghost use Rattle.vt_outside.specs.Readings.{Agrees};
 ghost use Rattle.toml.specs.Data.{get_member, as_table, as_array};
 ghost use Rattle.toml.specs.View.{view, table_view, items_view};
 ghost use Rattle.desc_schema.specs.Form.{form_of, shape_of, default_of, field_of, fields_of, schema_of};
-ghost use Rattle.desc_schema.specs.Faults.{Gives, of_kind};
+ghost use Rattle.desc_schema.specs.declared.fault.WalkFault.TheVariants.{WrongKind};
+ghost use Rattle.desc_schema.specs.Faults.{reported};
 ghost use Rattle.desc_schema.specs.Single.{value_of, otherwise_of};
 ghost use Rattle.desc_schema.specs.Walk.{after, one, element, elements, singles, shaped, at_field, all_known, table_walked, walked};
 
@@ -33,7 +36,7 @@ pub fn walk_document(
     schema: &[TableSchema],
     root: &Table,
 ) -> Result<Values, WalkError>
-    ensures { Gives (λ values. values) result (walked (schema_of schema.now) (table_view root.now)) }
+    ensures { Agrees reported (λ values. values) result (walked (schema_of schema.now) (table_view root.now)) }
 {
     let mut progress = Progress {
         values: Values::new(alloc),
@@ -54,7 +57,7 @@ fn push_table(
     table: &Table,
     progress: &mut Progress,
 ) -> Result<(), WalkError>
-    ensures { Gives (λ _. (progress.new.values, progress.new.positions)) result
+    ensures { Agrees reported (λ _. (progress.new.values, progress.new.positions)) result
         (after progress.old.values (table_walked (schema_of schema.now) depth place (table_view table.now) progress.old.positions)) }
 {
     if depth == 0 {
@@ -82,7 +85,7 @@ fn push_key(
     table: &Table,
     progress: &mut Progress,
 ) -> Result<(), WalkError>
-    ensures { Gives (λ _. (progress.new.values, progress.new.positions)) result
+    ensures { Agrees reported (λ _. (progress.new.values, progress.new.positions)) result
         (after progress.old.values (at_field (table_walked (schema_of schema.now) depth) place (field_of key) (table_view table.now) progress.old.positions)) }
 {
     let at = place.key(key.number);
@@ -103,7 +106,7 @@ fn push_node(
     node: &toml::Value,
     progress: &mut Progress,
 ) -> Result<(), WalkError>
-    ensures { Gives (λ _. (progress.new.values, progress.new.positions)) result
+    ensures { Agrees reported (λ _. (progress.new.values, progress.new.positions)) result
         (after progress.old.values (shaped (table_walked (schema_of schema.now) depth) at (shape_of kind) (view node.now) progress.old.positions)) }
 {
     match kind {
@@ -138,7 +141,7 @@ fn push_elements(
     nodes: &[toml::Value],
     progress: &mut Progress,
 ) -> Result<(), WalkError>
-    ensures { Gives (λ _. (progress.new.values, progress.new.positions)) result
+    ensures { Agrees reported (λ _. (progress.new.values, progress.new.positions)) result
         (after progress.old.values (elements (table_walked (schema_of schema.now) depth) at table (items_view nodes.now) progress.old.positions)) }
 {
     let mut index = 0;
@@ -160,7 +163,7 @@ fn push_element(
     node: &toml::Value,
     progress: &mut Progress,
 ) -> Result<(), WalkError>
-    ensures { Gives (λ _. (progress.new.values, progress.new.positions)) result
+    ensures { Agrees reported (λ _. (progress.new.values, progress.new.positions)) result
         (after progress.old.values (element (table_walked (schema_of schema.now) depth) at table (view node.now) progress.old.positions)) }
 {
     let inside = table_of(at, node)?;
@@ -177,7 +180,7 @@ fn push_singles(
     nodes: &[toml::Value],
     progress: &mut Progress,
 ) -> Result<(), WalkError>
-    ensures { Gives (λ _. (progress.new.values, progress.new.positions)) result
+    ensures { Agrees reported (λ _. (progress.new.values, progress.new.positions)) result
         (after progress.old.values (singles at (form_of scalar) (items_view nodes.now) progress.old.positions)) }
 {
     let mut index = 0;
@@ -196,7 +199,7 @@ fn push_one(
     node: &toml::Value,
     progress: &mut Progress,
 ) -> Result<(), WalkError>
-    ensures { Gives (λ _. (progress.new.values, progress.new.positions)) result
+    ensures { Agrees reported (λ _. (progress.new.values, progress.new.positions)) result
         (after progress.old.values (one (value_of at (form_of scalar) (view node.now)) progress.old.positions)) }
 {
     let value = value_of(alloc, at, scalar, node)?;
@@ -211,7 +214,7 @@ fn push_default(
     otherwise: Otherwise,
     progress: &mut Progress,
 ) -> Result<(), WalkError>
-    ensures { Gives (λ _. (progress.new.values, progress.new.positions)) result
+    ensures { Agrees reported (λ _. (progress.new.values, progress.new.positions)) result
         (after progress.old.values (one (otherwise_of at (default_of otherwise)) progress.old.positions)) }
 {
     let value = otherwise_of(alloc, at, otherwise)?;
@@ -220,7 +223,7 @@ fn push_default(
 }
 
 fn table_of<'a>(at: KeyPlace, node: &'a toml::Value) -> Result<&'a Table, WalkError>
-    ensures { Gives (λ inside. table_view inside.now) result (of_kind at (as_table (view node.now))) }
+    ensures { Agrees reported (λ inside. table_view inside.now) result (ok_or (as_table (view node.now)) (WrongKind at)) }
 {
     match node.as_table() {
         Some(inside) => Ok(inside),
@@ -229,7 +232,7 @@ fn table_of<'a>(at: KeyPlace, node: &'a toml::Value) -> Result<&'a Table, WalkEr
 }
 
 fn nodes_of<'a>(at: KeyPlace, node: &'a toml::Value) -> Result<&'a [toml::Value], WalkError>
-    ensures { Gives (λ nodes. items_view nodes.now) result (of_kind at (as_array (view node.now))) }
+    ensures { Agrees reported (λ nodes. items_view nodes.now) result (ok_or (as_array (view node.now)) (WrongKind at)) }
 {
     match node.as_array() {
         Some(nodes) => Ok(nodes.as_slice()),
@@ -239,7 +242,7 @@ fn nodes_of<'a>(at: KeyPlace, node: &'a toml::Value) -> Result<&'a [toml::Value]
 
 // Refuses the first key of the table that isn't one of `keys`: the least one, since the table's keys ascend.
 fn only_known(alloc: Global, place: Place, keys: &[Key], table: &Table) -> Result<(), WalkError>
-    ensures { Gives (λ done. done) result (all_known place (fields_of keys.now) (table_view table.now)) }
+    ensures { Agrees reported (λ done. done) result (all_known place (fields_of keys.now) (table_view table.now)) }
 {
     for name in table.keys() {
         if !is_named(keys, name.as_str()) {

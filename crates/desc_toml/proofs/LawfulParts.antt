@@ -5,6 +5,7 @@ use Rattle.std.specs.List.{list_all, flat_map, enumerate_from, AllByRecursion}
 use Rattle.std.specs.Option.{option_map_or}
 use Rattle.std.proofs.lemmas.Bool.{and_parts, leb-true, ltb-true}
 use Rattle.std.proofs.lemmas.List.Folds.{list_all-append, list_all-map}
+use Rattle.vt_outside.proofs.Each.{each_true}
 use Rattle.machine_desc.specs.declared.machine.Machine.{Machine}
 use Rattle.machine_desc.specs.declared.acpi_parts.Cpu.{Cpu}
 use Rattle.machine_desc.specs.declared.acpi_parts.Numa.{Numa}
@@ -13,7 +14,7 @@ use Rattle.machine_desc.specs.Rules.{IsAccepted, is_text, texts_if, is_new, irq_
 use Rattle.machine_desc.specs.Rules.{is_lawful_override, is_lawful_numa, node_count, is_node, pair_of, routes_of, is_lawful_route}
 use Rattle.machine_desc.proofs.Accepted.{kept, each_kept, holds_where_kept, nodes_are_there, lawful_numa}
 use Rattle.machine_desc.proofs.AllTexts.{all_of_each}
-use Rattle.desc_toml.proofs.Valued.{each_true, each_holds}
+use Rattle.desc_toml.proofs.Valued.{each_holds}
 use Rattle.desc_toml.proofs.ValuedDevices.{few_nodes}
 
 pub if_true : {X : Type 0} (test : X → Bool) (given : Option X) → option_map_or test given true ≡ true → IfSome given (λ x. test x ≡ true)

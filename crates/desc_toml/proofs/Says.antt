@@ -1,8 +1,11 @@
 -- A machine is read from bytes exactly where they describe it.
-use Rattle.std.proofs.Common.{◌≡◌, ℕ, List, Option, Some, None, Result, Ok, Err, sym, ap, ◌∙◌, ⊎_elim, if◌then◌else◌}
+use Rattle.std.proofs.Common.{◌≡◌, ℕ, List, Option, Some, None, Result, Ok, Err, sym, ap, ◌∙◌, ⊎_elim}
 use Rattle.std.proofs.lemmas.Bool.{cases_Bool}
 use Rattle.std.proofs.lemmas.Str.{IsUtf8-from_is_utf8}
 use Rattle.std.specs.Str.{is_utf8}
+use Rattle.vt_outside.specs.Readings.{◌into◌}
+use Rattle.std.specs.Option.{ok_or}
+use Rattle.vt_outside.proofs.Readings.{part_read}
 use Rattle.toml.specs.Data.{Members}
 use Rattle.toml.specs.Parse.{parse_document}
 use Rattle.machine_desc.specs.declared.machine.Machine.{Machine}
@@ -16,10 +19,10 @@ use Rattle.desc_toml.specs.declared.fault.DescFault.{DescFault}
 use Rattle.desc_toml.specs.declared.fault.DescFault.TheVariants.{NotToml}
 use Rattle.desc_toml.specs.Keys.{schema}
 use Rattle.desc_toml.specs.Values.{machine_of}
-use Rattle.desc_toml.specs.Reading.{◌then◌, root_found, root_in, values_found, values_in, machine_in, unless_broken, accepted, Reads}
+use Rattle.desc_toml.specs.Reading.{root_in, values_found, values_in, machine_in, unless_broken, accepted, Reads}
 use Rattle.desc_toml.specs.Tables.{Describes}
 use Rattle.desc_toml.proofs.Steps.{read_of_text}
-use Rattle.desc_toml.proofs.OneMachine.{before, kept, read_accepted}
+use Rattle.desc_toml.proofs.OneMachine.{kept, read_accepted}
 
 -- from what the tables say
 
@@ -47,7 +50,7 @@ not_read m is = cc
 same_machine : (a b : Machine) → some_machine a ≡ Ok b → b ≡ a
 same_machine a b is = cc
 
-root_read : (found : Option Members) (root : Members) → root_found found ≡ Ok root → found ≡ Some root
+root_read : (found : Option Members) (root : Members) → ok_or found NotToml ≡ Ok root → found ≡ Some root
 root_read None root is = absurd (cc)
 root_read (Some other) root is = cc
 
@@ -61,9 +64,9 @@ described_reads bytes m is =
     ⊎_elim
     (λ utf8.
     let text = IsUtf8-from_is_utf8 bytes utf8 in
-    let (found, read, keeps) = before (machine_in bytes) accepted m (sym (read_of_text bytes text) ∙ is) in
-    let (root, parsed, of_root) = before (root_in bytes) (λ root. values_in root then λ values. Ok (machine_of values)) found read in
-    let (values, gave, made) = before (values_in root) (λ values. Ok (machine_of values)) found of_root in
+    let (found, read, keeps) = part_read (machine_in bytes) accepted m (sym (read_of_text bytes text) ∙ is) in
+    let (root, parsed, of_root) = part_read (root_in bytes) (λ root. values_in root into λ values. Ok (machine_of values)) found read in
+    let (values, gave, made) = part_read (values_in root) (λ values. Ok (machine_of values)) found of_root in
     let says = (walked_says schema root values).0 (values_read (walked schema root) values gave) in
     let this : m ≡ machine_of values = sym (kept found m (broken_rule found) keeps).0 ∙ same_machine (machine_of values) found made in
     record { text = text; tables = (root, values, root_read (parse_document bytes) root parsed, says, this); accepted = read_accepted bytes m is })

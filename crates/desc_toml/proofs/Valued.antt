@@ -1,9 +1,9 @@
 -- The values of a part are those that the part is taken from again, they fit the keys, and their texts are UTF-8. What holds of a part holds
 -- of one that may be left out, and of each in a list.
-use Rattle.std.proofs.Common.{◌≡◌, ◌⊎◌, inl, inr, ℕ, zero, suc, ◌<◌, ◌≤◌, ◌^◌, Bool, true, List, [], ◌∷◌, ◌++◌, length, drop, All, Option, Some, None, nat_le}
+use Rattle.std.proofs.Common.{◌≡◌, ◌⊎◌, inl, inr, ℕ, ◌<◌, ◌≤◌, ◌^◌, true, List, [], ◌∷◌, ◌++◌, length, drop, Option, Some, None, nat_le}
 use Rattle.std.proofs.Common.{refl, sym, ap, ◌∙◌, arith, append_assoc, append-nil}
 use Rattle.std.specs.Prelude.{IfSome}
-use Rattle.std.specs.Int.{w128, to_be_bytes, bytes_high_first, byte_at}
+use Rattle.std.specs.Int.{w128, to_be_bytes}
 use Rattle.std.specs.List.{list_all, flat_map, AllByRecursion}
 use Rattle.std.specs.Str.{IsUtf8, IsAscii}
 use Rattle.std.proofs.lemmas.Bool.{and_parts, leb-true, le-leb}
@@ -13,6 +13,7 @@ use Rattle.uuid.specs.Text.{lower, hyphenated_text}
 use Rattle.uuid.proofs.OrderLemmas.{from_be_bytes-to_be_bytes_16}
 use Rattle.uuid.proofs.RoundTrips.{parses_hyphenated}
 use Rattle.vt_outside.specs.Name.{is_printable}
+use Rattle.vt_outside.proofs.NumberBytes.{bytes_small}
 use Rattle.desc_schema.specs.declared.value.Value.{Value}
 use Rattle.desc_schema.specs.Form.{Form, Shape, Field}
 use Rattle.desc_schema.specs.Form as forms
@@ -42,15 +43,6 @@ each_utf8 (text ∷ texts) all =
     (lawful_utf8 text both.0, each_utf8 texts both.1)
 
 -- a number of 128 bits is that of its UUID's text
-
-byte_small : (k n : ℕ) → byte_at k n < 256
-byte_small zero n = omega arith
-byte_small (suc k) n = omega arith
-
-bytes_small : (k n : ℕ) → All (λ b. b < 256) (bytes_high_first k n)
-bytes_small zero n i d within = absurd (omega arith)
-bytes_small (suc k) n zero d within = byte_small k n
-bytes_small (suc k) n (suc i) d within = bytes_small k n i d (omega arith)
 
 uuid_fits : (n : ℕ) → n < 2 ^ 128 → FitsForm forms.Uuid (Value.Uuid n)
 uuid_fits n small =
@@ -252,9 +244,3 @@ both_of_given P Q R f (Some x) p q = f x p q
 pub given_holds : {X : Type 0} (P Q : X → Type 0) → ((x : X) → P x → Q x) → (given : Option X) → IfSome given P → IfSome given Q
 given_holds P Q f None p = tt
 given_holds P Q f (Some x) p = f x p
-
-pub each_true : {X : Type 0} (test : X → Bool) (xs : List X) → list_all test xs ≡ true → AllByRecursion (λ x. test x ≡ true) xs
-each_true test [] all = tt
-each_true test (x ∷ xs) all =
-    let both = and_parts (test x) (list_all test xs) all in
-    (both.0, each_true test xs both.1)

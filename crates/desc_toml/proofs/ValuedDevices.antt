@@ -3,8 +3,8 @@ use Rattle.std.proofs.Common.{◌≡◌, inr, ℕ, suc, ◌+◌, ◌≤◌, ◌<
 use Rattle.std.proofs.Common.{nat_lt, refl, ap, arith, append_assoc}
 use Rattle.std.specs.List.{list_all, enumerate_from, AllByRecursion}
 use Rattle.std.proofs.lemmas.Bool.{and_parts, leb-true, le-leb, ltb-true}
+use Rattle.vt_outside.proofs.Each.{each_true}
 use Rattle.desc_schema.specs.declared.value.Value.{Value}
-use Rattle.desc_schema.specs.Form.{Field}
 use Rattle.desc_schema.specs.Form as forms
 use Rattle.desc_schema.specs.Fits.{IsOne, FitsFields, FitsTable}
 use Rattle.machine_desc.specs.declared.acpi_parts.Numa.{Numa}
@@ -22,7 +22,7 @@ use Rattle.desc_toml.specs.Keys.{schema, numa_keys, bridge_keys, window_keys, ro
 use Rattle.desc_toml.specs.Values.{kind_at, byte_taken, numa_taken, window_taken, route_taken, bridge_taken, uart_taken}
 use Rattle.desc_toml.specs.Printed.{list_values, number_values, numa_values, place_of_kind, window_values, route_values, bridge_values, uart_values}
 use Rattle.desc_toml.proofs.Valued.{IsValued, good_fits, number_good, list_valued, first_key, last_key, keys_append, texts_append, both_of_each}
-use Rattle.desc_toml.proofs.Valued.{each_holds, each_true}
+use Rattle.desc_toml.proofs.Valued.{each_holds}
 use Rattle.desc_toml.proofs.ValuedParts.{part_good, byte_valued}
 
 pub few_nodes : (n : Numa) → is_lawful_numa n ≡ true → n.nodes ≤ 64

@@ -3,6 +3,7 @@ use Rattle.std.proofs.Common.{◌≡◌, inr, ℕ, ◌<◌, ◌^◌, true, List,
 use Rattle.std.specs.Prelude.{IfSome}
 use Rattle.std.specs.List.{list_all, AllByRecursion}
 use Rattle.std.specs.Option.{option_map_or}
+use Rattle.vt_outside.proofs.Each.{each_true}
 use Rattle.desc_schema.specs.declared.value.Value.{Value}
 use Rattle.desc_schema.specs.Form.{Field}
 use Rattle.desc_schema.specs.Form as forms
@@ -34,7 +35,7 @@ use Rattle.desc_toml.specs.Printed.{dimm_values, range_values, slot_values, acpi
 use Rattle.desc_toml.specs.Printed.{override_values, nmi_values, numa_values, bridge_values, uart_values, front_values, array_values, table_values}
 use Rattle.desc_toml.specs.Printed.{entry_values, device_values, values_of}
 use Rattle.desc_toml.proofs.Valued.{IsValued, good_fits, good_texts, number_good, uuid_good, list_valued, part_valued, texts_append, first_key}
-use Rattle.desc_toml.proofs.Valued.{last_key, keys_append, both_of_each, all_of_each, each_holds, given_holds, both_of_given, each_true}
+use Rattle.desc_toml.proofs.Valued.{last_key, keys_append, both_of_each, all_of_each, each_holds, given_holds, both_of_given}
 use Rattle.desc_toml.proofs.ValuedParts.{uuid_back, text_valued, system_valued, firmware_valued, chassis_valued, socket_valued, dimm_valued, range_valued}
 use Rattle.desc_toml.proofs.ValuedParts.{slot_valued, acpi_valued, power_valued, hpet_valued, apic_valued, cpu_valued, io_apic_valued, override_valued}
 use Rattle.desc_toml.proofs.ValuedParts.{nmi_valued}

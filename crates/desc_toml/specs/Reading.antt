@@ -1,6 +1,8 @@
 -- What bytes are read as: a machine, or the first fault. The bytes are a TOML document (TOML 1.1) in UTF-8.
 use Rattle.std.specs.Prelude.{◌≡◌, ℕ, List, Option, Some, None, Result, Ok, Err, if◌then◌else◌}
 use Rattle.std.specs.Str.{is_utf8}
+use Rattle.vt_outside.specs.Readings.{◌into◌}
+use Rattle.std.specs.Option.{ok_or}
 use Rattle.toml.specs.Data.{Members}
 use Rattle.toml.specs.Parse.{parse_document}
 use Rattle.desc_schema.specs.declared.value.Value.{Value}
@@ -15,23 +17,13 @@ use Rattle.desc_toml.specs.declared.fault.DescFault.TheVariants.{NotToml, Unknow
 use Rattle.desc_toml.specs.Keys.{schema}
 use Rattle.desc_toml.specs.Values.{machine_of}
 
--- on with what was read, or its fault
-infixl 10 ◌then◌
-abbrev pub ◌then◌ : {A B : Type 0} → Result A DescFault → (A → Result B DescFault) → Result B DescFault
-(Ok x) then f = f x
-(Err fault) then f = Err fault
-
 -- the bytes of a text
 abbrev pub text_in : List ℕ → Result (List ℕ) DescFault
 text_in bytes = if is_utf8 bytes then Ok bytes else Err NotToml
 
 -- the root table of a document
-abbrev pub root_found : Option Members → Result Members DescFault
-root_found None = Err NotToml
-root_found (Some root) = Ok root
-
 abbrev pub root_in : List ℕ → Result Members DescFault
-root_in text = root_found (parse_document text)
+root_in text = ok_or (parse_document text) NotToml
 
 -- the fault of a walk, as the reader tells it
 abbrev pub told : WalkFault → DescFault
@@ -58,11 +50,11 @@ accepted machine = unless_broken machine (broken_rule machine)
 
 -- the machine that a text describes, whether or not it keeps the rules
 abbrev pub machine_in : List ℕ → Result Machine DescFault
-machine_in text = root_in text then λ root. values_in root then λ values. Ok (machine_of values)
+machine_in text = root_in text into λ root. values_in root into λ values. Ok (machine_of values)
 
 -- what bytes are read as
 abbrev pub read_of : List ℕ → Result Machine DescFault
-read_of bytes = text_in bytes then λ text. machine_in text then accepted
+read_of bytes = text_in bytes into λ text. machine_in text into accepted
 
 -- the bytes are read as a machine
 abbrev pub Reads : List ℕ → Machine → Type 0
@@ -76,12 +68,7 @@ fault_in (Err fault) = Some fault
 abbrev pub fault_of : List ℕ → Option DescFault
 fault_of bytes = fault_in (read_of bytes)
 
--- What the code returned, as it is seen, is what is read, unless memory ran out.
-
-abbrev pub Fails : {V : Type 0} → DescFault → Result V DescFault → Type 0
-Fails OutOfMemory read = Unit {0}
-Fails fault read = read ≡ Err fault
-
-abbrev pub Gives : {T V : Type 0} → (T → V) → Result T DescFault → Result V DescFault → Type 0
-Gives seen (Ok x) read = read ≡ Ok (seen x)
-Gives seen (Err fault) read = Fails fault read
+-- the fault that an error reports, or none where memory ran out
+abbrev pub reported : DescFault → Option DescFault
+reported OutOfMemory = None
+reported fault = Some fault

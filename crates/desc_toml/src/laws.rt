@@ -2,11 +2,12 @@
 
 ghost use Rattle.std.specs.Prelude.{◌≡◌, None, Some, ◌↔◌, ℕ, List};
 ghost use Rattle.std.specs.Str.{IsUtf8};
+ghost use Rattle.vt_outside.specs.Readings.{IsFaultOf};
 ghost use Rattle.toml.specs.Parse.{parse_document};
 ghost use Rattle.machine_desc.specs.declared.machine.Machine.{Machine};
 ghost use Rattle.machine_desc.specs.Rules.{IsAccepted, HasFittingUuids};
 ghost use Rattle.machine_desc.specs.Fields.{HasFittingFields};
-ghost use Rattle.desc_toml.specs.Reading.{Reads, Fails, read_of, fault_of};
+ghost use Rattle.desc_toml.specs.Reading.{Reads, read_of, fault_of, reported};
 ghost use Rattle.desc_toml.specs.declared.fault.DescFault.{DescFault};
 ghost use Rattle.desc_toml.specs.declared.fault.DescFault.TheVariants.{OutOfMemory};
 ghost use Rattle.desc_schema.specs.Names.{NumbersAscend, NumbersAreNames};
@@ -38,7 +39,7 @@ pub fn machine_is_read_as_the_tables_say()
 
 /// Says that what the reader tells, unless memory ran out, is the fault of the bytes, and that bytes that are read have none.
 pub fn told_fault_is_of_the_bytes()
-    ensures told { (bytes : List ℕ) (fault : DescFault) → Fails fault (read_of bytes) → ¬ (fault ≡ OutOfMemory) → fault_of bytes ≡ Some fault }
+    ensures told { (bytes : List ℕ) (fault : DescFault) → IsFaultOf (reported fault) (read_of bytes) → ¬ (fault ≡ OutOfMemory) → fault_of bytes ≡ Some fault }
     ensures none { (bytes : List ℕ) (machine : Machine) → Reads bytes machine → fault_of bytes ≡ None }
 {}
 

@@ -1,7 +1,8 @@
 ghost use Rattle.std.specs.Prelude.{◌≡◌, Err};
 ghost use Rattle.std.specs.Str.{IsUtf8};
+ghost use Rattle.vt_outside.specs.Readings.{Agrees};
 ghost use Rattle.toml.specs.View.{table_view};
-ghost use Rattle.desc_toml.specs.Reading.{Gives, root_in, values_in, machine_in, accepted, read_of};
+ghost use Rattle.desc_toml.specs.Reading.{root_in, values_in, machine_in, accepted, read_of, reported};
 
 use crate::fault::{DescFault, told};
 use crate::machine::machine_of;
@@ -17,7 +18,7 @@ use toml::Table;
 /// fault of the bytes, in this order, or `DescFault::OutOfMemory`, which never comes of bytes that aren't UTF-8. The machine takes its
 /// memory from `alloc`.
 pub fn read_machine(alloc: Global, bytes: &[u8]) -> Result<Machine, DescFault>
-    ensures read { Gives (λ machine. machine) result (read_of bytes.now) }
+    ensures read { Agrees reported (λ machine. machine) result (read_of bytes.now) }
     // Bytes that aren't UTF-8 are told before memory is taken.
     ensures no_text { ¬ IsUtf8 bytes.now → result ≡ Err DescFault.NotToml }
 {
@@ -30,7 +31,7 @@ pub fn read_machine(alloc: Global, bytes: &[u8]) -> Result<Machine, DescFault>
 
 // The machine, where it breaks no rule.
 fn accepted(machine: Machine) -> Result<Machine, DescFault>
-    ensures { Gives (λ machine. machine) result (accepted machine) }
+    ensures { Agrees reported (λ machine. machine) result (accepted machine) }
 {
     match machine.check() {
         Ok(()) => Ok(machine),
@@ -47,7 +48,7 @@ fn accepted(machine: Machine) -> Result<Machine, DescFault>
 
 // The machine that a text describes, whether or not it keeps the rules.
 fn machine_in(alloc: Global, text: &str) -> Result<Machine, DescFault>
-    ensures { Gives (λ machine. machine) result (machine_in text.now) }
+    ensures { Agrees reported (λ machine. machine) result (machine_in text.now) }
 {
     let root = root_in(alloc, text)?;
     let mut values = values_in(alloc, &root)?;
@@ -56,7 +57,7 @@ fn machine_in(alloc: Global, text: &str) -> Result<Machine, DescFault>
 
 // The root table of a document.
 fn root_in(alloc: Global, text: &str) -> Result<Table, DescFault>
-    ensures { Gives table_view result (root_in text.now) }
+    ensures { Agrees reported table_view result (root_in text.now) }
 {
     match toml::table_from_str(alloc, text) {
         Ok(root) => Ok(root),
@@ -67,7 +68,7 @@ fn root_in(alloc: Global, text: &str) -> Result<Table, DescFault>
 
 // The values of a document, in the schema's order.
 fn values_in(alloc: Global, root: &Table) -> Result<Values, DescFault>
-    ensures { Gives (λ values. values) result (values_in (table_view root.now)) }
+    ensures { Agrees reported (λ values. values) result (values_in (table_view root.now)) }
 {
     match walk_document(alloc, SCHEMA, root) {
         Ok(values) => Ok(values),

@@ -8,11 +8,8 @@ pub mod WrittenParts
 pub mod NamedParts
 pub mod DeviceParts
 pub mod MachineParts
-pub mod Picked
 pub mod FittingItems
-pub mod PickedDevices
-pub mod ReadBack
-pub mod SameDevices
+pub mod DeviceLists
 pub mod LowHalf
 pub mod MachineTerms
 pub mod Ends

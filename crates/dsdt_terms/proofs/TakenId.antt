@@ -25,7 +25,7 @@ use Rattle.dsdt_terms.specs.Devices.{port_item, irq_item, uart_device, clock_dev
 use Rattle.dsdt_terms.specs.Dsdt.{has_clock, has_keyboard, uart_devices, cpu_devices, front_devices, placeless_devices, generation_devices}
 use Rattle.dsdt_terms.specs.Dsdt.{devices_with, system_bus, terms_at, kept_terms}
 use Rattle.dsdt_terms.proofs.Views.{view-int, view-named, view-device}
-use Rattle.dsdt_terms.proofs.PickedDevices.{if_each, option_each, bridge_list, clock_list, keyboard_list, timer_list}
+use Rattle.dsdt_terms.proofs.DeviceLists.{if_each, option_each, bridge_list, clock_list, keyboard_list, timer_list}
 use Rattle.dsdt_terms.proofs.LowHalf.{id_tree, kind_tree, generation_tree, view-generation, view-terms}
 
 -- nothing is told inside a term

@@ -1,6 +1,6 @@
 -- The terms of a machine's DSDT (ACPI 6.5, 5.2.11.1): the devices that a guest finds through AML alone, in the scope of the system bus.
-use Rattle.std.specs.Prelude.{◌≡◌, ℕ, ◌+◌, ◌-◌, Bool, true, false, List, [], ◌∷◌, ◌++◌, length, map, take, Option, option_map, option_to_list}
-use Rattle.std.specs.Prelude.{is_some, IfSome, ◌<◌, ◌^◌, codes, if◌then◌else◌}
+use Rattle.std.specs.Prelude.{ℕ, ◌+◌, ◌-◌, Bool, true, false, List, [], ◌∷◌, ◌++◌, length, map, take, Option, option_map, option_to_list}
+use Rattle.std.specs.Prelude.{is_some, codes, if◌then◌else◌}
 use Rattle.std.specs.List.{enumerate_from}
 use Rattle.std.specs.Option.{option_map_or}
 use Rattle.vt_layout.specs.declared.row.Row.{Row}
@@ -101,13 +101,3 @@ dsdt_body m =
 -- a bridge but for its configuration space, of which its device tells only whether it has some
 abbrev pub without_ecam : Bridge → Bridge
 without_ecam b = record b { ecam = 0 }
-
--- the number of a bridge's last bus fits its type, as that of each machine of the program does
-abbrev pub HasFittingLastBus : Machine → Type 0
-HasFittingLastBus m = IfSome m.bridge (λ (b : Bridge). b.last_bus < 2 ^ 8)
-
--- the parts of two machines of which a DSDT tells
-pub record HaveSameDevices (a b : Machine) : Type 0 where
-  pub bridge : option_map without_ecam a.bridge ≡ option_map without_ecam b.bridge
-  pub uarts : a.uarts ≡ b.uarts
-  pub clock : has_clock a.power ≡ has_clock b.power

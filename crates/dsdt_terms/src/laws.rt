@@ -13,7 +13,7 @@ ghost use Rattle.machine_desc.specs.Fields.{HasFittingFields};
 ghost use Rattle.aml_terms.specs.declared.term.Term.TheVariants.{Fixed, Scope};
 ghost use Rattle.dsdt_terms.specs.Bridge.{route_term};
 ghost use Rattle.dsdt_terms.specs.Devices.{cpu_device, generation_device};
-ghost use Rattle.dsdt_terms.specs.Dsdt.{dsdt_terms, terms_at, kept_terms, dsdt_bytes, dsdt_body, id_address, system_bus, HasFittingLastBus, HaveSameDevices};
+ghost use Rattle.dsdt_terms.specs.Dsdt.{dsdt_terms, terms_at, kept_terms, dsdt_bytes, dsdt_body, id_address, system_bus};
 ghost use Rattle.dsdt_terms.specs.WorkedDevices.{route_of_device_1, route_of_device_1_bytes, route_of_device_0, route_of_device_0_bytes};
 ghost use Rattle.dsdt_terms.specs.WorkedDevices.{processor_2_bytes, generation_bytes, no_devices_bytes};
 
@@ -39,13 +39,6 @@ pub fn terms_of_a_machine_are_read_wherever_its_files_stand()
 pub fn terms_of_a_machine_lead_to_its_id()
     ensures { (machine : Machine) (address : ℕ) → (IsSome machine.generation → address < 2 ^ 32)
         → taken (views (terms_at address machine)) ≡ (option_map (λ id. address) machine.generation, views (kept_terms machine)) }
-{}
-
-/// States that machines with the same terms, as they are kept, have the same bridge but for its configuration space, the same serial ports,
-/// and both a clock or neither.
-pub fn machines_of_the_same_terms_have_the_same_devices()
-    ensures { (a b : Machine) → IsAccepted a → IsAccepted b → HasFittingLastBus a → HasFittingLastBus b → kept_terms a ≡ kept_terms b
-        → HaveSameDevices a b }
 {}
 
 /// States what worked devices are written as.

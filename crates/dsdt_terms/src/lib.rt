@@ -3,8 +3,7 @@
 //! A device is a name and named values, and a machine's devices are lists, one after the other: the bridge to PCI, the serial ports, the
 //! clock, the keyboard, the timer, the processors, and the one that leads to the id of the machine's generation. The contract is that
 //! `dsdt_terms` gives the terms as they are written, and `kept_terms` as a reader keeps them, exactly. The laws say that they have one
-//! written spelling, which is short; as which terms it is read wherever the file of the id stands, and that these lead to the id; and that
-//! machines of the same kept terms have the same bridge but for its configuration space, the same serial ports and the same clock.
+//! written spelling, which is short; as which terms it is read wherever the file of the id stands; and that these lead to the id.
 #![tactic(auto)]
 
 mod bridge;

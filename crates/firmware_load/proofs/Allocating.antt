@@ -17,9 +17,10 @@ use Rattle.loader_script.specs.declared.refusing.FileInfo.{FileInfo}
 use Rattle.loader_script.specs.Conditions.{CanAllocate, CanWritePointer}
 use Rattle.loader_script.specs.Refusal.{info_of, AreDistinct}
 use Rattle.vt_outside.specs.File.{File}
+use Rattle.vt_outside.proofs.Texts.{same_text}
 use Rattle.loader_script.specs.Run.{bytes_of, file_of, infos_of, cause_of}
 use Rattle.loader_script.proofs.Conditions.{conditions_from}
-use Rattle.loader_script.proofs.Named.{same_name, found_passes, find-map, IsSome-before_map}
+use Rattle.loader_script.proofs.Named.{found_passes, find-map, IsSome-before_map}
 use Rattle.zone_alloc.specs.declared.alloc.Request.{Request}
 use Rattle.zone_alloc.specs.declared.zone.Zone.{Zone}
 use Rattle.zone_alloc.specs.Allocators.{AllocState}
@@ -116,7 +117,7 @@ allocating guest listed name align zone file ready early found =
     let can : CanAllocate p name align zone = conditions_from (Allocate name align zone) p none in
     let is = item_listed (named items name) file
     (sym (listed_as_named items name) ∙ ap (λ l. listed_named l name) (sym ready.listed_are) ∙ found) in
-    let same : file.name ≡ name = same_name file.name name (found_passes (λ (l : Listed). bytes_eq l.name name) listed file found) in
+    let same : file.name ≡ name = same_text file.name name (found_passes (λ (l : Listed). bytes_eq l.name name) listed file found) in
     let size : file.size ≡ length (bytes_of (files_of items) name) =
     sym (ap (λ (l : Listed). l.size) is.2) ∙ sym (ap length (bytes_of_named items name is.0 is.1)) in
     let bytes : bytes_of (files_of items) name ≡ can.file.bytes = ap (λ o. option_map_or (λ (f : File). f.bytes) o []) can.there in

@@ -15,7 +15,7 @@ ghost use Rattle.firmware_load.specs.Inside.{TouchesOver};
 use cfg_dma::Device;
 use command_acts::Placements;
 use guest_memory::GuestMemory;
-use vt_bytes::{get_be, put_be, put_le};
+use vt_bytes::{BIOS_END, BIOS_START, get_be, put_be, put_le};
 use zone_alloc::zones_of;
 
 // Where the firmware works: 16 bytes for the descriptor of a transfer, and a buffer that it reads and writes through.
@@ -154,6 +154,6 @@ fn is_guarded(top: u32, addr: u64) -> bool
     let zones = zones_of(top);
     (DESCRIPTOR..DESCRIPTOR + 16).contains(&addr)
         || (BUFFER..BUFFER + u64::from(BUFFER_BYTES)).contains(&addr)
-        || (0xE_0000..0x10_0000).contains(&addr)
+        || (BIOS_START..BIOS_END).contains(&addr)
         || (zones.high_start..zones.high_end).contains(&addr)
 }

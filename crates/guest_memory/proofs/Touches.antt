@@ -2,7 +2,7 @@
 use Rattle.std.proofs.Common.{◌≡◌, ◌≢◌, ℕ, zero, suc, ◌+◌, ◌-◌, ◌*◌, ◌/◌, ◌%◌, ◌<◌, ◌≤◌, ◌⊎◌, inl, inr, Bool, true, false, ◌||◌, List, [], ◌∷◌}
 use Rattle.std.proofs.Common.{length, set, refl, sym, ap, ◌∙◌, arith, add-zero}
 use Rattle.std.proofs.Common.{slice_set, get_or, map, Option, Some, None}
-use Rattle.std.proofs.lemmas.Bool.{cases_lt}
+use Rattle.std.proofs.lemmas.Bool.{cases_lt, false_from_ne_true}
 use Rattle.vt_bytes.specs.Memory.{IsTop, IsRam, high_start}
 use Rattle.guest_memory.specs.Frames.{frame_start, IsInFrame, meets}
 use Rattle.guest_memory.specs.Store.{IsPlaceOf, is_filled}
@@ -91,10 +91,6 @@ or_three : (a b c d : Bool) → d ≡ (b || c) → ((a || b) || c) ≡ (a || d)
 or_three true b c d is = refl
 or_three false b c d is = sym is
 
-not_true : (b : Bool) → (b ≡ true → ⊥) → b ≡ false
-not_true true never = absurd (never refl)
-not_true false never = refl
-
 same_test : (b c : Bool) → (b ≡ true → c ≡ true) → (c ≡ true → b ≡ true) → b ≡ c
 same_test true c to from = sym (to refl)
 same_test false true to from = from refl
@@ -178,7 +174,7 @@ touched_more top address first second touched =
 -- no bytes
 pub touched_nothing : (top address : ℕ) (touched : List Bool) → touched_at top address 0 touched ≡ touched
 touched_nothing top address touched = from_none (meets top address 0) 0 touched (λ k below.
-    not_true (meets top address 0 (0 + k)) (λ is. let has = meeting top address 0 (0 + k) is in omega (arith, has.0)))
+    false_from_ne_true (meets top address 0 (0 + k)) (λ is. let has = meeting top address 0 (0 + k) is in omega (arith, has.0)))
 
 -- ---- bytes within one frame
 
@@ -216,7 +212,7 @@ here_met top a n place lawful ram is some within = elim (cases_lt a 0x100000) as
 -- and no other does
 other_not_met : (top a n place k : ℕ) → IsTop top → IsRam top a → IsPlaceOf top a place → a % 4096 + n ≤ 4096 → k ≢ place / 4096
     → meets top a n k ≡ false
-other_not_met top a n place k lawful ram is within other = not_true (meets top a n k) (λ all.
+other_not_met top a n place k lawful ram is within other = false_from_ne_true (meets top a n k) (λ all.
     let has = meeting top a n k all in
     elim (cases_lt a 0x100000) as (λ _. ⊥) [
       | inl low ↦ let at = is.low low in elim (cases_lt k 256) as (λ _. ⊥) [

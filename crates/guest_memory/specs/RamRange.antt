@@ -1,7 +1,7 @@
 -- The test of whether each of so many bytes from an address on is RAM.
 use Rattle.std.specs.Prelude.{ℕ, zero, suc, ◌+◌, ◌≤◌, ◌⊎◌, Bool, true, ◌&&◌}
 use Rattle.vt_bytes.specs.declared.memory.AddressRange.{AddressRange}
-use Rattle.vt_bytes.specs.Memory.{is_ram, high_start}
+use Rattle.vt_bytes.specs.Memory.{bios_end, bios_start, high_start, is_ram}
 
 unfoldable pub is_ram_range : ℕ → ℕ → ℕ → Bool
 is_ram_range top address zero = true
@@ -14,5 +14,5 @@ IsWithin range address count = (range.start ≤ address) × (address + count ≤
 -- they lie in one of the ranges of the RAM map
 abbrev pub LieInARange : ℕ → ℕ → ℕ → Type 0
 LieInARange top address count =
-    IsWithin (record { start = 0; end = 0xA0000 }) address count ⊎ (IsWithin (record { start = 0xE0000; end = 0x100000 }) address count
+    IsWithin (record { start = 0; end = 0xA0000 }) address count ⊎ (IsWithin (record { start = bios_start; end = bios_end }) address count
     ⊎ IsWithin (record { start = high_start top; end = top }) address count)

@@ -32,13 +32,6 @@ touched_from test index (was ∷ touched) = (was || test index) ∷ touched_from
 abbrev pub touched_at : ℕ → ℕ → ℕ → List Bool → List Bool
 touched_at top address count touched = touched_from (meets top address count) 0 touched
 
--- a memory with bytes put at an address, whose frames are then touched
-abbrev pub with_put : HeldMemory → ℕ → List ℕ → HeldMemory
-with_put held address bytes = record {
-  memory = with_bytes held.memory address bytes;
-  touched = touched_at held.memory.top address (length bytes) held.touched;
-}
-
 -- a memory of which so many bytes from an address on were lent, and these came back in their place
 abbrev pub with_lent : HeldMemory → ℕ → ℕ → List ℕ → HeldMemory
 with_lent held address count bytes = record {

@@ -12,14 +12,10 @@ use crate::store::Store;
 use raw_frames::FRAME_BYTES as FRAME_SIZE;
 use std::alloc::Global;
 use std::marker::Model;
-use vt_bytes::{AddressRange, byte_sum};
+use vt_bytes::{AddressRange, BIOS_END, BIOS_START, byte_sum};
 use vt_outside::OutOfMemory;
 
 const LOW_END: u64 = 0xA_0000;
-
-const BIOS_START: u64 = 0xE_0000;
-
-const BIOS_END: u64 = 0x10_0000;
 
 const HIGH_BYTES: u64 = 0x200_0000;
 

@@ -12,6 +12,7 @@ use Rattle.vt_outside.specs.Placement.{Range}
 use Rattle.loader_script.specs.declared.entry.Entry.{Entry}
 use Rattle.loader_script.specs.declared.entry.Entry.TheVariants.{Allocate}
 use Rattle.vt_outside.specs.File.{File}
+use Rattle.vt_outside.proofs.Texts.{other_turned}
 use Rattle.loader_script.specs.Run.{Placed, Progress, placed_of, bytes_of, cause_of, carried_out, run_from}
 use Rattle.loader_script.proofs.Conditions.{conditions_suffice}
 use Rattle.loader_script.proofs.Runs.{goes-on}
@@ -24,7 +25,6 @@ use Rattle.image_files.specs.Script.{allocation}
 use Rattle.image_files.specs.Linkable.{AreDistinct, HasNoHoles, CanBePlaced, IsLinkableFile}
 use Rattle.image_files.specs.Places.{range_at, MayStand, ArePlaces}
 use Rattle.image_files.specs.Linked.{BeginsWith}
-use Rattle.image_files.proofs.ByName.{differ_turned}
 use Rattle.image_files.proofs.Standing.{Standing, none, past, here}
 use Rattle.image_files.proofs.Steps.{all_given}
 
@@ -162,7 +162,7 @@ are_allocated top index (file ∷ files) loaded handed places placed later at_mo
           let still_fresh : AllByRecursion (λ (g : ImageFile). placed_of (placed ++ q ∷ []) g.name ≡ None) files =
           each_from (λ (g : ImageFile). bytes_eq g.name file.name ≡ false) (λ (g : ImageFile). placed_of placed g.name ≡ None)
           (λ (g : ImageFile). placed_of (placed ++ q ∷ []) g.name ≡ None)
-          (λ g other free. fresh-push placed q g.name free (differ_turned g.name file.name other)) files distinct.0 fresh.1 in
+          (λ g other free. fresh-push placed q g.name free (other_turned g.name file.name other)) files distinct.0 fresh.1 in
           subst (λ ps. AreAllocated index (file ∷ files) loaded ps placed later) (sym first.2)
           (allocated_some index file files loaded some.0 first.0 first.1 placed later some.1 begins can fresh.0
           (place_low top handed file some.0 first.0 at_most can.0 first.3)

@@ -3,14 +3,12 @@ use Rattle.std.proofs.Common.{◌≡◌, ℕ, suc, ◌+◌, true, false, cond, L
 use Rattle.std.specs.List.{AllByRecursion, flat_map}
 use Rattle.std.specs.Str.{bytes_eq}
 use Rattle.std.proofs.lemmas.Bool.{cond-true, cond-false}
-use Rattle.std.proofs.lemmas.Bool.Decides.{not_from_Decides}
 use Rattle.std.proofs.lemmas.List.Sums.{sum_by-cons}
-use Rattle.std.proofs.lemmas.Slice.Eq.{bytes_eq-Decides}
 use Rattle.loader_script.specs.declared.entry.Entry.{Entry}
 use Rattle.vt_outside.specs.File.{File}
+use Rattle.vt_outside.proofs.Texts.{other_turned, text_itself}
 use Rattle.loader_script.specs.Run.{file_of}
 use Rattle.loader_script.specs.Spelling.{entry_bytes}
-use Rattle.loader_script.proofs.Named.{other_name}
 use Rattle.vt_bytes.proofs.Each.{each_from}
 use Rattle.image_files.specs.Files.{ImageFile, is_not_behind, among, by_name}
 use Rattle.image_files.specs.Script.{script_of}
@@ -19,14 +17,6 @@ use Rattle.cfg_directory.specs.Files.{files_of}
 use Rattle.image_files.specs.Items.{items_from, loader_file, items_of}
 use Rattle.image_files.specs.Linkable.{HasNoName, AreDistinct}
 use Rattle.image_files.specs.Linked.{BeginsWith}
-
--- two names that are tested to differ differ the other way round too
-pub differ_turned : (a b : List ℕ) → bytes_eq a b ≡ false → bytes_eq b a ≡ false
-differ_turned a b differ = other_name b a (λ same. not_from_Decides _ (bytes_eq-Decides a b) differ (sym same))
-
--- a name is tested to be itself
-same_as_itself : (name : List ℕ) → bytes_eq name name ≡ true
-same_as_itself name = (bytes_eq-Decides name name).1 refl
 
 module _ (P : ImageFile → Type 0) where
   -- what holds of each file and of one more holds of each with that one among them
@@ -79,7 +69,7 @@ AreDistinct-among file (first ∷ others) none distinct =
     elim (is_not_behind file.name first.name) as (λ before. AreDistinct (cond before (file ∷ first ∷ others) (first ∷ among file others))) [
       | true ↦ (none, distinct)
       | false ↦ (
-        HasNoName-among file others first.name (differ_turned first.name file.name none.0) distinct.0,
+        HasNoName-among file others first.name (other_turned first.name file.name none.0) distinct.0,
         AreDistinct-among file others none.1 distinct.1,
       )
     ]
@@ -139,11 +129,11 @@ found_each : (select : ℕ) (files : List ImageFile) → AreDistinct files
     → AllByRecursion (λ (file : ImageFile). file_of (files_of (items_from select files)) file.name ≡ Some (as_loaded file)) files
 found_each select [] distinct = tt
 found_each select (first ∷ files) distinct = (
-  cond-true _ _ _ (same_as_itself first.name),
+  cond-true _ _ _ (text_itself first.name),
   each_from (λ (file : ImageFile). bytes_eq file.name first.name ≡ false)
       (λ (file : ImageFile). file_of (files_of (items_from (select + 1) files)) file.name ≡ Some (as_loaded file))
       (λ (file : ImageFile). file_of (files_of (items_from select (first ∷ files))) file.name ≡ Some (as_loaded file))
-      (λ file other found. cond-false _ _ _ (differ_turned file.name first.name other) ∙ found) files distinct.0
+      (λ file other found. cond-false _ _ _ (other_turned file.name first.name other) ∙ found) files distinct.0
       (found_each (select + 1) files distinct.1),
 )
 

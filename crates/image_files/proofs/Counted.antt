@@ -1,5 +1,5 @@
 -- How many bytes an image has, counted file by file, with a greatest count.
-use Rattle.std.proofs.Common.{◌≡◌, ℕ, ◌+◌, ◌<◌, ◌≤◌, List, [], ◌∷◌, ◌++◌, length, map, min, sum_by, arith, refl, ap, ◌∙◌, length-append}
+use Rattle.std.proofs.Common.{◌≡◌, ℕ, ◌+◌, ◌<◌, ◌≤◌, List, [], ◌∷◌, ◌++◌, length, min, sum_by, arith, refl, ap, ◌∙◌, length-append}
 use Rattle.std.proofs.lemmas.List.Sums.{sum_by-cons}
 use Rattle.std.proofs.lemmas.Grind.{flat_map-append}
 use Rattle.std.specs.List.{flat_map}
@@ -16,28 +16,6 @@ use Rattle.image_files.proofs.ItemsAdded.{total-items_from}
 size-append : (commands more : List Entry) → size_of_commands (commands ++ more) ≡ size_of_commands commands + size_of_commands more
 size-append commands more =
     ap length (flat_map-append entry_bytes commands more) ∙ length-append (flat_map entry_bytes commands) (flat_map entry_bytes more)
-
--- one more command, or one more that is made of an element
-pub size-more : (commands : List Entry) (command : Entry)
-    → size_of_commands (commands ++ command ∷ []) ≡ size_of_commands commands + length (entry_bytes command)
-size-more commands command = omega (arith, size-append commands (command ∷ []), length-append (entry_bytes command) [])
-
-pub size-map_more : {A : Type 0} (command_of : A → Entry) (xs : List A) (x : A)
-    → size_of_commands (map command_of (xs ++ x ∷ [])) ≡ size_of_commands (map command_of xs) + length (entry_bytes (command_of x))
-size-map_more command_of [] x = size-more [] (command_of x)
-size-map_more command_of (y ∷ xs) x =
-    let rest = size-map_more command_of xs x in
-    omega (
-      arith,
-      length-append (entry_bytes (command_of y)) (flat_map entry_bytes (map command_of (xs ++ x ∷ []))),
-      length-append (entry_bytes (command_of y)) (flat_map entry_bytes (map command_of xs)),
-      rest,
-    )
-
-pub sum_by-more : {A : Type 0} (weight : A → ℕ) (xs : List A) (x : A) → sum_by weight (xs ++ x ∷ []) ≡ sum_by weight xs + weight x
-sum_by-more weight [] x = omega (arith, sum_by-cons weight x [])
-sum_by-more weight (y ∷ xs) x =
-    omega (arith, sum_by-cons weight y (xs ++ x ∷ []), sum_by-cons weight y xs, sum_by-more weight xs x)
 
 -- the commands of each file
 size-flat_map : (commands : ImageFile → List Entry) (files : List ImageFile)

@@ -2,18 +2,17 @@
 use Rattle.std.proofs.Common.{◌≡◌, ℕ, ◌+◌, ◌^◌, ◌<◌, ◌≤◌, ◌⊎◌, ◌≢◌, inl, inr, List, [], ◌∷◌, length, map, slice_index, arith, refl}
 use Rattle.std.proofs.Common.{ap, ap₂, sym, subst, ◌∙◌, length-set, get_or-set_other}
 use Rattle.std.specs.List.{AllByRecursion}
-use Rattle.vt_bytes.specs.Numbers.{le, le_bytes, byte_sum}
+use Rattle.vt_bytes.specs.Numbers.{le, byte_sum}
 use Rattle.vt_bytes.specs.Parts.{part}
 use Rattle.vt_bytes.proofs.Each.{each_weaker, each_from}
-use Rattle.vt_bytes.proofs.Numbers.{length-le_bytes, le-le_bytes}
 use Rattle.vt_layout.specs.Rows.{IsPointerSize}
 use Rattle.vt_outside.specs.Placement.{Apart}
 use Rattle.blob_holes.specs.declared.hole.PointerHole.{PointerHole}
 use Rattle.blob_holes.specs.declared.hole.SumHole.{SumHole}
 use Rattle.blob_holes.specs.Blob.{BlobState, IsBlob, IsOutsideField, ArePointers, AreSums}
 use Rattle.blob_holes.specs.Filled.{IsSolid, IsFilled}
-use Rattle.blob_holes.proofs.Put.{length-put_at, part-put_at, index-put_at, part_same}
-use Rattle.blob_holes.proofs.Pointers.{put_number, number_in}
+use Rattle.blob_holes.proofs.Put.{part_same}
+use Rattle.blob_holes.proofs.Pointers.{put_number, number_in, length-put_number, index-put_number, number-put_number}
 use Rattle.blob_holes.proofs.Sums.{IsOther, one_summed, summed}
 use Rattle.loader_script.specs.declared.entry.Entry.{Entry}
 use Rattle.image_files.specs.Script.{add_pointer, add_checksum}
@@ -116,35 +115,13 @@ filled-other command rest name blob place_of bytes no_pointer no_sum filled = re
       ]) blob.sums filled.sums;
 }
 
--- a number in its field leaves as many bytes
-length-number : (bytes : List ℕ) (hole : PointerHole) (number : ℕ) → hole.at + hole.size ≤ length bytes
-    → length (put_number bytes hole number) ≡ length bytes
-length-number bytes hole number within =
-    let size = length-le_bytes hole.size number in
-    length-put_at bytes hole.at (le_bytes hole.size number) (omega arith)
-
--- and each byte outside the field
-index-number : (bytes : List ℕ) (hole : PointerHole) (number place : ℕ) → hole.at + hole.size ≤ length bytes → IsOutsideField place hole
-    → slice_index (put_number bytes hole number) place ≡ slice_index bytes place
-index-number bytes hole number place within outside =
-    let size = length-le_bytes hole.size number in
-    let past : (place < hole.at) ⊎ (hole.at + length (le_bytes hole.size number) ≤ place) = elim outside [ inl a ↦ inl a | inr a ↦ inr (omega arith) ] in
-    index-put_at bytes hole.at (le_bytes hole.size number) place (omega arith) past
-
--- a number that fits is then in its field
-number-number : (bytes : List ℕ) (hole : PointerHole) (number : ℕ) → hole.at + hole.size ≤ length bytes → number < 256 ^ hole.size
-    → number_in (put_number bytes hole number) hole ≡ number
-number-number bytes hole number within fits =
-    let size = length-le_bytes hole.size number in
-    ap le (part-put_at bytes hole.at (le_bytes hole.size number) hole.size (omega arith) (sym size)) ∙ le-le_bytes hole.size number fits
-
 -- a part that is apart from the field stays
 part-number : (bytes : List ℕ) (hole : PointerHole) (number start count : ℕ) → hole.at + hole.size ≤ length bytes
     → Apart (bytes_from start count) (bytes_from hole.at hole.size) → part (put_number bytes hole number) start count ≡ part bytes start count
 part-number bytes hole number start count within apart =
-    part_same (put_number bytes hole number) bytes start count (length-number bytes hole number within) (λ place from below.
+    part_same (put_number bytes hole number) bytes start count (length-put_number bytes hole number within) (λ place from below.
     let outside : IsOutsideField place hole = elim apart [ inl a ↦ inl (omega arith) | inr a ↦ inr (omega arith) ] in
-    index-number bytes hole number place within outside)
+    index-put_number bytes hole number place within outside)
 
 -- a part that is apart from a sum's byte stays when the sum is subtracted
 part-summed : (bytes : List ℕ) (hole : SumHole) (start count : ℕ) → Apart (bytes_from start count) (bytes_from hole.at 1)
@@ -209,7 +186,7 @@ module _ (rest : List Entry) (name : List ℕ) (blob : BlobState) (place_of : Li
               let fits_now : number < 256 ^ hole.size =
               subst (λ n. n + place_of hole.target < 256 ^ hole.size) (sym pointer_still) fits in
               let done : number_in after hole ≡ number_in blob.bytes hole + place_of hole.target =
-              number-number bytes hole number pointer_in_bytes fits_now ∙ ap (λ n. n + place_of hole.target) pointer_still in
+              number-put_number bytes hole number pointer_in_bytes fits_now ∙ ap (λ n. n + place_of hole.target) pointer_still in
               let state : IsPointerBut rest name blob.bytes place_of after hole = inr (done, first) in
               subst (IsPointerBut rest name blob.bytes place_of after) (same_pointer name name hole other is) state
           | inr later ↦
@@ -237,8 +214,8 @@ module _ (rest : List Entry) (name : List ℕ) (blob : BlobState) (place_of : Li
   pub pointer_filled : number_in blob.bytes hole + place_of hole.target < 256 ^ hole.size
       → IsFilledBut rest name blob place_of (put_number bytes hole (number_in bytes hole + place_of hole.target))
   pointer_filled fits = record {
-    size = length-number bytes hole _ pointer_in_bytes ∙ filled.size;
-    solid = λ place solid. index-number bytes hole _ place pointer_in_bytes (of_one (IsOutsideField place) blob.pointers hole one solid.fields)
+    size = length-put_number bytes hole _ pointer_in_bytes ∙ filled.size;
+    solid = λ place solid. index-put_number bytes hole _ place pointer_in_bytes (of_one (IsOutsideField place) blob.pointers hole one solid.fields)
         ∙ filled.solid place solid;
     pointers = each_weaker (IsPointerBut (add_pointer name hole ∷ rest) name blob.bytes place_of bytes)
         (IsPointerBut rest name blob.bytes place_of (put_number bytes hole (number_in bytes hole + place_of hole.target)))

@@ -4,6 +4,7 @@ use Rattle.std.specs.List.{AllByRecursion, flat_map}
 use Rattle.std.specs.Str.{bytes_eq}
 use Rattle.std.proofs.lemmas.Bool.Decides.{not_from_Decides}
 use Rattle.std.proofs.lemmas.Slice.Eq.{bytes_eq-Decides}
+use Rattle.vt_outside.proofs.Texts.{other_turned}
 use Rattle.vt_bytes.proofs.Each.{each_append, each_weaker, each_from, each_map, each_turned}
 use Rattle.blob_holes.specs.declared.hole.PointerHole.{PointerHole}
 use Rattle.blob_holes.specs.declared.hole.SumHole.{SumHole}
@@ -14,7 +15,7 @@ use Rattle.image_files.specs.Files.{ImageFile, by_name}
 use Rattle.image_files.specs.Script.{add_pointer, add_checksum, add_pointers, add_checksums, linking}
 use Rattle.image_files.specs.Linkable.{AreDistinct, IsLinkableFile, AreLinkable}
 use Rattle.image_files.specs.Orders.{IsAmong, MayPrecede, AreInTurn, patches_of, AreLinking}
-use Rattle.image_files.proofs.ByName.{each_by_name, each_of_by_name, AreDistinct-by_name, differ_turned}
+use Rattle.image_files.proofs.ByName.{each_by_name, each_of_by_name, AreDistinct-by_name}
 
 -- what holds of each element of each part holds of each element of all parts
 pub each_flat_map : {X Y : Type 0} (P : Y → Type 0) (f : X → List Y) (xs : List X) → AllByRecursion (λ x. AllByRecursion P (f x)) xs
@@ -130,7 +131,7 @@ each_pair R others (file ∷ files) distinct same = (
   (same.0, each_weaker (λ (other : ImageFile). bytes_eq other.name file.name ≡ false) (R file) (λ other differ. others file other differ) files distinct.0),
   each_from (λ (other : ImageFile). bytes_eq other.name file.name ≡ false) (λ (other : ImageFile). AllByRecursion (R other) files)
       (λ (other : ImageFile). AllByRecursion (R other) (file ∷ files))
-      (λ other differ rest. (others other file (differ_turned other.name file.name differ), rest)) files distinct.0
+      (λ other differ rest. (others other file (other_turned other.name file.name differ), rest)) files distinct.0
       (each_pair R others files distinct.1 same.1),
 )
 

@@ -3,6 +3,7 @@ use Rattle.std.proofs.Common.{◌≡◌, ℕ, suc, ◌+◌, ◌≤◌, ◌<◌, 
 use Rattle.std.proofs.Common.{length-append}
 use Rattle.std.specs.Str.{bytes_eq}
 use Rattle.std.proofs.lemmas.List.Sums.{sum_by-cons, sum_by-append}
+use Rattle.vt_outside.proofs.Texts.{other_turned}
 use Rattle.vt_bytes.proofs.Each.{each_midst}
 use Rattle.cfg_directory.specs.declared.item.Item.{Item}
 use Rattle.cfg_directory.specs.Items as items
@@ -12,7 +13,7 @@ use Rattle.image_files.specs.Script.{script_of}
 use Rattle.loader_script.specs.LoaderName.{loader_name}
 use Rattle.image_files.specs.Items.{AreSorted, items_from, items_of, total_bytes, image_limit, loader_file}
 use Rattle.image_files.specs.Linkable.{HasNoName, AreDistinct}
-use Rattle.image_files.proofs.ByName.{differ_turned, AreDistinct-by_name, length-by_name}
+use Rattle.image_files.proofs.ByName.{AreDistinct-by_name, length-by_name}
 
 -- the item of a file
 abbrev item_of : ℕ → ImageFile → Item
@@ -54,7 +55,7 @@ before_named : (files : List ImageFile) (file : ImageFile) (more : List ImageFil
     → HasNoName files file.name
 before_named [] file more distinct = tt
 before_named (first ∷ files) file more distinct = (
-  differ_turned file.name first.name (each_midst (λ (other : ImageFile). bytes_eq other.name first.name ≡ false) files file more distinct.0),
+  other_turned file.name first.name (each_midst (λ (other : ImageFile). bytes_eq other.name first.name ≡ false) files file more distinct.0),
   before_named files file more distinct.1,
 )
 

@@ -6,13 +6,13 @@ use Rattle.std.specs.Option.{option_map, option_map_or}
 use Rattle.std.specs.Str.{bytes_eq}
 use Rattle.std.proofs.lemmas.Bool.{cond-true, cond-false, true≢false}
 use Rattle.std.proofs.lemmas.Slice.Eq.{bytes_eq-Decides}
+use Rattle.vt_outside.proofs.Texts.{other_turned}
 use Rattle.loader_script.specs.Run.{Placed, placed_of, placed_with, place_of}
 use Rattle.image_files.specs.declared.file.Placing.{Placing}
 use Rattle.image_files.specs.Files.{ImageFile}
 use Rattle.image_files.specs.Linkable.{HasNoName, AreDistinct}
 use Rattle.image_files.specs.Linked.{IsLinked, AreLinked}
 use Rattle.image_files.proofs.Among.{IsOneOf, of_one}
-use Rattle.image_files.proofs.ByName.{differ_turned}
 
 -- the files that are placed stand at their places, in their order, each as is said
 pub data Standing (P : ImageFile → ℕ → Placed → Type 0) : List ImageFile → List ℕ → List Placed → Type 0 where
@@ -111,7 +111,7 @@ standing_found P named (here {file = first} {files = files} {place = place} {p =
     let q_named : q.name ≡ file.name = named file place q all.1.0 in
     let other : bytes_eq q.name p.name ≡ false = subst (λ n. bytes_eq q.name n ≡ false) (sym first_named)
     (subst (λ n. bytes_eq n first.name ≡ false) (sym q_named) all.0) in
-    (all.1.0, cond-false _ _ _ (differ_turned q.name p.name other) ∙ all.1.1))
+    (all.1.0, cond-false _ _ _ (other_turned q.name p.name other) ∙ all.1.1))
     (standing_with (λ file place q. P file place q × (placed_of placed q.name ≡ Some q)) (λ file. bytes_eq file.name first.name ≡ false)
     (standing_found P named rest distinct.1) distinct.0))
 

@@ -14,10 +14,10 @@ use Rattle.blob_holes.proofs.Pointers.{put_number, number_in}
 use Rattle.blob_holes.proofs.Sums.{one_summed}
 use Rattle.loader_script.specs.declared.entry.Entry.{Entry}
 use Rattle.vt_outside.specs.File.{File}
+use Rattle.vt_outside.proofs.Texts.{same_text}
 use Rattle.loader_script.specs.Run.{Placed, Progress, file_of, placed_of, place_of, placed_with, pointer_sum, with_pointer, with_sum}
 use Rattle.loader_script.specs.Run.{cause_of, carried_out}
 use Rattle.loader_script.proofs.Conditions.{conditions_suffice}
-use Rattle.loader_script.proofs.Named.{same_name}
 use Rattle.image_files.specs.Files.{ImageFile}
 use Rattle.image_files.specs.Script.{add_pointer, add_checksum}
 use Rattle.image_files.specs.Linkable.{AreDistinct, IsPlacedName, HasNoHoles, CanBePlaced, IsLinkableFile, LeadsAmong, AreLinkable}
@@ -81,7 +81,7 @@ standing-next files pl command rest placed own bytes distinct own_one no_pointer
           ∙ ap (option_map (λ (q : Placed). head_with q own.name bytes)) is.found;
       filled = elim (cases_Bool (bytes_eq p.name own.name)) as (λ _. IsFilledBut rest file.name file.blob pl (head_with p own.name bytes).bytes) [
         | inl same ↦
-            let is_own : own ≡ file = one_named files own file distinct own_one is.one (sym (same_name p.name own.name same) ∙ is.name) in
+            let is_own : own ≡ file = one_named files own file distinct own_one is.one (sym (same_text p.name own.name same) ∙ is.name) in
             let with : (head_with p own.name bytes).bytes ≡ bytes = ap (λ (q : Placed). q.bytes) (cond-true _ (record p { bytes = bytes }) p same) in
             subst (λ (bs : List ℕ). IsFilledBut rest file.name file.blob pl bs) (sym with)
             (subst (λ (f : ImageFile). IsFilledBut rest f.name f.blob pl bytes) is_own filled)

@@ -1,7 +1,7 @@
 -- The places of memory that the firmware works in, and those that no other processor writes while it does.
 use Rattle.std.specs.Prelude.{ℕ, Bool, not, ◌&&◌, ◌||◌, [], ◌∷◌, nat_lt, nat_le, if◌then◌else◌}
 use Rattle.vt_outside.specs.Placement.{high_zone}
-use Rattle.vt_bytes.specs.Memory.{Memory, is_ram, with_bytes}
+use Rattle.vt_bytes.specs.Memory.{Memory, bios_end, bios_start, is_ram, with_bytes}
 
 -- the work range of the firmware: 16 bytes for the descriptor of a transfer, and the 4,096 bytes of a buffer that it reads and writes through
 abbrev pub descriptor_at : ℕ
@@ -20,7 +20,7 @@ is_work address =
 -- The places that are guarded: the work range, the BIOS area, in which the F segment lies, and high memory.
 abbrev pub is_guarded : ℕ → ℕ → Bool
 is_guarded top address =
-    is_work address || (nat_le 0xE0000 address && nat_lt address 0x100000) || (nat_le (high_zone top).start address && nat_lt address top)
+    is_work address || (nat_le bios_start address && nat_lt address bios_end) || (nat_le (high_zone top).start address && nat_lt address top)
 
 -- another processor writes a byte: nothing happens where the address is no RAM, or is guarded
 abbrev pub written_by_other : ℕ → ℕ → Memory → Memory

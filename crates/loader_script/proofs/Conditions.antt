@@ -16,20 +16,17 @@ use Rattle.loader_script.specs.declared.refusing.Cause.{Cause}
 use Rattle.loader_script.specs.declared.refusing.FileInfo.{FileInfo}
 use Rattle.loader_script.specs.Refusal.{info_of, placed_at, causes_of, is_there, is_placed, file_size, is_writable, first_cause}
 use Rattle.vt_outside.specs.File.{File}
+use Rattle.vt_outside.proofs.Results.{none_from}
+use Rattle.vt_outside.proofs.Texts.{same_text}
 use Rattle.loader_script.specs.Run.{Placed, Progress, file_of, placed_of, infos_of, places_of, late_causes, cause_of}
 use Rattle.loader_script.specs.Conditions.{CanAllocate, CanAddPointer, CanAddChecksum, CanWritePointer, CanCarryOut}
-use Rattle.loader_script.proofs.Named.{same_name, find-map}
+use Rattle.loader_script.proofs.Named.{find-map}
 
 -- where no cause is the first none applies
 fails_each : (causes : List (Cause × Bool)) → first_cause causes ≡ None → AllByRecursion (λ (cause : Cause × Bool). cause.1 ≡ false) causes
 fails_each [] none = tt
 fails_each ((cause, true) ∷ causes) none = absurd (none-some cause (sym none))
 fails_each ((cause, false) ∷ causes) none = (refl, fails_each causes none)
-
-none_first : (causes : List (Cause × Bool)) → AllByRecursion (λ (cause : Cause × Bool). cause.1 ≡ false) causes → first_cause causes ≡ None
-none_first [] all = refl
-none_first ((cause, true) ∷ causes) all = absurd (true≢false all.0)
-none_first ((cause, false) ∷ causes) all = none_first causes all.1
 
 -- causes, and then others
 pub earlier : (early late : List (Cause × Bool)) (cause : Cause) → first_cause early ≡ Some cause → first_cause (early ++ late) ≡ Some cause
@@ -70,7 +67,7 @@ place_found placed [] name file found = absurd (none-some file found)
 place_found placed (first ∷ files) name file found =
     elim (cases_Bool (bytes_eq first.name name)) as (λ _. placed_at (infos_of (first ∷ files)) (places_of placed (first ∷ files)) name
     ≡ option_map (λ (q : Placed). q.place) (placed_of placed name)) [
-      | inl same ↦ cond-true _ _ _ same ∙ ap (λ n. option_map (λ (q : Placed). q.place) (placed_of placed n)) (same_name first.name name same)
+      | inl same ↦ cond-true _ _ _ same ∙ ap (λ n. option_map (λ (q : Placed). q.place) (placed_of placed n)) (same_text first.name name same)
       | inr other ↦ cond-false _ _ _ other ∙ place_found placed files name file (sym (cond-false _ _ _ other) ∙ found)
     ]
 
@@ -88,10 +85,6 @@ seen_of p name file found =
 some_of : {A : Type 0} (o : Option A) → is_some o ≡ true → (x : A) × (o ≡ Some x)
 some_of None some = absurd (true≢false (sym some))
 some_of (Some x) some = (x, refl)
-
-none_of : {A : Type 0} (o : Option A) → is_some o ≡ false → o ≡ None
-none_of None none = refl
-none_of (Some x) none = absurd (true≢false none)
 
 is_some-map : {A B : Type 0} (f : A → B) (o : Option A) → is_some (option_map f o) ≡ is_some o
 is_some-map f None = refl
@@ -152,7 +145,7 @@ allocates_from p name align zone none =
     record {
       file = file.0;
       there = file.1;
-      fresh = none_of (placed_of p.placed name) (sym (placed_seen p name file.0 file.1) ∙ all.1.0);
+      fresh = none_from (placed_of p.placed name) (sym (placed_seen p name file.0 file.1) ∙ all.1.0);
       some = pos_of_ne-zero not_empty;
       power = not-false _ all.1.1.1.0;
       known_zone = zone_from zone (not-false _ all.1.1.1.1.0);

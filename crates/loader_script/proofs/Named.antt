@@ -1,19 +1,9 @@
 -- The file that has a name.
-use Rattle.std.proofs.Common.{◌≡◌, ◌≢◌, ℕ, Bool, true, false, cond, List, [], ◌∷◌, map, Option, Some, None, IsSome, IsNone, is_some, inl, inr, subst}
+use Rattle.std.proofs.Common.{◌≡◌, ◌≢◌, Bool, true, false, cond, List, [], ◌∷◌, map, Option, Some, None, IsSome, IsNone, is_some, inl, inr, subst}
 use Rattle.std.proofs.Common.{option_map, find, refl, ap, sym, ◌∙◌}
 use Rattle.std.specs.List.{AllByRecursion}
-use Rattle.std.specs.Str.{bytes_eq}
-use Rattle.std.proofs.lemmas.Bool.{cases_Bool, cond-true, cond-false, false_from_ne_true, true≢false}
+use Rattle.std.proofs.lemmas.Bool.{cases_Bool, cond-true, cond-false, true≢false}
 use Rattle.std.proofs.lemmas.Option.{same_Some, none-some}
-use Rattle.std.proofs.lemmas.Slice.Eq.{bytes_eq-Decides}
-
--- two names that are tested equal are one
-pub same_name : (a b : List ℕ) → bytes_eq a b ≡ true → a ≡ b
-same_name a b = (bytes_eq-Decides a b).0
-
--- names that differ are tested so
-pub other_name : (a b : List ℕ) → a ≢ b → bytes_eq a b ≡ false
-other_name a b differ = false_from_ne_true _ (λ equal. differ (same_name a b equal))
 
 -- what is there after a map was there before
 pub IsSome-before_map : {A B : Type 0} (f : A → B) (o : Option A) → IsSome (option_map f o) → IsSome o

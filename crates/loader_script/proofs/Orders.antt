@@ -18,12 +18,12 @@ use Rattle.std.proofs.lemmas.Option.{none-some, same_Some}
 use Rattle.std.proofs.lemmas.Slice.Eq.{bytes_eq-Decides}
 use Rattle.vt_outside.specs.Name.{name_of, before_nul, in_field, IsName}
 use Rattle.vt_outside.proofs.Names.{name-in_field}
+use Rattle.vt_outside.proofs.Texts.{same_text}
 use Rattle.loader_script.specs.declared.refusing.FileInfo.{FileInfo}
 use Rattle.loader_script.specs.declared.order.NameOrder.{NameOrder}
 use Rattle.loader_script.specs.declared.order.NameRow.{NameRow}
 use Rattle.loader_script.specs.Refusal.{AreDistinct}
 use Rattle.loader_script.specs.Order.{rows_from, IsOrderOf}
-use Rattle.loader_script.proofs.Named.{same_name}
 
 -- the row of a file at an index
 abbrev pub row_of : FileInfo → ℕ → NameRow
@@ -105,7 +105,7 @@ row_later : (at : ℕ) (file : FileInfo) (files : List FileInfo) (name : List �
 row_later at file files name row differ later is =
     elim (cases_Bool (bytes_eq file.name name)) as (λ _. index_from at (file ∷ files) name ≡ Some row.index) [
       | inl same ↦
-          let others = subst (λ n. AllByRecursion (λ (other : FileInfo). bytes_eq other.name n ≡ false) files) (same_name file.name name same) differ in
+          let others = subst (λ n. AllByRecursion (λ (other : FileInfo). bytes_eq other.name n ≡ false) files) (same_text file.name name same) differ in
           absurd (none-some row.index (sym (none-indexed name (at + 1) files others) ∙ later is))
       | inr other ↦ cond-false _ _ _ other ∙ later is
     ]
@@ -129,7 +129,7 @@ no_row at (file ∷ files) name differ =
     let rest = rows_from (suc at) files in
     let Differs : NameRow → Type 0 = λ row. row.field ≢ in_field name in
     let first : bytes_eq file.name name ≡ false = elim (cases_Bool (bytes_eq file.name name)) as (λ _. bytes_eq file.name name ≡ false) [
-      | inl same ↦ absurd (All-head Differs (row_of file at) rest differ (ap in_field (same_name file.name name same)))
+      | inl same ↦ absurd (All-head Differs (row_of file at) rest differ (ap in_field (same_text file.name name same)))
       | inr other ↦ other
     ] in
     (first, no_row (suc at) files name (All-tail Differs (row_of file at) rest differ))

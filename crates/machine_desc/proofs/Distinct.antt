@@ -24,12 +24,6 @@ taken_at test number elements none j d within =
     let place : 0 + j ≡ j = omega arith in
     subst (λ e. taken e ≡ true) (placed ∙ ap (λ i. (i, get_or elements j d)) place) here
 
-pub lawful_at : {A : Type 0} (test : A → Bool) (number : A → ℕ) (elements : List A) → first_refused test number elements ≡ None → (j : ℕ) (d : A)
-    → j < length elements → test (get_or elements j d) ≡ true
-lawful_at test number elements none j d within =
-    let x = get_or elements j d in
-    (and_parts (test x) (is_new number elements (j, x)) (taken_at test number elements none j d within)).0
-
 not_old : (found : Bool) → not found ≡ true → found ≡ true → ⊥
 not_old found new old = cc
 

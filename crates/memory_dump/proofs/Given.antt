@@ -1,11 +1,12 @@
 -- What the call that reads answers.
 use Rattle.std.proofs.Common.{◌≡◌, ◌≢◌, ℕ, List, take, drop, Some, Result, Ok, Err, ap, sym, ◌∙◌}
 use Rattle.std.specs.Prelude.{IsErrAnd}
+use Rattle.vt_outside.specs.Readings.{Agrees}
 use Rattle.vt_bytes.specs.Memory.{Memory, IsMemory, IsRam, at}
 use Rattle.memory_dump.specs.Dump.{dump}
 use Rattle.guest_memory.specs.Bytes.{HoldsBytes}
 use Rattle.guest_memory.specs.Touched.{HeldMemory}
-use Rattle.memory_dump.specs.Reading.{Gives, behind_so, header_of, read_so}
+use Rattle.memory_dump.specs.Reading.{behind_so, header_of, read_so, reported}
 use Rattle.memory_dump.specs.declared.header.Header.{Header}
 use Rattle.memory_dump.specs.declared.fault.DumpFault.{DumpFault}
 use Rattle.memory_dump.specs.declared.fault.DumpFault.TheVariants.{BadHeader, BadLine, OutOfOrder, AllFill, NotRam, Truncated, OutOfMemory}
@@ -14,7 +15,8 @@ use Rattle.memory_dump.proofs.PutRows.{is_blank}
 use Rattle.memory_dump.proofs.ReadAgain.{text_read}
 use Rattle.memory_dump.proofs.Said.{read-header}
 
-gives_fault : (fault : DumpFault) (read : Result Memory DumpFault) → read ≡ Err fault → Gives {T = HeldMemory} (λ held. held.memory) (Err fault) read
+gives_fault : (fault : DumpFault) (read : Result Memory DumpFault) → read ≡ Err fault
+    → Agrees {Value = HeldMemory} reported (λ held. held.memory) (Err fault) read
 gives_fault BadHeader read is = is
 gives_fault (BadLine number) read is = is
 gives_fault (OutOfOrder number) read is = is
@@ -25,7 +27,7 @@ gives_fault OutOfMemory read is = tt
 
 -- a fault that is handed on is what reading gives
 pub handed : (result : Result HeldMemory DumpFault) (read : Result Memory DumpFault) (fault : DumpFault) → IsErrAnd result (λ e. e ≡ fault)
-    → read ≡ Err fault → Gives (λ held. held.memory) result read
+    → read ≡ Err fault → Agrees reported (λ held. held.memory) result read
 handed (Ok m) read fault is same = absurd is
 handed (Err e) read fault is same = gives_fault e read (same ∙ ap (λ (f : DumpFault). Err f) (sym is))
 
@@ -37,7 +39,7 @@ not_want (Err e) bytes fault is same = λ want. let read : read_so bytes ≡ Err
 
 -- and comes of no text
 pub no_text : (result : Result HeldMemory DumpFault) (bytes : List ℕ) (fault : DumpFault) (m : Memory) → IsMemory m → HoldsBytes m → dump m ≡ bytes
-    → read_so bytes ≡ Err fault → Gives (λ held. held.memory) result (Ok m)
+    → read_so bytes ≡ Err fault → Agrees reported (λ held. held.memory) result (Ok m)
 no_text result bytes fault m lawful holds is same =
     let both : Ok m ≡ Err fault = sym (text_read bytes m lawful holds is) ∙ same in
     absurd (cc)

@@ -1,14 +1,8 @@
 -- A sink that is offered a text line by line.
 use Rattle.std.proofs.Common.{◌≡◌, ℕ, List, ◌++◌, take, drop, ap, sym, subst, ◌∙◌, append_assoc}
 use Rattle.std.proofs.lemmas.List.{take-append-drop}
-use Rattle.std.specs.Prelude.{Result, Ok, Err, OnErr}
 use Rattle.vt_outside.specs.Stream.{SinkSeen, TookFront}
 use Rattle.vt_outside.proofs.Taken.{TookUpTo, front_then, front_more}
-
--- what holds after a fault
-pub on_err : {A E : Type 0} (result : Result A E) (P : Type 0) → P → OnErr result P
-on_err (Ok _) P holds = tt
-on_err (Err _) P holds = holds
 
 -- the sink took a front of the next line, and so of the text
 pub line_failed : (before now after : SinkSeen) (text rest : List ℕ) (size : ℕ) → TookUpTo text rest before now → TookFront (take size rest) now after

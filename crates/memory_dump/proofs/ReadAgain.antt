@@ -5,11 +5,13 @@ use Rattle.std.specs.List.{flat_map}
 use Rattle.std.specs.Str.{bytes_eq}
 use Rattle.std.proofs.lemmas.List.{append-nil}
 use Rattle.std.proofs.lemmas.Slice.Eq.{bytes_eq-Decides}
+use Rattle.vt_outside.specs.Readings.{◌into◌}
+use Rattle.std.specs.Option.{ok_or}
 use Rattle.vt_bytes.specs.Memory.{Memory, IsMemory, IsTop, IsRam, with_bytes}
 use Rattle.memory_dump.specs.Dump.{dump, header_line, last_line}
 use Rattle.guest_memory.specs.Bytes.{HoldsBytes}
 use Rattle.memory_dump.specs.Rows.{AreRows, Ascend, Rows, blank, memory_of, rows_of, text_of, text_of_row, with_rows}
-use Rattle.memory_dump.specs.Reading.{Lines, ◌>>=◌, behind_so, dump_so, ended, fault_of_row, header_of, in_front, lines_of, or_fault, read_so, row_of}
+use Rattle.memory_dump.specs.Reading.{Lines, behind_so, dump_so, ended, fault_of_row, header_of, in_front, lines_of, read_so, row_of}
 use Rattle.memory_dump.specs.Reading.{row_so, rows_so, unless}
 use Rattle.memory_dump.specs.declared.row.Row.{Row}
 use Rattle.memory_dump.specs.declared.header.Header.{Header}
@@ -23,7 +25,7 @@ use Rattle.memory_dump.proofs.PutRows.{blank_holds, blank_lawful, holds_rows, la
 use Rattle.memory_dump.proofs.RowsTell.{rows_are_lawful, same_memories}
 use Rattle.memory_dump.proofs.TextOfRows.{dump_is}
 
--- ---- what is read is spelled so
+-- ---- bytes that are read are the memory's text
 
 -- lines, one behind the other
 abbrev pub joined : List (List ℕ) → List ℕ → List ℕ
@@ -74,7 +76,7 @@ NextOf lines rest = (m out : Memory) (number from : ℕ) → rows_so m number fr
 
 told_row : (m out : Memory) (number from : ℕ) (line : List ℕ) (lines : List (List ℕ)) (rest : List ℕ) (row : Row) (fault : Option DumpFault)
     → NextOf lines rest → row_of line ≡ Some row → fault_of_row m number from row ≡ fault
-    → (unless fault row >>= (λ r. rows_so (with_bytes m r.address r.bytes) (number + 1) (r.address + 1) lines rest)) ≡ Ok out
+    → (unless fault row into (λ r. rows_so (with_bytes m r.address r.bytes) (number + 1) (r.address + 1) lines rest)) ≡ Ok out
     → Told m from (line ∷ lines) rest out
 told_row m out number from line lines rest row (Some fault) next read same is = absurd (cc)
 told_row m out number from line lines rest row None next read same is =
@@ -96,8 +98,8 @@ told_row m out number from line lines rest row None next read same is =
 
 told_found : (m out : Memory) (number from : ℕ) (line : List ℕ) (lines : List (List ℕ)) (rest : List ℕ) (found : Option Row)
     → NextOf lines rest → row_of line ≡ found
-    → ((or_fault (BadLine number) found >>= (λ r. unless (fault_of_row m number from r) r))
-    >>= (λ r. rows_so (with_bytes m r.address r.bytes) (number + 1) (r.address + 1) lines rest)) ≡ Ok out
+    → ((ok_or found (BadLine number) into (λ r. unless (fault_of_row m number from r) r))
+    into (λ r. rows_so (with_bytes m r.address r.bytes) (number + 1) (r.address + 1) lines rest)) ≡ Ok out
     → Told m from (line ∷ lines) rest out
 told_found m out number from line lines rest None next read is = absurd (cc)
 told_found m out number from line lines rest (Some row) next read is =
@@ -106,7 +108,7 @@ told_found m out number from line lines rest (Some row) next read is =
 told_line : (m out : Memory) (number from : ℕ) (line : List ℕ) (lines : List (List ℕ)) (rest : List ℕ) (test : Bool) → NextOf lines rest
     → bytes_eq line last_line ≡ test
     → cond test (ended m number lines rest)
-    (row_so m number from line >>= (λ r. rows_so (with_bytes m r.address r.bytes) (number + 1) (r.address + 1) lines rest)) ≡ Ok out
+    (row_so m number from line into (λ r. rows_so (with_bytes m r.address r.bytes) (number + 1) (r.address + 1) lines rest)) ≡ Ok out
     → Told m from (line ∷ lines) rest out
 told_line m out number from line lines rest true next same is =
     told_end m out number from line lines rest ((bytes_eq-Decides line last_line).0 same) is
@@ -135,7 +137,7 @@ text_is d = append_assoc (header_line d.top d.fill) (flat_map text_of_row d.rows
 
 tells_header : (bytes line : List ℕ) (lines : List (List ℕ)) (rest : List ℕ) (out : Memory) (found : Option Header) → bytes ≡ joined (line ∷ lines) rest
     → header_of line ≡ found
-    → (or_fault BadHeader found >>= (λ h. rows_so (blank h.top h.fill) 2 0 lines rest)) ≡ Ok out → TellsRows bytes out
+    → (ok_or found BadHeader into (λ h. rows_so (blank h.top h.fill) 2 0 lines rest)) ≡ Ok out → TellsRows bytes out
 tells_header bytes line lines rest out None whole read is = absurd (cc)
 tells_header bytes line lines rest out (Some h) whole read is =
     let header = header_of-only line h read in
@@ -200,8 +202,8 @@ read-first top fill text lawful small =
     ap (λ (l : List ℕ). lines_of (l ++ text)) line ∙ lines_of-line front text (header_no_feed top fill small) in
     let next : Header → Result Memory DumpFault = λ h. rows_so (blank h.top h.fill) 2 0 (lines_of text).whole (lines_of text).rest in
     ap (λ (l : Lines). dump_so l.whole l.rest) cut
-    ∙ ap (λ (l : List ℕ). or_fault BadHeader (header_of l) >>= next) (sym line)
-    ∙ ap (λ (found : Option Header). or_fault BadHeader found >>= next)
+    ∙ ap (λ (l : List ℕ). ok_or (header_of l) BadHeader into next) (sym line)
+    ∙ ap (λ (found : Option Header). ok_or found BadHeader into next)
     (header_of-spelled (header_line top fill) (record { top = top; fill = fill }) (record { text = refl; top = lawful; fill = small }))
 
 pub blank_ascends : (top fill from : ℕ) (rows : List Row) → Ascend top fill from rows → Ascend (blank top fill).top (blank top fill).fill from rows

@@ -1,9 +1,10 @@
 -- Digits are read as the bytes that they were written from.
-use Rattle.std.proofs.Common.{◌≡◌, ℕ, zero, suc, ◌+◌, ◌*◌, ◌/◌, ◌%◌, ◌<◌, ◌≤◌, ◌==◌, Bool, true, false, not, ◌&&◌, inl, inr, List, [], ◌∷◌, length}
-use Rattle.std.proofs.Common.{take, slice_index, cond, leb, refl, ap, ◌∙◌, arith}
-use Rattle.std.proofs.lemmas.Bool.{and_parts, cases_lt, eqb-true}
+use Rattle.std.proofs.Common.{◌≡◌, ℕ, zero, suc, ◌+◌, ◌*◌, ◌/◌, ◌%◌, ◌<◌, ◌==◌, Bool, true, false, not, ◌&&◌, inl, inr, List, [], ◌∷◌, length}
+use Rattle.std.proofs.Common.{slice_index, cond, leb, refl, ap, ◌∙◌, arith}
+use Rattle.std.proofs.lemmas.Bool.{and_parts, cases_lt, eqb-true, not-true}
 use Rattle.std.specs.List.{AllByRecursion}
-use Rattle.std.specs.Int.{bytes_high_first, byte_at}
+use Rattle.std.specs.Int.{bytes_high_first}
+use Rattle.vt_outside.proofs.NumberBytes.{byte_small}
 use Rattle.hex.specs.Hex.{encode_lower, encode_with, lower_digits}
 use Rattle.memory_dump.specs.Rows.{AreBytes}
 use Rattle.memory_dump.specs.Reading.{bytes_of, digit_value}
@@ -29,15 +30,11 @@ read_back_at (suc n) k all below =
       | inr last ↦ let same : k ≡ n = omega arith in rw same parts.0
     ]
 
-not_true : (b : Bool) → not b ≡ true → b ≡ false
-not_true true is = absurd (cc)
-not_true false is = refl
-
 digit_back : (value : ℕ) → value < 16 → digit_value (slice_index lower_digits value) ≡ value
 digit_back value small = eqb-true _ value (and_parts _ _ (read_back_at 16 value refl small)).0
 
 digit_no_feed : (value : ℕ) → value < 16 → (slice_index lower_digits value == 10) ≡ false
-digit_no_feed value small = not_true _ (and_parts (digit_value (slice_index lower_digits value) == value) _ (read_back_at 16 value refl small)).1
+digit_no_feed value small = not-true _ (and_parts (digit_value (slice_index lower_digits value) == value) _ (read_back_at 16 value refl small)).1
 
 -- digits are read as the bytes that they were written from
 pub bytes_of-digits : (bytes : List ℕ) → AreBytes bytes → bytes_of (encode_lower bytes) ≡ bytes
@@ -92,22 +89,6 @@ length-bytes_of zero (digit ∷ digits) size = absurd (omega arith)
 length-bytes_of (suc n) (digit ∷ []) size = absurd (omega arith)
 length-bytes_of (suc n) (high ∷ low ∷ digits) size = ap suc (length-bytes_of n digits (omega arith))
 
--- the bytes of a number are bytes
-byte_small : (k n : ℕ) → byte_at k n < 256
-byte_small zero n = omega arith
-byte_small (suc k) n = omega arith
-
 pub number_bytes : (k n : ℕ) → AreBytes (bytes_high_first k n)
 number_bytes zero n = tt
 number_bytes (suc k) n = (byte_small k n, number_bytes k n)
-
--- the first digits of two lists of digits, and the others
-pub bytes_of-front : (k : ℕ) (digits : List ℕ) → 2 * k ≤ length digits → bytes_of (take (2 * k) digits) ≡ take k (bytes_of digits)
-unfolding bytes_of
-bytes_of-front zero digits within = refl
-bytes_of-front (suc k) [] within = absurd (omega arith)
-bytes_of-front (suc k) (digit ∷ []) within = absurd (omega arith)
-bytes_of-front (suc k) (high ∷ low ∷ digits) within =
-    let twice : 2 * suc k ≡ suc (suc (2 * k)) = omega arith in
-    ap (λ (n : ℕ). bytes_of (take n (high ∷ low ∷ digits))) twice
-    ∙ ap (λ (rest : List ℕ). (digit_value high * 16 + digit_value low) ∷ rest) (bytes_of-front k digits (omega arith))

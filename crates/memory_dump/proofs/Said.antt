@@ -6,11 +6,14 @@ use Rattle.std.specs.Str.{bytes_eq}
 use Rattle.std.proofs.lemmas.Bool.Decides.{nat_tests}
 use Rattle.std.proofs.lemmas.List.{take-append-drop, take_at}
 use Rattle.std.proofs.lemmas.Slice.Eq.{bytes_eq-Decides}
+use Rattle.vt_outside.specs.Readings.{◌into◌}
+use Rattle.std.specs.Option.{ok_or}
+use Rattle.std.proofs.lemmas.Bool.{false_from_ne_true}
 use Rattle.vt_bytes.specs.Memory.{Memory, IsRam, is_ram, with_bytes}
 use Rattle.vt_bytes.proofs.Seen.{ram_tested, ram_from_test}
 use Rattle.memory_dump.specs.Dump.{last_line}
 use Rattle.memory_dump.specs.Rows.{IsSpelled, blank, is_fill}
-use Rattle.memory_dump.specs.Reading.{Lines, ◌>>=◌, behind_so, dump_so, ended, fault_of_row, header_of, in_front, lines_of, or_fault, read_so, row_of}
+use Rattle.memory_dump.specs.Reading.{Lines, behind_so, dump_so, ended, fault_of_row, header_of, in_front, lines_of, read_so, row_of}
 use Rattle.memory_dump.specs.Reading.{row_so, rows_so, unless}
 use Rattle.memory_dump.specs.declared.row.Row.{Row}
 use Rattle.memory_dump.specs.declared.header.Header.{Header}
@@ -22,10 +25,6 @@ use Rattle.memory_dump.proofs.Spelled.{header_front, header_line-front, header_n
 use Rattle.memory_dump.proofs.Spelled.{length-header, length-row, row_front, row_no_feed, row_of-only, row_text-front}
 
 -- ---- whether a row is taken
-
-not_true : (b : Bool) → (b ≡ true → ⊥) → b ≡ false
-not_true true fails = absurd (fails refl)
-not_true false fails = refl
 
 if_true : {T : Type 0} (test : Bool) (a b : T) → test ≡ true → cond test a b ≡ a
 if_true true a b is = refl
@@ -42,7 +41,7 @@ from_test : (a b : ℕ) → b ≤ a → nat_lt a b ≡ false
 from_test a b from = grind (arith, nat_tests)
 
 not_ram_test : (top address : ℕ) → (IsRam top address → ⊥) → not (is_ram top address) ≡ true
-not_ram_test top address none = ap not (not_true (is_ram top address) (λ passes. none (ram_from_test top address passes)))
+not_ram_test top address none = ap not (false_from_ne_true (is_ram top address) (λ passes. none (ram_from_test top address passes)))
 
 ram_test : (top address : ℕ) → IsRam top address → not (is_ram top address) ≡ false
 ram_test top address ram = ap not (ram_tested top address ram)
@@ -120,12 +119,12 @@ said-line m number from front bytes none = ap (λ (l : Lines). rows_so m number 
 -- a line that isn't the last one
 pub rows-line : (m : Memory) (number from : ℕ) (line : List ℕ) (lines : List (List ℕ)) (rest : List ℕ) → bytes_eq line last_line ≡ false
     → rows_so m number from (line ∷ lines) rest
-    ≡ (row_so m number from line >>= (λ row. rows_so (with_bytes m row.address row.bytes) (number + 1) (row.address + 1) lines rest))
+    ≡ (row_so m number from line into (λ row. rows_so (with_bytes m row.address row.bytes) (number + 1) (row.address + 1) lines rest))
 unfolding rows_so
 rows-line m number from line lines rest other = if_false _ _ _ other
 
 pub not_last : (line : List ℕ) → (line ≡ last_line → ⊥) → bytes_eq line last_line ≡ false
-not_last line other = not_true _ (λ same. other ((bytes_eq-Decides line last_line).0 same))
+not_last line other = false_from_ne_true _ (λ same. other ((bytes_eq-Decides line last_line).0 same))
 
 pub length-last : length last_line ≡ 4
 length-last = ap length last_line-front
@@ -140,8 +139,8 @@ pub rows-taken : (m : Memory) (number from : ℕ) (row : Row) (line : List ℕ) 
 rows-taken m number from row line lines rest long is none =
     let next : Row → Result Memory DumpFault = λ r. rows_so (with_bytes m r.address r.bytes) (number + 1) (r.address + 1) lines rest in
     rows-line m number from line lines rest (long_not_last line long)
-    ∙ ap (λ (found : Option Row). (or_fault (BadLine number) found >>= (λ r. unless (fault_of_row m number from r) r)) >>= next) is
-    ∙ ap (λ (fault : Option DumpFault). unless fault row >>= next) none
+    ∙ ap (λ (found : Option Row). (ok_or found (BadLine number) into (λ r. unless (fault_of_row m number from r) r)) into next) is
+    ∙ ap (λ (fault : Option DumpFault). unless fault row into next) none
 
 pub rows-refused : (m : Memory) (number from : ℕ) (row : Row) (line : List ℕ) (lines : List (List ℕ)) (rest : List ℕ) (fault : DumpFault)
     → length line ≡ 42 → row_of line ≡ Some row → fault_of_row m number from row ≡ Some fault
@@ -149,8 +148,8 @@ pub rows-refused : (m : Memory) (number from : ℕ) (row : Row) (line : List ℕ
 rows-refused m number from row line lines rest fault long is some =
     let next : Row → Result Memory DumpFault = λ r. rows_so (with_bytes m r.address r.bytes) (number + 1) (r.address + 1) lines rest in
     rows-line m number from line lines rest (long_not_last line long)
-    ∙ ap (λ (found : Option Row). (or_fault (BadLine number) found >>= (λ r. unless (fault_of_row m number from r) r)) >>= next) is
-    ∙ ap (λ (f : Option DumpFault). unless f row >>= next) some
+    ∙ ap (λ (found : Option Row). (ok_or found (BadLine number) into (λ r. unless (fault_of_row m number from r) r)) into next) is
+    ∙ ap (λ (f : Option DumpFault). unless f row into next) some
 
 -- the line of no row
 pub rows-bad : (m : Memory) (number from : ℕ) (line : List ℕ) (lines : List (List ℕ)) (rest : List ℕ) → bytes_eq line last_line ≡ false
@@ -158,7 +157,7 @@ pub rows-bad : (m : Memory) (number from : ℕ) (line : List ℕ) (lines : List 
 rows-bad m number from line lines rest other none =
     let next : Row → Result Memory DumpFault = λ r. rows_so (with_bytes m r.address r.bytes) (number + 1) (r.address + 1) lines rest in
     rows-line m number from line lines rest other
-    ∙ ap (λ (found : Option Row). (or_fault (BadLine number) found >>= (λ r. unless (fault_of_row m number from r) r)) >>= next) none
+    ∙ ap (λ (found : Option Row). (ok_or found (BadLine number) into (λ r. unless (fault_of_row m number from r) r)) into next) none
 
 -- What stands in front of a text that begins with a row's line.
 pub record BeginsWith (text : List ℕ) (row : Row) : Type 0 where
@@ -307,8 +306,8 @@ read-header text header is =
     let next : Header → Result Memory DumpFault =
     λ h. rows_so (blank h.top h.fill) 2 0 (lines_of (drop 21 text)).whole (lines_of (drop 21 text)).rest in
     ap (λ (l : Lines). dump_so l.whole l.rest) cut
-    ∙ ap (λ (l : List ℕ). or_fault BadHeader (header_of l) >>= next) (sym line)
-    ∙ ap (λ (found : Option Header). or_fault BadHeader found >>= next) is
+    ∙ ap (λ (l : List ℕ). ok_or (header_of l) BadHeader into next) (sym line)
+    ∙ ap (λ (found : Option Header). ok_or found BadHeader into next) is
 
 no_header : (text line more : List ℕ) (found : Option Header) → text ≡ line ++ more → header_of (take 21 text) ≡ None → header_of line ≡ found
     → found ≡ None
@@ -325,7 +324,7 @@ read-bad text none some =
     let f = has_first text some in
     let next : Header → Result Memory DumpFault = λ h. rows_so (blank h.top h.fill) 2 0 f.lines (lines_of text).rest in
     ap (λ (l : Lines). dump_so l.whole l.rest) f.whole
-    ∙ ap (λ (found : Option Header). or_fault BadHeader found >>= next) (no_header text f.line f.more (header_of f.line) f.text_is none refl)
+    ∙ ap (λ (found : Option Header). ok_or found BadHeader into next) (no_header text f.line f.more (header_of f.line) f.text_is none refl)
 
 pub read-cut : (text : List ℕ) → (lines_of text).whole ≡ [] → read_so text ≡ Err Truncated
 unfolding read_so dump_so

@@ -1,10 +1,12 @@
 -- How a dump is read: line by line, up to the first fault.
-use Rattle.std.specs.Prelude.{◌≡◌, ℕ, ◌+◌, ◌*◌, ◌%◌, Bool, ◌&&◌, not, ◌==◌, List, [], ◌∷◌, length, take, drop, Option, Some, None, Result, Ok, Err}
+use Rattle.std.specs.Prelude.{ℕ, ◌+◌, ◌*◌, ◌%◌, Bool, ◌&&◌, not, ◌==◌, List, [], ◌∷◌, length, take, drop, Option, Some, None, Result, Ok, Err}
 use Rattle.std.specs.Prelude.{nat_lt, nat_le, slice_index, if◌then◌else◌}
 use Rattle.std.specs.Str.{bytes_eq}
 use Rattle.std.specs.Int.{w32, from_be_bytes}
 use Rattle.vt_bytes.specs.Memory.{Memory, is_ram, with_bytes}
 use Rattle.vt_outside.specs.Stream.{line_feeds}
+use Rattle.vt_outside.specs.Readings.{◌into◌}
+use Rattle.std.specs.Option.{ok_or}
 use Rattle.memory_dump.specs.Dump.{header_line, last_line, row_text}
 use Rattle.memory_dump.specs.Rows.{blank, is_fill}
 use Rattle.memory_dump.specs.declared.row.Row.{Row}
@@ -83,23 +85,14 @@ fault_of_row m number from row =
     if not (is_ram m.top row.address) then Some (NotRam number)
     else (if nat_lt row.address from then Some (OutOfOrder number) else (if is_fill m.fill row.bytes then Some (AllFill number) else None))
 
--- A value, or the fault in place of it; and a value where there is no fault.
-abbrev pub or_fault : {T : Type 0} → DumpFault → Option T → Result T DumpFault
-or_fault fault None = Err fault
-or_fault fault (Some value) = Ok value
-
+-- a value, where there is no fault
 abbrev pub unless : {T : Type 0} → Option DumpFault → T → Result T DumpFault
 unless None value = Ok value
 unless (Some fault) value = Err fault
 
-infixl 10 ◌>>=◌
-abbrev pub ◌>>=◌ : {A B : Type 0} → Result A DumpFault → (A → Result B DumpFault) → Result B DumpFault
-(Ok x) >>= f = f x
-(Err fault) >>= f = Err fault
-
 -- what a row's line says of the memory so far, by the line's number and the address from which rows are awaited
 abbrev pub row_so : Memory → ℕ → ℕ → List ℕ → Result Row DumpFault
-row_so m number from line = or_fault (BadLine number) (row_of line) >>= (λ row. unless (fault_of_row m number from row) row)
+row_so m number from line = ok_or (row_of line) (BadLine number) into (λ row. unless (fault_of_row m number from row) row)
 
 -- Behind the last line nothing stands, or else the line behind it is at fault, whether it is whole or not.
 abbrev pub ended : Memory → ℕ → List (List ℕ) → List ℕ → Result Memory DumpFault
@@ -112,7 +105,7 @@ unfoldable pub rows_so : Memory → ℕ → ℕ → List (List ℕ) → List ℕ
 rows_so m number from [] rest = Err Truncated
 rows_so m number from (line ∷ lines) rest =
     if bytes_eq line last_line then ended m number lines rest
-    else (row_so m number from line >>= (λ row. rows_so (with_bytes m row.address row.bytes) (number + 1) (row.address + 1) lines rest))
+    else (row_so m number from line into (λ row. rows_so (with_bytes m row.address row.bytes) (number + 1) (row.address + 1) lines rest))
 
 -- what a text says that stands behind the first line
 abbrev pub behind_so : Memory → ℕ → ℕ → List ℕ → Result Memory DumpFault
@@ -122,14 +115,13 @@ behind_so m number from text = rows_so m number from (lines_of text).whole (line
 unfoldable pub dump_so : List (List ℕ) → List ℕ → Result Memory DumpFault
 dump_so [] rest = Err Truncated
 dump_so (line ∷ lines) rest =
-    or_fault BadHeader (header_of line) >>= (λ header. rows_so (blank header.top header.fill) 2 0 lines rest)
+    ok_or (header_of line) BadHeader into (λ header. rows_so (blank header.top header.fill) 2 0 lines rest)
 
 -- The memory of which the bytes are the text, or the first fault.
 unfoldable pub read_so : List ℕ → Result Memory DumpFault
 read_so bytes = dump_so (lines_of bytes).whole (lines_of bytes).rest
 
--- What a call answered is what reading gives, unless memory ran out.
-abbrev pub Gives : {T A : Type 0} → (T → A) → Result T DumpFault → Result A DumpFault → Type 0
-Gives seen (Ok value) read = read ≡ Ok (seen value)
-Gives seen (Err OutOfMemory) read = Unit {0}
-Gives seen (Err fault) read = read ≡ Err fault
+-- the fault that an error reports, or none where memory ran out
+abbrev pub reported : DumpFault → Option DumpFault
+reported OutOfMemory = None
+reported fault = Some fault

@@ -1,9 +1,10 @@
 ghost use Rattle.std.specs.Prelude.{◌≡◌, ◌≢◌, ◌+◌, ◌%◌, ◌<◌, ◌^◌, ◌++◌, ℕ, Ok, Err, None, Some, OnOk, IfOk, IfErr, length, take, drop};
+ghost use Rattle.vt_outside.specs.Readings.{Agrees};
 ghost use Rattle.vt_bytes.specs.Memory.{Memory, IsMemory, IsTop, with_bytes};
 ghost use Rattle.memory_dump.specs.declared.fault.DumpFault.TheVariants.{OutOfMemory as NoMemory};
 ghost use Rattle.memory_dump.specs.Dump.{dump, header_line, last_line};
 ghost use Rattle.guest_memory.specs.Bytes.{HoldsBytes};
-ghost use Rattle.memory_dump.specs.Reading.{Gives, behind_so, fault_of_row, header_of, read_so, row_of};
+ghost use Rattle.memory_dump.specs.Reading.{behind_so, fault_of_row, header_of, read_so, row_of, reported};
 
 use crate::fault::DumpFault;
 use crate::header::{HEADER, Header, header_in_front};
@@ -24,9 +25,9 @@ pub fn read_dump(alloc: Global, bytes: &[u8]) -> Result<GuestMemory, DumpFault>
     ensures lawful { IfOk result (λ held. IsMemory held.memory) }
     ensures holds { IfOk result (λ held. HoldsBytes held.memory) }
     // A memory whose text the bytes are is read, unless memory runs out.
-    ensures only { (m : Memory) → IsMemory m → HoldsBytes m → dump m ≡ bytes.now → Gives (λ held. held.memory) result (Ok m) }
+    ensures only { (m : Memory) → IsMemory m → HoldsBytes m → dump m ≡ bytes.now → Agrees reported (λ held. held.memory) result (Ok m) }
     // Which fault it is.
-    ensures exact { Gives (λ held. held.memory) result (read_so bytes.now) }
+    ensures exact { Agrees reported (λ held. held.memory) result (read_so bytes.now) }
     // Memory is needed only once the first line is a dump's.
     ensures no_memory { result ≡ Err NoMemory → header_of (take 21 bytes.now) ≢ None }
 {

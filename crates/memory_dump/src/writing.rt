@@ -9,6 +9,7 @@ ghost use Rattle.vt_outside.specs.Stream.{Took, TookFront, line_feeds};
 use crate::header::header_text;
 use crate::row::{LINE, ROW, is_filled_row, line};
 use guest_memory::{FRAME_BYTES, GuestMemory, ram_ranges};
+use vt_bytes::BYTES_IN_MIB;
 use vt_outside::{Failed, Sink, write_all};
 
 // How many rows a frame has, and how many bytes their lines have at most.
@@ -16,9 +17,7 @@ const ROWS: usize = 256;
 
 const FRAME_TEXT: usize = ROWS * LINE;
 
-// Where the frames of the first MiB end, and how many bytes those below the top have.
-const MIB: u64 = 0x10_0000;
-
+// How many bytes the frames below the top have. The others are those of the first MiB.
 const HIGH_BYTES: u64 = 0x200_0000;
 
 /// Writes the dump of `memory` to `out`: a line with the top and the fill byte, then one for each 16 bytes of RAM that aren't all
@@ -92,10 +91,10 @@ fn frame_at(address: u64, top: u32) -> u32
     ensures place { frame_start top result ≡ address }
     ensures limit { result < frame_limit }
 {
-    let number = if address < MIB {
+    let number = if address < BYTES_IN_MIB {
         address / FRAME_BYTES
     } else {
-        MIB / FRAME_BYTES + (address - (u64::from(top) - HIGH_BYTES)) / FRAME_BYTES
+        BYTES_IN_MIB / FRAME_BYTES + (address - (u64::from(top) - HIGH_BYTES)) / FRAME_BYTES
     };
     number as u32
 }

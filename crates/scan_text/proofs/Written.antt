@@ -1,15 +1,10 @@
 -- Lines as a sink takes them: a line, the lines of a list's items, and lines one behind the other.
-use Rattle.std.proofs.Common.{◌≡◌, ℕ, ◌+◌, ◌<◌, ◌≤◌, List, [], ◌∷◌, ◌++◌, length, take, drop, take_all, get_or, flat_map, Result, Ok, Err, OnErr, ap}
+use Rattle.std.proofs.Common.{◌≡◌, ℕ, ◌+◌, ◌<◌, ◌≤◌, List, [], ◌∷◌, ◌++◌, length, take, drop, take_all, get_or, flat_map, ap}
 use Rattle.std.proofs.Common.{subst, sym, ◌∙◌}
 use Rattle.std.proofs.lemmas.Grind.{flat_map-append}
 use Rattle.std.proofs.lemmas.List.{append-nil, take_more, take-append-drop}
 use Rattle.vt_outside.specs.Stream.{SinkSeen, Took, TookFront}
 use Rattle.vt_outside.proofs.Taken.{took_then, front_then, front_more}
-
--- what holds after a fault
-pub on_err : {A E : Type 0} (result : Result A E) (P : Type 0) → P → OnErr result P
-on_err (Ok _) P holds = tt
-on_err (Err _) P holds = holds
 
 -- the sink took a text, which is this one, or a front of it
 pub took_same : (before after : SinkSeen) (written text : List ℕ) → written ≡ text → Took written before after → Took text before after

@@ -1,19 +1,16 @@
 -- How many bytes structures have.
-use Rattle.std.proofs.Common.{◌≡◌, ℕ, ◌+◌, ◌<◌, ◌≤◌, min, max, List, [], ◌∷◌, ◌++◌, length, take, get_or}
-use Rattle.std.proofs.Common.{arith, refl, ap, sym, ◌∙◌, subst, length-append}
+use Rattle.std.proofs.Common.{◌≡◌, ℕ, ◌+◌, ◌<◌, min, max, List, [], ◌∷◌, ◌++◌, length, take, get_or}
+use Rattle.std.proofs.Common.{arith, refl, ap, ◌∙◌, length-append}
 use Rattle.std.specs.List.{AllByRecursion}
 use Rattle.std.proofs.lemmas.List.{take_more, append-nil}
 use Rattle.std.proofs.lemmas.Grind.{flat_map-append}
 use Rattle.vt_bytes.specs.Numbers.{le_bytes}
 use Rattle.vt_layout.specs.Fields.{Field, field_rows, field_texts, field_bytes, field_strings}
-use Rattle.smbios_model.specs.declared.smbios.Body.{Body}
 use Rattle.smbios_model.specs.declared.smbios.Structure.{Structure}
-use Rattle.vt_layout.specs.Strings.{HasNoNul, IsString, with_nuls, string_set, strings_of}
-use Rattle.smbios_model.specs.Structures.{area_of, layout_of}
+use Rattle.vt_layout.specs.Strings.{HasNoNul, IsString, with_nuls, string_set}
 use Rattle.smbios_model.specs.Smbios.{formatted}
 use Rattle.smbios_build.specs.Spelling.{layout_bytes, structure_bytes, structures_bytes}
 use Rattle.vt_layout.proofs.NamedTexts.{each_string}
-use Rattle.smbios_build.proofs.Texts.{strings_of-strings}
 
 -- a structure has its header, its area, and its strings
 pub length-structure : (number handle : ℕ) (area : List ℕ) (strings : List (List ℕ))
@@ -44,20 +41,6 @@ pub record_counted : (number handle : ℕ) (fields : List Field) (area strings t
     → total ≡ min (length (layout_bytes number handle (field_rows fields) (field_texts fields))) most
 record_counted number handle fields area strings total most none =
     counted number handle (field_bytes fields) (field_strings fields) area strings total most (each_string (field_texts fields) none)
-
--- the count of a structure whose body was found out, by the bytes of its area and its strings
-pub area_counted : (s : Structure) (body : Body) (bytes : List ℕ) (texts : List (List ℕ)) (area strings total most : ℕ) → s.body ≡ body
-    → AllByRecursion IsString texts → bytes ≡ area_of body → texts ≡ (layout_of body).texts → area ≡ length bytes
-    → strings ≡ min (length (with_nuls (strings_of texts))) most → total ≡ min (4 + area + max 2 (strings + 1)) most → area ≤ most
-    → total ≡ min (length (structure_bytes s)) most
-area_counted s body bytes texts area strings total most is each bytes_are texts_are area_is strings_are total_is small =
-    let same = strings_of-strings texts each in
-    let all : total ≡ min (length (formatted 0 0 bytes ++ string_set (strings_of texts))) most =
-    counted 0 0 bytes (strings_of texts) area strings total most (subst (AllByRecursion IsString) (sym same) each) (omega (arith, area_is, small))
-    strings_are total_is in
-    all ∙ ap (λ b. min (length (formatted 0 0 b ++ string_set (strings_of texts))) most) bytes_are
-    ∙ ap (λ all. min (length (formatted 0 0 (area_of body) ++ string_set (strings_of all))) most) texts_are
-    ∙ ap (λ b. min (length (structure_bytes (record { handle = s.handle; body = b }))) most) (sym is)
 
 -- one structure more
 length-structures_bytes-more : (structures : List Structure) (k : ℕ) (other : Structure) → k < length structures

@@ -23,9 +23,6 @@ pub record IsReached (bytes : List ℕ) (place : ℕ) (structures : List Structu
       → AreRefused 0 bytes (structures ++ before) fault
   pub whole : 0 < place → BeginsWhole bytes
 
-pub begun : (bytes : List ℕ) → IsReached bytes 0 []
-begun bytes = record { within = omega arith; read = λ more is. is; refused = λ before fault are. are; whole = λ some. absurd (omega (arith, some)) }
-
 -- a structure has some bytes
 some_bytes : (bytes : List ℕ) (kind : ℕ) (s : Structure) → IsStructure bytes kind s → 0 < length bytes
 some_bytes bytes kind s is =

@@ -1,6 +1,6 @@
 -- Bytes up to the first two NULs in a row, split at their NULs.
-use Rattle.std.proofs.Common.{◌≡◌, ℕ, zero, suc, ◌+◌, ◌<◌, ◌≤◌, Bool, true, false, not, List, [], ◌∷◌, ◌++◌, length, take, ◌==◌, Some, Result, Ok}
-use Rattle.std.proofs.Common.{Err, OnErr, arith, refl, ap, sym, ◌∙◌, subst}
+use Rattle.std.proofs.Common.{◌≡◌, ℕ, zero, suc, ◌+◌, ◌<◌, ◌≤◌, Bool, true, false, not, List, [], ◌∷◌, ◌++◌, length, take, ◌==◌, Some}
+use Rattle.std.proofs.Common.{arith, refl, ap, sym, ◌∙◌, subst}
 use Rattle.std.proofs.Common.{append_assoc, append-nil, length-append}
 use Rattle.std.specs.List.{slice_get, slice_split, onto_first, list_all, AllByRecursion}
 use Rattle.std.proofs.lemmas.Bool.{eqb-true, and_from, not_from_false}
@@ -180,8 +180,3 @@ no_strings bytes none (text ∷ texts) rest are split =
     let whole : bytes ≡ last.0 ++ 0 ∷ 0 ∷ rest =
     split ∙ append_assoc (with_nuls (text ∷ texts)) (0 ∷ []) rest ∙ ap (λ bs. bs ++ 0 ∷ rest) last.1 ∙ append_assoc last.0 (0 ∷ []) (0 ∷ rest) in
     none (length last.0) (subst (λ bs. HasEnd bs (length last.0)) (sym whole) (end_at last.0 rest))
-
--- what holds at all holds where memory ran out
-pub on_err : {T E : Type 0} (r : Result T E) (P : Type 0) → P → OnErr r P
-on_err (Ok x) P holds = tt
-on_err (Err e) P holds = holds

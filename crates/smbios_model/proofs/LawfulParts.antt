@@ -3,8 +3,8 @@
 use Rattle.std.proofs.Common.{◌≡◌, ℕ, ◌≤◌, Bool, true, List, [], ◌∷◌, length, map, Option, Some, None, IfSome, arith, refl, ap, sym, ◌∙◌}
 use Rattle.std.specs.List.{list_all, flat_map, AllByRecursion}
 use Rattle.std.specs.Option.{option_map_or, option_to_list}
-use Rattle.std.proofs.lemmas.Bool.{and_parts}
 use Rattle.std.proofs.lemmas.List.{length-map}
+use Rattle.vt_outside.proofs.Each.{each_true}
 use Rattle.vt_bytes.proofs.Each.{each_from}
 use Rattle.machine_desc.specs.declared.machine.Machine.{Machine}
 use Rattle.machine_desc.specs.Rules.{is_text, texts_if, firmware_texts, chassis_texts, socket_texts, dimm_texts, slot_texts}
@@ -39,12 +39,6 @@ always P p (x ∷ xs) = (p x, always P p xs)
 
 any : {X : Type 0} (xs : List X) → AllByRecursion Anything xs
 any xs = always Anything (λ _. tt) xs
-
-pub each_true : {X : Type 0} (test : X → Bool) (xs : List X) → list_all test xs ≡ true → AllByRecursion (λ x. test x ≡ true) xs
-each_true test [] all = tt
-each_true test (x ∷ xs) all =
-    let parts = and_parts (test x) (list_all test xs) all in
-    (parts.0, each_true test xs parts.1)
 
 -- the texts of each element are lawful
 each_text : {Element : Type 0} (texts_of : Element → List (List ℕ)) (elements : List Element) → list_all is_text (flat_map texts_of elements) ≡ true

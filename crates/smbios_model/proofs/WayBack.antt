@@ -1,9 +1,9 @@
 -- An accepted machine is got back from its structures, part by part.
-use Rattle.std.proofs.Common.{◌≡◌, ℕ, true, List, [], ◌∷◌, ◌++◌, length, map, Option, Some, None, slice_get, get_or, refl, ap, sym, ◌∙◌}
+use Rattle.std.proofs.Common.{◌≡◌, ℕ, true, List, [], ◌∷◌, ◌++◌, map, Option, Some, None, slice_get, get_or, refl, ap, ◌∙◌}
 use Rattle.std.proofs.Common.{append-nil}
-use Rattle.std.proofs.lemmas.List.{length-map}
 use Rattle.std.specs.List.{cons_option, filter_map, AllByRecursion}
 use Rattle.std.specs.Option.{option_to_list}
+use Rattle.vt_outside.proofs.Each.{each_true}
 use Rattle.vt_bytes.proofs.Each.{each_weaker}
 use Rattle.machine_desc.specs.declared.machine.Machine.{Machine}
 use Rattle.machine_desc.specs.declared.smbios_parts.MemRange.{MemRange}
@@ -18,7 +18,7 @@ use Rattle.smbios_model.specs.MachineStructures.{parts_of, structures_of}
 use Rattle.smbios_model.specs.ToldParts.{firmware_told, system_told, chassis_told, socket_told, slot_told, texts_told, dimm_told, range_told, all_told}
 use Rattle.smbios_model.specs.ToldParts.{oem_strings_in, the_system_in, the_firmware_in, the_chassis_in, on_nodes}
 use Rattle.smbios_model.proofs.GotBack.{system_back, slot_back, dimm_back, range_back}
-use Rattle.smbios_model.proofs.LawfulParts.{always, each_true, lawful_slots}
+use Rattle.smbios_model.proofs.LawfulParts.{always, lawful_slots}
 use Rattle.smbios_model.proofs.PartsByType.{bodies_in, are_typed, of_type}
 use Rattle.smbios_model.proofs.ToldByType.{IsToldBy, told_of_type, firmware_type, system_type, chassis_type, socket_type, slot_type, texts_type}
 use Rattle.smbios_model.proofs.ToldByType.{dimm_type, range_type}
@@ -93,13 +93,6 @@ ranges_but_nodes m accepted =
     told_of_type 19 range_told range_type (structures_of m)
     ∙ ap (filter_map range_told) (of_type 19 (parts_of m) (are_typed m accepted) ∙ append-nil (map mapped_body m.ranges))
     ∙ ranges_told m.ranges (fitting_ranges m accepted)
-
--- so two machines with the same structures have as many
-pub as_many_ranges : (a b : Machine) → IsAccepted a → IsAccepted b → structures_of a ≡ structures_of b → length a.ranges ≡ length b.ranges
-as_many_ranges a b a_accepted b_accepted same =
-    sym (length-map a.ranges off_node)
-    ∙ ap length (sym (ranges_but_nodes a a_accepted) ∙ ap (all_told range_told) same ∙ ranges_but_nodes b b_accepted)
-    ∙ length-map b.ranges off_node
 
 ranges_back : (m : Machine) → IsAccepted m → on_nodes (map node_of m.ranges) (all_told range_told (structures_of m)) ≡ m.ranges
 ranges_back m accepted = ap (on_nodes (map node_of m.ranges)) (ranges_but_nodes m accepted) ∙ on_own_nodes m.ranges

@@ -9,7 +9,7 @@ use Rattle.vt_layout.specs.Strings.{numbers_from, strings_of}
 use Rattle.vt_layout.specs.Numbered.{numbered}
 use Rattle.smbios_model.specs.StructureKinds.{StructureLayout}
 use Rattle.smbios_model.specs.Structures.{kind_for, number_of, area_of, strings_in, layout_of, IsTyped, IsBodyOf, IsBody}
-use Rattle.vt_layout.proofs.NumberedRows.{shape-numbered, rows_numbered, plain_numbered, size-shape, size-numbered}
+use Rattle.vt_layout.proofs.NumberedRows.{shape-numbered, rows_numbered, plain_numbered, size-shape}
 use Rattle.smbios_model.proofs.KnownStructures.{IsKnownBody}
 use Rattle.smbios_model.proofs.WrittenAreas.{spelled_area}
 
@@ -31,12 +31,6 @@ numbers_fit next (text ∷ texts) few =
 pub rows_fit : (texts : List (List ℕ)) (rows : List Row) → length texts ≤ 255 → AllByRecursion IsRow rows
     → AllByRecursion IsRow (numbered (numbers_from 1 texts) rows)
 rows_fit texts rows few are = rows_numbered (numbers_from 1 texts) rows (numbers_fit 1 texts (omega arith)) are
-
--- they have as many bytes as without them
-pub length-numbered : (texts : List (List ℕ)) (rows : List Row) → length texts ≤ 255 → AllByRecursion IsRow rows
-    → length (spelled (numbered (numbers_from 1 texts) rows)) ≡ size rows
-length-numbered texts rows few are =
-    length-spelled (numbered (numbers_from 1 texts) rows) (rows_fit texts rows few are) ∙ size-numbered (numbers_from 1 texts) rows
 
 -- and as many as the rows of the kind
 length-area : (body : Body) (l : StructureLayout) → IsKnownBody body l → AllByRecursion IsRow (numbered (numbers_from 1 l.texts) l.rows)

@@ -22,7 +22,6 @@ mod smbios;
 mod structure_types;
 mod system_information;
 mod texts;
-mod units;
 
 pub use anchor::{Anchor, anchor_of, anchor_rows};
 pub use bios_information::{BiosInfo, bios_of};
@@ -41,4 +40,3 @@ pub use structure_types::{
 };
 pub use system_information::{SystemInfo, system_of, uuid_field};
 pub use texts::{copies_of, three_copies_of, two_copies_of};
-pub use units::BYTES_IN_MIB;

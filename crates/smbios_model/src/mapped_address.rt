@@ -2,8 +2,8 @@ ghost use Rattle.std.specs.Prelude.{◌≡◌, ◌-◌, ◌*◌, ◌^◌, ◌<�
 ghost use Rattle.smbios_model.specs.MappedAddress.{mapped_fields, mapped_in, mapped_of, in_kib, in_bytes};
 
 use crate::memory_array::ARRAY_HANDLE;
-use crate::units::{BYTES_IN_MIB, KIB_IN_MIB};
 use machine_desc::MemRange;
+use vt_bytes::{BYTES_IN_MIB, KIB_IN_MIB};
 use vt_layout::{Laid, RowList, Values};
 
 // What the first fields hold where the extended fields tell the range.

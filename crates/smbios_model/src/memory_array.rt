@@ -1,8 +1,8 @@
 ghost use Rattle.std.specs.Prelude.{◌≡◌, ◌^◌, ◌≤◌, length, refl};
 ghost use Rattle.smbios_model.specs.MemoryArray.{array_fields, array_in, array_of, capacity_of, total_mib};
 
-use crate::units::{BYTES_IN_MIB, KIB_IN_MIB};
 use machine_desc::Dimm;
+use vt_bytes::{BYTES_IN_MIB, KIB_IN_MIB};
 use vt_layout::{Laid, RowList, Values};
 
 /// The handle of a machine's array, by which its devices and its mapped addresses name it.

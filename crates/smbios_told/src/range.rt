@@ -5,14 +5,13 @@ ghost use Rattle.smbios_model.specs.ToldParts.{range_told};
 
 use crate::told::Told;
 use machine_desc::MemRange;
-use smbios_model::{BYTES_IN_MIB, Body, MappedInfo};
+use smbios_model::{Body, MappedInfo};
 use std::alloc::Global;
+use vt_bytes::{BYTES_IN_MIB, KIB_IN_MIB};
 use vt_outside::OutOfMemory;
 
 // What the first field of a range holds where the extended fields tell it (DSP0134 7.20).
 const EXTENDED_ADDRESS: u32 = 0xFFFF_FFFF;
-
-const KIB_IN_MIB: u64 = 1024;
 
 impl Told for MemRange {
     ghost told = { range_told };

@@ -11,11 +11,12 @@ use acpi_told::{
 };
 use dsdt_devices::{DsdtDevices, devices_in};
 use machine_desc::{Bridge, Machine, MemRange, Power};
-use smbios_model::{BYTES_IN_MIB, SmbiosTable, Structure};
+use smbios_model::{SmbiosTable, Structure};
 use smbios_told::{SmbiosParts, parts_in as smbios_parts_in};
 use std::alloc::Global;
 use table_model::Inventory;
 use uuid::Uuid;
+use vt_bytes::BYTES_IN_MIB;
 use vt_outside::{List, OutOfMemory};
 
 /// Returns the machine that `inventory` may be of: each key is read from the place where it is written, of two places the first. A part

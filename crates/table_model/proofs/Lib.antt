@@ -1,2 +1,1 @@
 pub mod OneInventory
-pub mod SameMachine

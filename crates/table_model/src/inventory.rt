@@ -5,8 +5,9 @@ ghost use Rattle.table_model.specs.Inventory.{inventory_of};
 
 use acpi_model::{AcpiTables, acpi_of};
 use machine_desc::{Machine, uuid_bytes};
-use smbios_model::{BYTES_IN_MIB, SmbiosTable, smbios_of};
+use smbios_model::{SmbiosTable, smbios_of};
 use std::alloc::Global;
+use vt_bytes::BYTES_IN_MIB;
 use vt_outside::OutOfMemory;
 
 /// What a memory shows of a machine.

@@ -1,8 +1,8 @@
 //! The inventory of a machine: what its tables say together, and what a view of memory shows of them.
 //!
 //! The records of SMBIOS structures are those of `smbios_model`, and those of ACPI tables are those of `acpi_model`; both are passed
-//! on. The contract is that `inventory_of` gives the inventory of a machine exactly, and the laws are that a view shows at most one
-//! inventory, and that no two accepted machines, whose UUIDs and last buses fit their types, have the same one.
+//! on. The contract is that `inventory_of` gives the inventory of a machine exactly, and the law is that a view shows at most one
+//! inventory.
 #![tactic(auto)]
 
 mod inventory;

@@ -1,7 +1,6 @@
 //! The terms of machines with as many windows and routes, and as many processors, as there may be. Their sizes were worked out by hand.
 
-use crate::drawn::agree;
-use crate::machines::{machine_of, written};
+use crate::machines::written;
 use std::alloc::Global;
 use std::process::Abort;
 use std::test::Fail;
@@ -18,19 +17,9 @@ power = { event = 1, control = 1, timer = 1 }
 #[test]
 fn the_greatest_bridge(rt: HostRuntime) -> Result<(), Fail> {
     let description = greatest_bridge(rt.alloc())?;
-    let bytes = written_plainly(&rt, rt.alloc(), description.as_slice())?;
+    let bytes = written(rt.alloc(), description.as_slice())?;
     is_greatest_bridge(&rt, bytes.as_slice());
     Ok(())
-}
-
-// The bytes of the terms of a machine, which are also made plainly.
-fn written_plainly(rt: &impl Abort, alloc: Global, description: &[u8]) -> Result<Bytes, Fail> {
-    let machine = machine_of(alloc, description)?;
-    let agreed = agree(rt, alloc, &machine);
-    // where it ends in place, each of its many parts is a step of this proof
-    drop(machine);
-    agreed?;
-    written(alloc, description)
 }
 
 // The bridge's items are 16 bytes of buses, 32 windows of 46 and the end tag, and its 128 routes have 10 to 13 bytes.
@@ -92,7 +81,7 @@ fn put_route(alloc: Global, text: &mut Bytes, device: u32, pin: u32) -> Result<(
 #[test]
 fn the_most_processors(rt: HostRuntime) -> Result<(), Fail> {
     let description = most_processors(rt.alloc())?;
-    let bytes = written_plainly(&rt, rt.alloc(), description.as_slice())?;
+    let bytes = written(rt.alloc(), description.as_slice())?;
     are_most_processors(&rt, bytes.as_slice());
     Ok(())
 }

@@ -52,8 +52,8 @@ fn sixteen_levels_have_102_bytes(rt: HostRuntime) -> Result<(), Fail> {
     Ok(())
 }
 
-/// So many scopes `ABCD`, each in the one before it, with the shortest lengths.
-pub fn nested(alloc: Global, levels: usize, inmost: &[u8]) -> Result<Bytes, OutOfMemory> {
+// So many scopes `ABCD`, each in the one before it, with the shortest lengths.
+fn nested(alloc: Global, levels: usize, inmost: &[u8]) -> Result<Bytes, OutOfMemory> {
     let mut bytes = Bytes::new(alloc);
     bytes.extend(inmost)?;
     for _ in 0..levels {
@@ -71,8 +71,8 @@ fn scope_of(alloc: Global, inner: &[u8]) -> Result<Bytes, OutOfMemory> {
     Ok(bytes)
 }
 
-/// Appends the shortest package length of so many bytes, which no test has more of than a length encloses.
-pub fn push_length(bytes: &mut Bytes, body: usize) -> Result<(), OutOfMemory> {
+// Appends the shortest package length of so many bytes, which no test has more of than a length encloses.
+fn push_length(bytes: &mut Bytes, body: usize) -> Result<(), OutOfMemory> {
     if body > 268_435_451 {
         return Err(OutOfMemory);
     }

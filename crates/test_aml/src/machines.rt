@@ -245,16 +245,15 @@ pub fn written(alloc: Global, description: &[u8]) -> Result<Bytes, Fail> {
     written
 }
 
-/// Returns the machine that a text describes.
-pub fn machine_of(alloc: Global, description: &[u8]) -> Result<Machine, Fail>
+fn machine_of(alloc: Global, description: &[u8]) -> Result<Machine, Fail>
     ensures { IfOk result IsAccepted }
 {
     read_machine_is_accepted();
     Ok(read_machine(alloc, description)?)
 }
 
-/// Returns the terms of a machine as bytes.
-pub fn written_of(alloc: Global, machine: &Machine) -> Result<Bytes, Fail>
+// The terms of a machine as bytes.
+fn written_of(alloc: Global, machine: &Machine) -> Result<Bytes, Fail>
     requires { IsAccepted machine.now }
 {
     let terms = terms_of(alloc, machine)?;

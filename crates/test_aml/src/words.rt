@@ -33,9 +33,9 @@ fn push_term(told: &mut Bytes, term: &Term) -> Result<(), OutOfMemory> {
 
 #[cycle(words)]
 fn push_package(told: &mut Bytes, values: &[Term]) -> Result<(), OutOfMemory> {
-    told.extend(PACKAGE)?;
+    told.extend(b"package [ ")?;
     push_terms(told, values)?;
-    told.extend(END)
+    told.extend(b"] ")
 }
 
 #[cycle(words)]
@@ -54,37 +54,24 @@ fn push_inside(
 ) -> Result<(), OutOfMemory> {
     told.extend(kind)?;
     push_path(told, path)?;
-    told.extend(INSIDE)?;
+    told.extend(b"[ ")?;
     push_terms(told, terms)?;
-    told.extend(END)
+    told.extend(b"] ")
 }
 
-/// What is told of a package before its values.
-pub static PACKAGE: &[u8] = b"package [ ";
-
-/// What is told of a scope or a device before its terms.
-pub static INSIDE: &[u8] = b"[ ";
-
-/// What is told behind values, and behind terms.
-pub static END: &[u8] = b"] ";
-
-/// Appends an integer.
-pub fn push_integer(told: &mut Bytes, number: u64) -> Result<(), OutOfMemory> {
+fn push_integer(told: &mut Bytes, number: u64) -> Result<(), OutOfMemory> {
     push_bytes(told, b"int ", &number.to_be_bytes())
 }
 
-/// Appends the integer of ones.
-pub fn push_ones(told: &mut Bytes) -> Result<(), OutOfMemory> {
+fn push_ones(told: &mut Bytes) -> Result<(), OutOfMemory> {
     told.extend(b"ones ")
 }
 
-/// Appends a text.
-pub fn push_chars(told: &mut Bytes, text: &[u8]) -> Result<(), OutOfMemory> {
+fn push_chars(told: &mut Bytes, text: &[u8]) -> Result<(), OutOfMemory> {
     push_bytes(told, b"text ", text)
 }
 
-/// Appends a buffer.
-pub fn push_buffer(told: &mut Bytes, bytes: &[u8]) -> Result<(), OutOfMemory> {
+fn push_buffer(told: &mut Bytes, bytes: &[u8]) -> Result<(), OutOfMemory> {
     push_bytes(told, b"buffer ", bytes)
 }
 
@@ -96,8 +83,7 @@ fn push_path(told: &mut Bytes, path: &Path) -> Result<(), OutOfMemory> {
     told.push(b' ')
 }
 
-/// Appends where a path begins.
-pub fn push_beginning(told: &mut Bytes, root: bool, parents: u8) -> Result<(), OutOfMemory> {
+fn push_beginning(told: &mut Bytes, root: bool, parents: u8) -> Result<(), OutOfMemory> {
     if root {
         told.push(b'\\')?;
     }
@@ -107,8 +93,7 @@ pub fn push_beginning(told: &mut Bytes, root: bool, parents: u8) -> Result<(), O
     Ok(())
 }
 
-/// Appends a segment of a path.
-pub fn push_segment(told: &mut Bytes, segment: &[u8]) -> Result<(), OutOfMemory> {
+fn push_segment(told: &mut Bytes, segment: &[u8]) -> Result<(), OutOfMemory> {
     told.push(b'.')?;
     told.extend(segment)
 }

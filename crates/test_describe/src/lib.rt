@@ -1,12 +1,12 @@
-//! Tests of the machine of an inventory: machines are got back from their inventories, and inventories that are one change away from a
-//! machine's tell the item that fails, each as it was worked out by hand from DSP0134, ACPI 6.5 and the PCI Firmware Specification 3.3.
+//! Tests of dumps that are read and of machines that are got back, as far as no command shows it: each public call, the greatest dump, and
+//! inventories made by hand. What a command shows is told by cases, in the files `dump_..` and `decode_..` of `run_cases`.
 #![tactic(auto)]
 
 #[cfg(test)]
-mod changes;
+mod dumps_again;
 #[cfg(test)]
-mod descriptions;
+mod got_back;
 #[cfg(test)]
-mod machines;
+mod greatest_dump;
 #[cfg(test)]
-mod made;
+mod made_inventories;

@@ -1,7 +1,7 @@
 //! The description with every key, changed at one of them.
 
+use crate::every_key::EVERY_KEY;
 use crate::keys::Key;
-use crate::machines::EVERY_KEY;
 use std::alloc::Global;
 use std::test::Fail;
 

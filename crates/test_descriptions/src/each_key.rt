@@ -3,7 +3,7 @@
 use crate::changed::changed;
 use crate::fields::fields;
 use crate::keys::{ELEMENTS, KEYS, Key, TABLES, VALUES, Values, is_among};
-use crate::told::{is_text, told};
+use crate::told::{MACHINE, is_text, told};
 use std::alloc::Global;
 use std::process::Abort;
 use std::test::Fail;
@@ -172,7 +172,7 @@ fn is_machine_with(
 fn is_machine(rt: &impl Abort, told: &str, rule: &str, of: &str) {
     if !rule.is_empty() {
         is_text(rt, told, rule, of);
-    } else if !told.starts_with("top ") {
+    } else if !told.starts_with(MACHINE) {
         is_text(rt, told, "a machine", of);
     }
 }

@@ -1,12 +1,22 @@
 //! The fields of faults: a table's number, its place in its array, and the number of a key or the bytes of an unknown one; and lines of
 //! fields that no description gives.
 
-use crate::told::{BETWEEN_ROWS, FRONT, TOP, is_text, joined, text_and_words};
+use crate::told::is_text;
 use desc_toml::{DescFault, read_machine};
 use machine_desc::Machine;
 use std::alloc::Global;
 use std::process::Abort;
 use std::test::Fail;
+
+// The top of a description that has another table `system`.
+const TOP: &str = "version = 1\ntop_mib = 64\n";
+
+// The front of a description: what each one has, in one line for each key, so that others may follow.
+const FRONT: &str = "version = 1\ntop_mib = 64\nsystem = {}\n";
+
+// What stands between the rows of a table. A row is the rest of this line, which may say what the row is about, the lines of a description,
+// and behind an arrow the fields of its fault. A table is one text, since a literal costs a proof next to nothing, and an array of them much.
+const BETWEEN_ROWS: &str = "\n---";
 
 // What stands behind the front, and the fields of its fault: a row for each table, with the last of its keys.
 const FIELDS: &str = r"---
@@ -102,6 +112,12 @@ fn has_row_fields(rt: &impl Abort, alloc: Global, row: &str) -> Result<(), Fail>
     }
 }
 
+// The text of a row, and the words behind its arrow.
+fn text_and_words(row: &str) -> Option<(&str, &str)> {
+    let (_, lines) = row.split_once("\n")?;
+    lines.split_once("\n=> ")
+}
+
 fn are_fields(
     rt: &impl Abort,
     alloc: Global,
@@ -113,6 +129,13 @@ fn are_fields(
     let fields = fields(alloc, whole.as_bytes())?;
     is_text(rt, fields.as_str(), wanted, text);
     Ok(())
+}
+
+fn joined(alloc: Global, front: &str, text: &str) -> Result<String, Fail> {
+    let mut whole = String::new(alloc);
+    whole.push_str(front)?;
+    whole.push_str(text)?;
+    Ok(whole)
 }
 
 /// The fields of the fault of bytes. A machine has twenty parts to drop: it is proved once, in the call.

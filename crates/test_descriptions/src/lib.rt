@@ -1,37 +1,29 @@
-//! Tests of the reader of descriptions: the machines that are read, what each key is read as, and each fault.
+//! Tests of the reader of descriptions: what each key is read as, with each of its faults, and the fields of faults; and of schemas and the
+//! walk of a document by one: each kind of value, each fault at each kind of place, and the names of keys. What a command shows of
+//! descriptions is told by cases, in the files `description_..` of `run_cases`.
 #![tactic(auto)]
 
 #[cfg(test)]
-mod apic_rules;
-#[cfg(test)]
-mod bytes;
-#[cfg(test)]
 mod changed;
-#[cfg(test)]
-mod device_rules;
-#[cfg(test)]
-mod device_words;
 #[cfg(test)]
 mod each_key;
 #[cfg(test)]
-mod faults;
+mod every_key;
 #[cfg(test)]
 mod fields;
 #[cfg(test)]
-mod interrupt_words;
+mod key_names;
 #[cfg(test)]
 mod keys;
 #[cfg(test)]
-mod list_lengths;
+mod schema;
 #[cfg(test)]
-mod machines;
-#[cfg(test)]
-mod nesting;
-#[cfg(test)]
-mod part_words;
-#[cfg(test)]
-mod rules;
+mod taken_values;
 #[cfg(test)]
 mod told;
 #[cfg(test)]
-mod words;
+mod walk_faults;
+#[cfg(test)]
+mod walked;
+#[cfg(test)]
+mod walked_values;

@@ -1,4 +1,9 @@
+pub mod Back
 pub mod Pieces
 pub mod RsdpBytes
 pub mod Unseen
 pub use Rattle.vt_bytes.specs.View
+pub use Rattle.smbios_model.specs.SystemInformation
+pub use Rattle.smbios_model.specs.SlotInformation
+pub use Rattle.smbios_model.specs.MemoryDevice
+pub use Rattle.smbios_model.specs.MappedAddress

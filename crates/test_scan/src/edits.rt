@@ -3,8 +3,8 @@
 use vt_bytes::byte_sum;
 use vt_outside::{Bytes, OutOfMemory};
 
-/// Returns the byte at a place, or 0 where there is none.
-pub fn byte_at(bytes: &Bytes, place: usize) -> u8 {
+// The byte at a place, or 0 where there is none.
+fn byte_at(bytes: &Bytes, place: usize) -> u8 {
     bytes.as_slice().get(place).copied().unwrap_or(0)
 }
 
@@ -27,8 +27,8 @@ pub fn push_zeros(bytes: &mut Bytes, count: usize) -> Result<(), OutOfMemory> {
     Ok(())
 }
 
-/// Returns the length that the table at a place tells.
-pub fn length_at(bytes: &Bytes, table: usize) -> u32 {
+// The length that the table at a place tells.
+fn length_at(bytes: &Bytes, table: usize) -> u32 {
     let place = table.saturating_add(4);
     u32::from_le_bytes([
         byte_at(bytes, place),

@@ -1,12 +1,11 @@
-//! Tables at the ends of pieces of RAM, the last of which ends with the last address: each is read where it fits, and lies outside RAM where
-//! a byte of it doesn't.
+//! Tables at both ends of a piece of RAM that ends with the last address: each is read where it fits, and lies outside RAM where a byte of it
+//! doesn't. No dump spells such a memory.
 
-use crate::agree::agree;
 use crate::edits::{mend, push_zeros, put_at};
 use crate::every::{TABLES, Table};
 use crate::pieces::{Piece, Pieces, place_of};
 use crate::rsdp::rsdp_of;
-use crate::told::are_words;
+use crate::told::{are_words, told};
 use crate::words::told_fault;
 use acpi_decode::AcpiFault;
 use std::alloc::Global;
@@ -25,22 +24,20 @@ const FADT: u64 = 0x1040;
 
 const FADT_PLACE: usize = 100;
 
-// A piece for these two, two for a table at an end, and one for the RSDP, which has no other bytes.
-static PIECES: [Piece; 4] = [
+// The first address of the piece at the end of all addresses.
+const FIRST: u64 = u64::MAX - 319;
+
+// A piece for these two, one for a table at an end, and one for the RSDP, which has no other bytes.
+static PIECES: [Piece; 3] = [
     Piece {
         start: XSDT,
         size: 512,
         place: 36,
     },
     Piece {
-        start: 0x1300,
+        start: FIRST,
         size: 320,
         place: 548,
-    },
-    Piece {
-        start: u64::MAX - 319,
-        size: 320,
-        place: 868,
     },
     Piece {
         start: RSDP,
@@ -49,7 +46,7 @@ static PIECES: [Piece; 4] = [
     },
 ];
 
-const SIZE: usize = 1188;
+const SIZE: usize = 868;
 
 // How a table is led to: by the RSDP, by the XSDT, or by the pointer of 64 bits at an offset of the FADT.
 #[derive(Clone, Copy, Debug)]
@@ -60,52 +57,31 @@ enum Way {
 }
 
 #[test]
-fn ends_of_ram(rt: HostRuntime) -> Result<(), Fail> {
-    for piece in &PIECES[1..3] {
-        are_ended_in(&rt, rt.alloc(), piece)?;
-    }
-    Ok(())
-}
-
-fn are_ended_in(rt: &impl Abort, alloc: Global, piece: &Piece) -> Result<(), Fail> {
-    are_ended(rt, alloc, piece, &TABLES[0], Way::Rsdp)?;
-    are_ended(rt, alloc, piece, &TABLES[1], Way::Fadt(132))?;
-    are_ended(rt, alloc, piece, &TABLES[2], Way::Fadt(140))?;
+fn ends_of_addresses(rt: HostRuntime) -> Result<(), Fail> {
+    are_ended(&rt, rt.alloc(), &TABLES[0], Way::Rsdp)?;
+    are_ended(&rt, rt.alloc(), &TABLES[1], Way::Fadt(132))?;
+    are_ended(&rt, rt.alloc(), &TABLES[2], Way::Fadt(140))?;
     for table in &TABLES[3..] {
-        are_ended(rt, alloc, piece, table, Way::Xsdt)?;
+        are_ended(&rt, rt.alloc(), table, Way::Xsdt)?;
     }
     Ok(())
 }
 
-// A table at both ends of a piece, and one byte past them; and where only its header is RAM, or not even that.
-fn are_ended(
-    rt: &impl Abort,
-    alloc: Global,
-    piece: &Piece,
-    table: &Table,
-    way: Way,
-) -> Result<(), Fail> {
-    let last = piece
-        .start
-        .saturating_add(u64::from(piece.size).saturating_sub(1));
-    let fits = last.saturating_sub(table.size as u64).saturating_add(1);
-    is_read_at(rt, alloc, piece.start, table, way)?;
-    is_outside_at(rt, alloc, piece.start.saturating_sub(1), table, way)?;
+// A table at both ends of the piece, and one byte past them; and where only its header is RAM, or not even that.
+fn are_ended(rt: &impl Abort, alloc: Global, table: &Table, way: Way) -> Result<(), Fail> {
+    let fits = u64::MAX.saturating_sub(table.size as u64).saturating_add(1);
+    is_read_at(rt, alloc, FIRST, table, way)?;
+    is_outside_at(rt, alloc, FIRST - 1, table, way)?;
     is_read_at(rt, alloc, fits, table, way)?;
     is_outside_at(rt, alloc, fits.saturating_add(1), table, way)?;
     for count in [36, 35, 8, 4, 1] {
-        is_outside_at(
-            rt,
-            alloc,
-            last.saturating_sub(count).saturating_add(1),
-            table,
-            way,
-        )?;
+        let address = u64::MAX.saturating_sub(count).saturating_add(1);
+        is_outside_at(rt, alloc, address, table, way)?;
     }
     Ok(())
 }
 
-// Both readers read a table at an address.
+// A table is read at an address.
 fn is_read_at(
     rt: &impl Abort,
     alloc: Global,
@@ -113,7 +89,7 @@ fn is_read_at(
     table: &Table,
     way: Way,
 ) -> Result<(), Fail> {
-    let told = told_at(rt, alloc, address, table, way)?;
+    let told = told_at(alloc, address, table, way)?;
     assert!(rt;
         told.as_slice().starts_with(b"\nrsdp"),
         "{way:?} {address}: {told:?}"
@@ -121,7 +97,7 @@ fn is_read_at(
     Ok(())
 }
 
-// Both readers tell that it lies outside RAM.
+// A table lies outside RAM.
 fn is_outside_at(
     rt: &impl Abort,
     alloc: Global,
@@ -129,31 +105,25 @@ fn is_outside_at(
     table: &Table,
     way: Way,
 ) -> Result<(), Fail> {
-    let told = told_at(rt, alloc, address, table, way)?;
+    let told = told_at(alloc, address, table, way)?;
     is_outside(rt, alloc, told.as_slice(), address)
 }
 
 fn is_outside(rt: &impl Abort, alloc: Global, told: &[u8], address: u64) -> Result<(), Fail> {
     let wanted = told_fault(alloc, AcpiFault::OutsideRam(address))?;
-    are_words(rt, told, wanted.as_slice(), &address);
+    are_words(rt, told, wanted.as_slice());
     Ok(())
 }
 
-// What both tell of the memory with a table at an address.
-fn told_at(
-    rt: &impl Abort,
-    alloc: Global,
-    address: u64,
-    table: &Table,
-    way: Way,
-) -> Result<Bytes, Fail> {
+// What is told of the memory with a table at an address.
+fn told_at(alloc: Global, address: u64, table: &Table, way: Way) -> Result<Bytes, Fail> {
     let mut bytes = Bytes::new(alloc);
     put_memory(alloc, &mut bytes, address, table, way)?;
     let view = Pieces {
         pieces: &PIECES,
         bytes: bytes.as_slice(),
     };
-    agree(rt, alloc, &view, RSDP, &way)
+    told(alloc, &view, RSDP)
 }
 
 fn put_memory(

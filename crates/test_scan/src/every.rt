@@ -4,30 +4,22 @@
 use crate::edits::mend;
 use crate::pieces::{Piece, Pieces};
 use crate::rsdp::rsdp_of;
+use crate::told::is_told;
 use std::alloc::Global;
 use std::test::Fail;
 use vt_outside::Bytes;
 
-/// Where its RSDP stands.
-pub const RSDP: u64 = 0xE_0000;
+// Where its RSDP stands.
+const RSDP: u64 = 0xE_0000;
 
-/// Where its XSDT stands, in front of the other tables.
-pub const XSDT: u64 = 0x3024;
+// Where its XSDT stands, in front of the other tables.
+const XSDT: u64 = 0x3024;
 
-/// Where its tables begin among its bytes, behind the RSDP.
-pub const TABLES_PLACE: usize = 36;
+// Where its tables begin among its bytes, behind the RSDP.
+const TABLES_PLACE: usize = 36;
 
-/// Where its MADT stands.
-pub const MADT_PLACE: usize = 616;
-
-/// Where its DSDT stands.
-pub const DSDT_PLACE: usize = 200;
-
-/// How many bytes its DSDT has.
-pub const DSDT_SIZE: u32 = 140;
-
-/// Its pieces: the tables, and the RSDP.
-pub static PIECES: [Piece; 2] = [
+// Its pieces: the tables, and the RSDP.
+static PIECES: [Piece; 2] = [
     Piece {
         start: XSDT,
         size: 1109,
@@ -132,8 +124,8 @@ pub static TABLES: [Table; 10] = [
     },
 ];
 
-/// What is told of it.
-pub const TOLD: &str = "
+// What is told of it.
+const TOLD: &str = "
 rsdp 414243444546
 xsdt 02 414243444546 4748494a4b4c5853 04030202 4f505152 08070602
 fadt 04 414243444546 4748494a4b4c4641 04030204 4f505152 08070604 62 700f d0efc2b9 bceb8e15 6c b483466da8e75a71 9c4b6e75102f02f9
@@ -171,8 +163,18 @@ allocation 07ab3362e0951fd8 295e 81
 hpet 08 414243444546 4748494a4b4c4850 04030208 4f505152 08070608 76dd58d7 73 64 19 a2 ba513c6b0e95b04f c7 4d08
 other 53534454 29";
 
-/// Returns its bytes.
-pub fn every_table(alloc: Global) -> Result<Bytes, Fail> {
+#[test]
+fn every_number_is_read(rt: HostRuntime) -> Result<(), Fail> {
+    let bytes = every_table(rt.alloc())?;
+    let view = Pieces {
+        pieces: &PIECES,
+        bytes: bytes.as_slice(),
+    };
+    is_told(&rt, rt.alloc(), &view, RSDP, TOLD)
+}
+
+// The bytes of the memory.
+fn every_table(alloc: Global) -> Result<Bytes, Fail> {
     let mut bytes = Bytes::new(alloc);
     bytes.extend(&rsdp_of(XSDT))?;
     push_tables(alloc, &mut bytes)?;
@@ -186,14 +188,6 @@ fn push_tables(alloc: Global, bytes: &mut Bytes) -> Result<(), Fail> {
         bytes.extend(decoded.as_slice())?;
     }
     Ok(())
-}
-
-/// Lends them as a memory.
-pub fn view_of(bytes: &Bytes) -> Pieces<'_> {
-    Pieces {
-        pieces: &PIECES,
-        bytes: bytes.as_slice(),
-    }
 }
 
 // Sets the sums of all tables that have one.

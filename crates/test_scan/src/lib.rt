@@ -1,18 +1,12 @@
-//! Tests of what a guest's memory shows from its RSDP on: ACPI tables, and the first fault of those that aren't well formed; and of what it
-//! shows from both of its anchors. Bytes are worked rows, or were made by other programs, and hostile ones are also read by a second reader,
-//! a slow one that goes through the tests of tables byte by byte.
+//! Tests of what a guest's memory shows that no list of it tells: each number of the tables and structures that are read, the id of a machine's
+//! generation, memories that no dump spells, and definitions that are held against bytes. Which tables and structures a memory shows, and the
+//! first fault of those that aren't well formed, are cases of `decode --list`.
 #![tactic(auto)]
 
 #[cfg(test)]
-mod agree;
+mod anchors;
 #[cfg(test)]
-mod blocks;
-#[cfg(test)]
-mod changes;
-#[cfg(test)]
-mod definitions;
-#[cfg(test)]
-mod dsdts;
+mod back;
 #[cfg(test)]
 mod edits;
 #[cfg(test)]
@@ -20,38 +14,20 @@ mod ends;
 #[cfg(test)]
 mod every;
 #[cfg(test)]
-mod foreign;
-#[cfg(test)]
 mod generations;
 #[cfg(test)]
-mod iasl;
-#[cfg(test)]
-mod inputs;
-#[cfg(test)]
-mod lengths;
-#[cfg(test)]
 mod long;
-#[cfg(test)]
-mod mcfgs;
-#[cfg(test)]
-mod memories;
 pub mod pieces;
 #[cfg(test)]
-mod plain;
-#[cfg(test)]
-mod qemu;
-#[cfg(test)]
-mod random;
-#[cfg(test)]
-mod rows;
+mod records;
 #[cfg(test)]
 mod rsdp;
 #[cfg(test)]
-mod rsdps;
-#[cfg(test)]
 mod scans;
 #[cfg(test)]
-mod shown;
+mod strings;
+#[cfg(test)]
+mod structures;
 #[cfg(test)]
 mod terms;
 #[cfg(test)]

@@ -10,8 +10,8 @@ use vt_bytes::{byte_sum, get_le};
 // What it begins with.
 const SIGNATURE: &[u8] = b"RSD PTR ";
 
-/// How many bytes it has (ACPI 6.5, 5.2.5.3).
-pub const RSDP_SIZE: usize = 36;
+// How many bytes it has (ACPI 6.5, 5.2.5.3).
+const RSDP_SIZE: usize = 36;
 
 // How many of them sum to zero by themselves.
 const FIRST_SIZE: usize = 20;
@@ -31,8 +31,8 @@ pub fn rsdp_of(xsdt: u64) -> [u8; RSDP_SIZE] {
     bytes
 }
 
-/// Sets both sums of an RSDP.
-pub fn mend_rsdp(bytes: &mut [u8; RSDP_SIZE]) {
+// Sets both sums of an RSDP.
+fn mend_rsdp(bytes: &mut [u8; RSDP_SIZE]) {
     bytes[FIRST_SUM] = 0;
     bytes[SUM] = 0;
     bytes[FIRST_SUM] = byte_sum(&bytes[..FIRST_SIZE]).wrapping_neg();

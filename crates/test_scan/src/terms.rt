@@ -2,51 +2,8 @@
 //! stand in the lines of their names.
 
 use crate::words::{push_name, push_number, push_text};
-use aml_decode::decode_terms;
-use aml_generation::take_generation;
-use aml_terms::{AmlFault, Path, Term};
-use std::alloc::Global;
-use vt_outside::{Bytes, List, OutOfMemory};
-
-/// Appends the terms that the definition block of a table of so many bytes spells, without the address of a generation's id, or this number
-/// where it spells none.
-pub fn push_block(told: &mut Bytes, block: &[u8], length: u64) -> Result<(), OutOfMemory> {
-    match terms_in(told.allocator(), block) {
-        Ok(terms) => push_and_drop(told, terms),
-        Err(AmlFault::OutOfMemory) => Err(OutOfMemory),
-        Err(_) => push_number(told, length),
-    }
-}
-
-/// The address of a generation's id to which the terms lead that a definition block spells.
-pub fn id_address(alloc: Global, block: &[u8]) -> Result<Option<u64>, OutOfMemory> {
-    match terms_in(alloc, block) {
-        Ok(terms) => Ok(take_and_drop(terms)),
-        Err(AmlFault::OutOfMemory) => Err(OutOfMemory),
-        Err(_) => Ok(None),
-    }
-}
-
-fn take_and_drop(mut terms: List<Term>) -> Option<u64> {
-    let address = take_generation(&mut terms);
-    drop(terms);
-    address
-}
-
-// The terms that bytes spell, of which no test has as many as the reader doesn't take.
-fn terms_in(alloc: Global, bytes: &[u8]) -> Result<List<Term>, AmlFault> {
-    if bytes.len() >= 1 << 32 {
-        return Err(AmlFault::OutOfMemory);
-    }
-    decode_terms(alloc, bytes)
-}
-
-fn push_and_drop(told: &mut Bytes, mut terms: List<Term>) -> Result<(), OutOfMemory> {
-    take_generation(&mut terms);
-    let pushed = push_block_terms(told, terms.as_slice());
-    drop(terms);
-    pushed
-}
+use aml_terms::{Path, Term};
+use vt_outside::{Bytes, OutOfMemory};
 
 /// Appends that a definition block spells these terms.
 pub fn push_block_terms(told: &mut Bytes, terms: &[Term]) -> Result<(), OutOfMemory> {

@@ -11,18 +11,30 @@ use acpi_model::{
     McfgAllocation, OtherTable, Slit, Srat, SratEntry,
 };
 use std::alloc::Global;
-use std::fmt::Debug;
 use std::process::Abort;
 use std::test::Fail;
 use vt_outside::{Bytes, OutOfMemory};
 
-/// Asserts that words are those that are wanted. A failure tells what `case` is.
-pub fn are_words<C: Debug>(rt: &impl Abort, told: &[u8], wanted: &[u8], case: &C) {
+/// Asserts that words are those that are wanted.
+pub fn are_words(rt: &impl Abort, told: &[u8], wanted: &[u8]) {
     if told != wanted {
         let told = str::from_utf8(told).unwrap_or("not UTF-8");
         let wanted = str::from_utf8(wanted).unwrap_or("not UTF-8");
-        panic!(rt; "{told} in place of {wanted}, at {case:?}");
+        panic!(rt; "{told} in place of {wanted}");
     }
+}
+
+/// Asserts what the memory `view` is walked as from the RSDP at `rsdp`, in words.
+pub fn is_told<V: MemView>(
+    rt: &impl Abort,
+    alloc: Global,
+    view: &V,
+    rsdp: u64,
+    wanted: &str,
+) -> Result<(), Fail> {
+    let told = told(alloc, view, rsdp)?;
+    are_words(rt, told.as_slice(), wanted.as_bytes());
+    Ok(())
 }
 
 /// Tells what the memory `view` is walked as from the RSDP at `rsdp`, where a valid one must stand: a line for each table and each entry,

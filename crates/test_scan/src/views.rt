@@ -1,4 +1,4 @@
-//! What a view tells of many bytes at once, against what it tells byte by byte.
+//! What a view of pieces tells of many bytes at once, by the methods that read it byte by byte.
 
 use crate::pieces::{Piece, Pieces};
 use acpi_decode::MemView;
@@ -24,24 +24,6 @@ static PIECES: [Piece; 3] = [
 ];
 
 const BYTES: &[u8] = b"\x01\x02\x04\x08\x10\xff\xfe\xfc\x21\x43\x65\x87";
-
-// Addresses, and the byte at each.
-static SEEN: [(u64, Option<u8>); 14] = [
-    (0, None),
-    (15, None),
-    (16, Some(0x01)),
-    (17, Some(0x02)),
-    (20, Some(0x10)),
-    (21, None),
-    (23, None),
-    (24, Some(0xFF)),
-    (26, Some(0xFC)),
-    (27, None),
-    (u64::MAX - 4, None),
-    (u64::MAX - 3, Some(0x21)),
-    (u64::MAX - 1, Some(0x65)),
-    (u64::MAX, Some(0x87)),
-];
 
 // Runs by their address and their number of bytes, whether each byte is RAM, and their sum where it is.
 static RUNS: [(u64, u32, Option<u8>); 14] = [
@@ -69,13 +51,6 @@ fn view() -> Pieces<'static> {
 }
 
 #[test]
-fn bytes_of_pieces(rt: HostRuntime) {
-    for (address, byte) in &SEEN {
-        assert_eq!(rt; view().byte(*address), *byte, "{address}");
-    }
-}
-
-#[test]
 fn runs_of_pieces(rt: HostRuntime) {
     for (address, count, sum) in &RUNS {
         assert_eq!(rt;
@@ -96,58 +71,17 @@ fn sum_of<V: MemView>(view: &V, address: u64, count: u32) -> Option<u8> {
 }
 
 #[test]
-fn runs_are_what_their_bytes_are(rt: HostRuntime) {
-    for address in 10..34 {
-        are_what_their_bytes_are(&rt, &view(), address);
-    }
-    for address in u64::MAX - 8..=u64::MAX {
-        are_what_their_bytes_are(&rt, &view(), address);
-    }
+fn copies_of_pieces(rt: HostRuntime) {
+    are_copied(&rt, &view(), 16, 5, b"\x01\x02\x04\x08\x10");
+    are_copied(&rt, &view(), u64::MAX - 3, 4, b"\x21\x43\x65\x87");
 }
 
-// The runs of up to 8 bytes from an address on.
-fn are_what_their_bytes_are<V: MemView>(rt: &impl Abort, view: &V, address: u64) {
-    for count in 0..9 {
-        assert_eq!(rt;
-            sum_of(view, address, count),
-            sum_of_bytes(view, address, count),
-            "{count} from {address}"
-        );
-        are_copied(rt, view, address, count);
-    }
-}
-
-// The sum of a run, byte by byte, where it is RAM.
-fn sum_of_bytes<V: MemView>(view: &V, address: u64, count: u32) -> Option<u8> {
-    let mut sum = 0_u8;
-    for offset in 0..count {
-        sum = sum.wrapping_add(byte_of(view, address, offset)?);
-    }
-    Some(sum)
-}
-
-fn byte_of<V: MemView>(view: &V, address: u64, offset: u32) -> Option<u8> {
-    view.byte(address.checked_add(u64::from(offset))?)
-}
-
-// What is copied of a run is each byte, where it is RAM.
-fn are_copied<V: MemView>(rt: &impl Abort, view: &V, address: u64, count: u32) {
+// What is copied of a run of up to 8 bytes, where it is RAM.
+fn are_copied<V: MemView>(rt: &impl Abort, view: &V, address: u64, count: u32, wanted: &[u8]) {
     let mut room = [0xAA; 8];
     let count = count.min(8);
     if view.is_ram_range(address, count) {
         view.copy_out(address, &mut room[..count as usize]);
-        are_bytes(rt, view, address, &room[..count as usize]);
     }
-}
-
-fn are_bytes<V: MemView>(rt: &impl Abort, view: &V, address: u64, bytes: &[u8]) {
-    let mut offset = 0_u32;
-    for byte in bytes {
-        assert_eq!(rt;
-            byte_of(view, address, offset),
-            Some(*byte),
-            "{offset} from {address}"
-        );
-        offset = offset.saturating_add(1);
-    }
+    assert_eq!(rt; room[..count as usize], *wanted, "{address}");
 }

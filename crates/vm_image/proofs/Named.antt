@@ -6,13 +6,13 @@ use Rattle.std.specs.Option.{option_map_or}
 use Rattle.std.specs.Str.{bytes_eq}
 use Rattle.std.proofs.lemmas.Bool.{cond-true, cond-false}
 use Rattle.std.proofs.lemmas.Slice.Eq.{bytes_eq-Decides}
+use Rattle.vt_outside.proofs.Texts.{other_turned}
 use Rattle.vt_bytes.proofs.Each.{each_weaker}
 use Rattle.loader_script.specs.Run.{Placed, place_of as place_in}
 use Rattle.image_files.specs.declared.file.Placing.{Placing}
 use Rattle.image_files.specs.Files.{ImageFile}
 use Rattle.image_files.specs.Linkable.{AreDistinct}
 use Rattle.image_files.specs.Linked.{IsLinked, AreLinked}
-use Rattle.image_files.proofs.ByName.{differ_turned}
 
 -- the places of the files that are placed, where the file of each name stands at its place
 abbrev pub places_by : (List ℕ → ℕ) → List ImageFile → List ℕ
@@ -65,7 +65,7 @@ named place_of (file ∷ files) places placed distinct linked =
           let others = each_weaker (λ (f : ImageFile). bytes_eq f.name file.name ≡ false)
           (λ (f : ImageFile). place_in rest f.name ≡ place_in (p ∷ rest) f.name)
           (λ f other. sym (found_later p rest f.name
-          (subst (λ n. bytes_eq n f.name ≡ false) (sym its_name) (differ_turned f.name file.name other)))) files distinct.0 in
+          (subst (λ n. bytes_eq n f.name ≡ false) (sym its_name) (other_turned f.name file.name other)))) files distinct.0 in
           let behind : linked.1 ≡ places_by (place_in (p ∷ rest)) files =
           named place_of files linked.1 rest distinct.1 linked.7 ∙ places_by-same (place_in rest) (place_in (p ∷ rest)) files others in
           subst (λ those. places ≡ place_in those file.name ∷ places_by (place_in those) files) (sym linked.5)

@@ -3,7 +3,7 @@ use Rattle.std.specs.Prelude.{◌≡◌, ℕ, ◌+◌, ◌*◌, ◌<◌, ◌≤�
 use Rattle.std.specs.Option.{option_map_or}
 use Rattle.vt_outside.specs.File.{File}
 use Rattle.vt_bytes.specs.Numbers.{le_bytes}
-use Rattle.vt_bytes.specs.Memory.{Memory, IsRam, at, seen}
+use Rattle.vt_bytes.specs.Memory.{IsRam, Memory, at, bios_end, bios_start, seen}
 use Rattle.loader_script.specs.Run.{Placed, Done, place_of, files_with, run}
 use Rattle.loader_script.specs.Left.{IsOutside, Holds}
 use Rattle.machine_desc.specs.declared.machine.Machine.{Machine}
@@ -36,7 +36,7 @@ IsLoadedAnywhere m =
 
 -- an address of the BIOS area: a valid RSDP or anchor stands nowhere else
 abbrev pub IsBios : ℕ → Type 0
-IsBios address = (0xE0000 ≤ address) × (address < 0x100000)
+IsBios address = (bios_start ≤ address) × (address < bios_end)
 
 -- the address is in one of the files
 abbrev pub IsInside : List Placed → ℕ → Type 0
@@ -48,7 +48,7 @@ IsInside (p ∷ placed) address = ((p.place ≤ address) × (address < p.place +
 -- have written anything elsewhere outside of the files.
 pub record HoldsFiles (memory : Memory) (placed : List Placed) : Type 0 where
   pub files : Holds memory placed
-  pub bios : (address : ℕ) → 0xE0000 ≤ address → address < 0x100000 → IsOutside placed address → at memory address ≡ memory.fill
+  pub bios : (address : ℕ) → bios_start ≤ address → address < bios_end → IsOutside placed address → at memory address ≡ memory.fill
   pub alone : ShowsBytes (seen memory)
 
 -- Wherever its files come to stand, a memory that holds them shows exactly the machine's inventory, whatever its fill byte is.

@@ -35,6 +35,8 @@ pub use Rattle.firmware_load.specs.World
 pub use Rattle.memory_dump.specs.Dump
 pub use Rattle.memory_dump.specs.Reading as DumpReading
 pub use Rattle.anchor_scan.specs.Scan
+pub use Rattle.table_describe.specs.Candidate
+pub use Rattle.table_describe.specs.Failing
 pub use Rattle.scan_text.specs.List
 pub use Rattle.vt_words.specs.Command
 pub use Rattle.image_files.specs.Items

@@ -13,13 +13,14 @@ ghost use Rattle.vmtables.specs.Outcome.{faulty_line, input_limit, status_of};
 use crate::fault::Fault;
 use crate::input::read_to_end;
 use crate::writing::{write_list, write_text};
-use anchor_scan::{describe, scan};
+use anchor_scan::scan;
 use desc_toml::write_machine;
 use guest_memory::GuestMemory;
 use machine_desc::Machine;
 use machine_desc::laws::numbers_of_a_machine_fit;
 use memory_dump::{DumpFault, read_dump, whole_lines};
 use std::alloc::Global;
+use table_describe::describe;
 use table_model::Inventory;
 use vt_outside::{Bytes, Sink, Source};
 

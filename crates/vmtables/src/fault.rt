@@ -4,11 +4,12 @@ ghost use Rattle.vmtables.specs.Outcome.{line_of, status_of_fault, status_of_loa
 use crate::input::InputFault;
 use crate::lines::{container_line, dump_line, load_line, profile_line, tables_line};
 use crate::status::Status;
-use anchor_scan::{DescribeFault, ScanFault};
+use anchor_scan::ScanFault;
 use cfg_directory::ImageFault;
 use command_acts::LoadFault;
 use desc_toml::DescFault;
 use memory_dump::DumpFault;
+use table_describe::DescribeFault;
 use vm_image::ImageBuildFault;
 use vt_outside::{Line, OutOfMemory, words};
 

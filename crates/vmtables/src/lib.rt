@@ -11,7 +11,7 @@
 //! The contract of [`top`] says, for all words and bytes, what the command did, when each status comes, and what became of the streams: once
 //! `boot` ends with status 0 memory shows exactly the machine that was described, whatever events came between and whatever lawful places the
 //! allocator gave. The laws say that a lawful input is done where nothing outside failed, and that `decode` of what `boot` wrote prints the same
-//! machine again, unless memory runs out.
+//! machine again, unless memory runs out. The machine of an inventory, [`describe`], is passed on.
 #![tactic(auto)]
 
 mod boot_command;
@@ -36,4 +36,5 @@ pub use carrying_out::carry_out;
 pub use fault::Fault;
 pub use firmware_load::{LoadFault, State, World};
 pub use status::Status;
+pub use table_describe::{DescribeFault, describe};
 pub use top_call::top;

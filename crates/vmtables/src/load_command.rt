@@ -11,11 +11,12 @@ ghost use Rattle.vmtables.specs.Outcome.{status_of};
 
 use crate::fault::Fault;
 use crate::input::read_container;
-use crate::loading::{MIB, load_items};
+use crate::loading::load_items;
 use crate::writing::write_dump;
 use cfg_directory::{ImageReader, Items};
 use firmware_load::{Schedule, World};
 use std::alloc::Global;
+use vt_bytes::BYTES_IN_MIB;
 use vt_outside::{Sink, Source};
 use vt_words::Setting;
 use zone_alloc::ZoneAlloc;
@@ -66,7 +67,15 @@ fn load_container<A: ZoneAlloc, C: Schedule>(
         (seen_by A.state C.plan world.new place.new plan.new) (Err fault)) }
 {
     let items = items_of(container)?;
-    load_items(alloc, items, top_mib * MIB, setting, place, plan, world)
+    load_items(
+        alloc,
+        items,
+        top_mib * BYTES_IN_MIB as u32,
+        setting,
+        place,
+        plan,
+        world,
+    )
 }
 
 // The files of the container that a reader was fed.

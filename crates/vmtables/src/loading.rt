@@ -11,9 +11,6 @@ use std::alloc::Global;
 use vt_words::Setting;
 use zone_alloc::{ZoneAlloc, zones_of};
 
-/// How many bytes a MiB has.
-pub(crate) const MIB: u32 = 0x10_0000;
-
 /// Begins `world` with `items` and memory below `top` that holds the fill byte of `setting`, begins `place` with the zones of that memory and
 /// its policy, and `plan` with its seed, and loads the items by the places that `place` gives, over the events of `plan`. All memory comes
 /// from `alloc` before the load.

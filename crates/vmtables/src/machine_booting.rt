@@ -12,11 +12,12 @@ ghost use Rattle.vmtables.specs.Calls.{seen_by};
 
 use crate::describing::machine_image;
 use crate::fault::Fault;
-use crate::loading::{MIB, load_items};
+use crate::loading::load_items;
 use firmware_load::{Schedule, World};
 use machine_desc::Machine;
 use std::alloc::Global;
 use vm_image::Image;
+use vt_bytes::BYTES_IN_MIB;
 use vt_words::Setting;
 use zone_alloc::ZoneAlloc;
 
@@ -64,7 +65,7 @@ pub(crate) fn load_image<A: ZoneAlloc, C: Schedule>(
 {
     let Image { items, script } = image;
     drop(script);
-    let top = machine.top_mib * MIB;
+    let top = machine.top_mib * BYTES_IN_MIB as u32;
     load_items(alloc, items, top, setting, place, plan, world)?;
     // That memory holds bytes is said by a call of its own.
     world.memory().holds_bytes();

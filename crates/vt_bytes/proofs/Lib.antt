@@ -1,6 +1,7 @@
 pub mod Numbers
 pub mod LaneSums
 pub mod Puts
+pub mod PutAt
 pub mod Spelt
 pub mod Each
 pub mod AtMostOne

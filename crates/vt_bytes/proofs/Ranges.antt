@@ -1,29 +1,13 @@
 -- The bytes of ranges of addresses, and what bytes that are put there leave.
-use Rattle.std.proofs.Common.{◌≡◌, ℕ, ◌+◌, ◌-◌, ◌<◌, ◌≤◌, ◌⊎◌, inl, inr, true, false, List, [], ◌∷◌, ◌++◌, length, slice_index, take, drop}
-use Rattle.std.proofs.Common.{cond, arith, refl, ap, sym, subst, ◌∙◌, length-take, add-zero}
+use Rattle.std.proofs.Common.{◌≡◌, ℕ, ◌+◌, ◌-◌, ◌<◌, ◌≤◌, ◌⊎◌, inl, inr, true, false, List, [], ◌∷◌, length, slice_index, take}
+use Rattle.std.proofs.Common.{cond, arith, refl, ap, sym, subst, ◌∙◌, length-take}
 use Rattle.std.proofs.lemmas.Bool.Decides.{nat_tests}
 use Rattle.std.proofs.lemmas.Bool.{cases_lt}
-use Rattle.std.proofs.lemmas.List.{places, ext_get_or, take_all, take-append-drop, append-nil}
+use Rattle.std.proofs.lemmas.List.{ext_get_or, take_all}
 use Rattle.vt_bytes.specs.Parts.{put_at}
 use Rattle.vt_bytes.specs.declared.memory.AddressRange.{AddressRange}
+use Rattle.vt_bytes.proofs.PutAt.{length-put_at, index-put_at, index-beside_put, put_at-none}
 use Rattle.vt_bytes.specs.Memory.{IsIn, is_in, IsInOne, Fit, byte_in, put_in}
-
--- bytes put within a list: how many there are, those that were put, and the others
-length-put : (xs : List ℕ) (place : ℕ) (piece : List ℕ) → place + length piece ≤ length xs → length (put_at xs place piece) ≡ length xs
-length-put xs place piece within = grind (arith, places)
-
-index-put : (xs : List ℕ) (place : ℕ) (piece : List ℕ) (i : ℕ) → place + length piece ≤ length xs → i < length piece
-    → slice_index (put_at xs place piece) (place + i) ≡ slice_index piece i
-index-put xs place piece i within below = grind (arith, places)
-
-index-beside : (xs : List ℕ) (place : ℕ) (piece : List ℕ) (k : ℕ) → place + length piece ≤ length xs → (k < place) ⊎ (place + length piece ≤ k)
-    → slice_index (put_at xs place piece) k ≡ slice_index xs k
-index-beside xs place piece k within beside = grind (arith, places)
-
-put-none : (xs : List ℕ) (place : ℕ) → put_at xs place [] ≡ xs
-put-none xs place =
-    ap (λ front. front ++ drop (place + 0) xs) (append-nil (take place xs)) ∙ ap (λ from. take place xs ++ drop from xs) (add-zero place)
-    ∙ take-append-drop place xs
 
 -- an address beside a range
 abbrev pub IsBeside : AddressRange → ℕ → Type 0
@@ -108,7 +92,7 @@ put_fits (range ∷ ranges) (part ∷ parts) address bytes fit =
       | inl here ↦
           let room : length (take (range.end - address) bytes) ≤ range.end - address = simp length-take (omega arith) in
           subst (Fit (range ∷ ranges)) (sym (put_here range ranges part parts address bytes here))
-          (length-put part (address - range.start) (take (range.end - address) bytes) (omega (arith, fit.0)) ∙ fit.0, fit.1)
+          (length-put_at part (address - range.start) (take (range.end - address) bytes) (omega (arith, fit.0)) ∙ fit.0, fit.1)
       | inr beside ↦ subst (Fit (range ∷ ranges)) (sym (put_later range ranges part parts address bytes beside))
           (fit.0, put_fits ranges parts address bytes fit.1)
     ]
@@ -161,7 +145,7 @@ byte_put from (range ∷ ranges) (part ∷ parts) address bytes i ascend fit eac
           ∙ ap (λ piece. put_at part (address - range.start) piece ∷ parts) whole)
           ∙ byte_here range ranges (put_at part (address - range.start) bytes) parts (address + i) inside
           ∙ ap (slice_index (put_at part (address - range.start) bytes)) place
-          ∙ index-put part (address - range.start) bytes i (omega (arith, fit.0)) below
+          ∙ index-put_at part (address - range.start) bytes i (omega (arith, fit.0)) below
       | inr beside ↦
           let later = run_later from range ranges address (length bytes) ascend beside (omega arith) each in
           let past : IsBeside range (address + i) = inr (omega (arith, later.0)) in
@@ -187,7 +171,7 @@ byte_kept (range ∷ ranges) (part ∷ parts) address bytes a fit other =
           ap (λ ps. byte_in (range ∷ ranges) ps a) (put_here range ranges part parts address bytes here)
           ∙ elim (cases_in range a) as (λ _. byte_in (range ∷ ranges) (after ∷ parts) a ≡ byte_in (range ∷ ranges) (part ∷ parts) a) [
             | inl inside ↦ byte_here range ranges after parts a inside
-                ∙ index-beside part (address - range.start) piece (a - range.start) (omega (arith, fit.0))
+                ∙ index-beside_put part (address - range.start) piece (a - range.start) (omega (arith, fit.0))
                 (elim other as (λ _. (a - range.start < address - range.start) ⊎ (address - range.start + length piece ≤ a - range.start)) [
                   | inl before ↦ inl (omega arith)
                   | inr past ↦ inr (omega arith)
@@ -215,6 +199,6 @@ put_in-none (range ∷ ranges) (part ∷ parts) address =
       | inl here ↦
           let none : take {A = ℕ} (range.end - address) [] ≡ [] = take_all (range.end - address) [] (omega arith) in
           put_here range ranges part parts address [] here ∙ ap (λ piece. put_at part (address - range.start) piece ∷ parts) none
-          ∙ ap (λ p. p ∷ parts) (put-none part (address - range.start))
+          ∙ ap (λ p. p ∷ parts) (put_at-none part (address - range.start))
       | inr beside ↦ put_later range ranges part parts address [] beside ∙ ap (λ ps. part ∷ ps) (put_in-none ranges parts address)
     ]

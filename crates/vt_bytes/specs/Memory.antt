@@ -15,11 +15,18 @@ pub record IsTop (top : ℕ) : Type 0 where
 abbrev pub high_start : ℕ → ℕ
 high_start top = top - 0x2000000
 
--- The RAM map: 640 KiB from address 0 on, the 128 KiB below 1 MiB (a PC's BIOS area), and the 32 MiB that end at the top.
+-- a PC's BIOS area: the 128 KiB below 1 MiB
+abbrev pub bios_start : ℕ
+bios_start = 0xE0000
+
+abbrev pub bios_end : ℕ
+bios_end = 0x100000
+
+-- The RAM map: 640 KiB from address 0 on, the BIOS area, and the 32 MiB that end at the top.
 -- What lies between them is no RAM (a PC's video memory and option ROMs).
 abbrev pub ram_ranges : ℕ → List AddressRange
 ram_ranges top =
-    record { start = 0; end = 0xA0000 } ∷ record { start = 0xE0000; end = 0x100000 } ∷ record { start = high_start top; end = top } ∷ []
+    record { start = 0; end = 0xA0000 } ∷ record { start = bios_start; end = bios_end } ∷ record { start = high_start top; end = top } ∷ []
 
 -- an address of a range, and the test of it
 abbrev pub IsIn : AddressRange → ℕ → Type 0

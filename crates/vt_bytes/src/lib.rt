@@ -12,7 +12,9 @@ pub mod laws;
 mod memory;
 mod number;
 mod sum;
+mod units;
 
-pub use memory::AddressRange;
+pub use memory::{AddressRange, BIOS_END, BIOS_START};
 pub use number::{get_be, get_le, put_be, put_le};
 pub use sum::byte_sum;
+pub use units::{BYTES_IN_MIB, KIB_IN_MIB};

@@ -5,3 +5,4 @@ pub mod MemoryStream
 pub mod StdStream
 pub mod Placement
 pub mod File
+pub mod Readings

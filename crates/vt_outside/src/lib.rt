@@ -1,6 +1,6 @@
 //! What stands between the project and the outside: where bytes come from and go to, want of memory, lines for a person,
 //! and the small types that contracts see as lists. The zones of memory, and what a lawful placement is, are defined here too,
-//! below all that places files.
+//! below all that places files, and so are readings: what a definition makes of bytes, part by part, and what a call answers by it.
 //!
 //! The contracts are exact: which bytes a source in memory gives and a sink in memory takes, in order, which call fails, and that each fault is
 //! counted; of a stream over std the same, where its reader or writer tells its bytes.

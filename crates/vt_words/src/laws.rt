@@ -1,9 +1,8 @@
 //! Laws over the definitions, each the contract of a function that does nothing. They go over the list of commands, and name none.
 
-ghost use Rattle.std.specs.Prelude.{◌≡◌, ℕ, ◌↔◌, true, List, ◌∷◌, ◌++◌, length, drop, map, Some, IfSome, IsSome};
+ghost use Rattle.std.specs.Prelude.{◌≡◌, ℕ, ◌↔◌, true, List, ◌∷◌, ◌++◌, length, map, Some, IfSome};
 ghost use Rattle.std.specs.List.{list_all};
 ghost use Rattle.std.specs.List.Sorted.{IsPermutation};
-ghost use Rattle.word_schema.specs.Choices.{IsChoice};
 ghost use Rattle.word_schema.specs.Fits.{are_distinct, is_sound};
 ghost use Rattle.word_schema.specs.Given.{Given, given_by};
 ghost use Rattle.vt_words.specs.declared.command.Command.{Command};
@@ -25,13 +24,6 @@ pub fn options_stand_in_any_order()
         → command_named name ≡ Some command → length front ≡ length command.schema.operands
         → given_by command.schema.options words ≡ Some given → given_by command.schema.options others ≡ Some moved → IsPermutation given moved
         → command_of (name ∷ front ++ words) ≡ command_of (name ∷ front ++ others) }
-{}
-
-/// States that no option of a command is given twice, that each is one of the command's, and that no two exclude each other.
-pub fn each_option_is_given_once()
-    ensures { (name : List ℕ) (words : List (List ℕ)) → IsSome (command_of (name ∷ words))
-        → (command : CommandRow) × (given : List Given) × (command_named name ≡ Some command)
-        × (given_by command.schema.options (drop (length command.schema.operands) words) ≡ Some given) × IsChoice command.schema given }
 {}
 
 /// States that a command that words are is lawful.

@@ -3,7 +3,7 @@
 //! The first word names a command. What may stand behind it is said by the command's row: `commands` has a row for each command, and
 //! the row has one for each option, with its values, its default and its help (`word_schema`). `read_words` reads words by these rows,
 //! and gives the command exactly where the words are one. So an option is a row, and a place in the record that takes its value.
-//! The order of options doesn't matter, and no option is given twice, which laws say of all commands at once.
+//! The order of options doesn't matter, which a law says of all commands at once, and no option is given twice.
 #![tactic(auto)]
 
 mod command;

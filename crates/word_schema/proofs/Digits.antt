@@ -1,9 +1,8 @@
 -- Bytes, numbers and words of a set as they are written.
-use Rattle.std.proofs.Common.{◌≡◌, ◌≢◌, ℕ, suc, zero, ◌+◌, ◌*◌, ◌<◌, ◌≤◌, ◌^◌, ◌/◌, ◌%◌, ◌↔◌, Bool, true, false, cond, leb, length, get_or, List, []}
+use Rattle.std.proofs.Common.{◌≡◌, ◌≢◌, ℕ, suc, zero, ◌+◌, ◌*◌, ◌<◌, ◌≤◌, ◌^◌, ◌/◌, ◌%◌, true, false, cond, length, get_or, List, []}
 use Rattle.std.proofs.Common.{◌∷◌, Option, Some, None, option_map, subst, arith, refl, ap, sym, ◌∙◌}
-use Rattle.std.proofs.lemmas.Bool.{and_parts, leb-true}
 use Rattle.std.proofs.lemmas.Bool.Decides.{nat_tests}
-use Rattle.std.proofs.lemmas.Fmt.{decimal-digits_value, decimal_digit, decimal_nonempty, digits_decimal, digits_value-decimal, first_decimal}
+use Rattle.std.proofs.lemmas.Fmt.{decimal_digit, decimal_nonempty, digits_decimal, digits_value-decimal, first_decimal}
 use Rattle.std.specs.Char.{digit_char}
 use Rattle.std.specs.Fmt.{decimal}
 use Rattle.std.specs.Str.{bytes_eq}
@@ -11,33 +10,10 @@ use Rattle.std.specs.Str.Parse.{digits_value}
 use Rattle.word_schema.specs.Given.{place_of}
 use Rattle.word_schema.specs.Numbers.{byte_from, byte_of, digit_of, is_decimal, number_within}
 use Rattle.word_schema.specs.Written.{hex_digits}
-use Rattle.word_schema.proofs.Decimals.{own, digits_of_decimal, decimal_not_empty, is_decimal-nonzero}
+use Rattle.word_schema.proofs.Decimals.{own, is_decimal-nonzero}
 use Rattle.word_schema.proofs.Found.{mapped, same_from, same_text}
 
--- a zero stands alone
-zero_alone : (word : List ℕ) → is_decimal word ≡ true → get_or word 0 0 ≡ 48 → length word ≡ 1
-zero_alone [] decimal zero_first = absurd (cc)
-zero_alone (digit ∷ []) decimal zero_first = refl
-zero_alone (first ∷ second ∷ digits) decimal zero_first = grind (arith, nat_tests)
-
--- what a test of a value says where it gives one
-tested : (test : Bool) (value number : ℕ) → cond test (Some value) None ≡ Some number → (test ≡ true) × (value ≡ number)
-tested true value number e = (refl, cc)
-tested false value number e = absurd (cc)
-
-pub written_number : (least most number : ℕ) (word : List ℕ) → most < 2 ^ 64 → number_within least most word ≡ Some number
-    → (word ≡ decimal number) × (least ≤ number) × (number ≤ most)
-written_number least most number word small e =
-    let found = tested _ (digits_value 10 word) number e in
-    let outer = and_parts _ (leb (digits_value 10 word) most) found.0 in
-    let inner = and_parts (is_decimal word) (leb least (digits_value 10 word)) outer.0 in
-    let above : least ≤ digits_value 10 word = leb-true _ _ inner.1 in
-    let below : digits_value 10 word ≤ most = leb-true _ _ outer.1 in
-    let spelled : decimal (digits_value 10 word) ≡ word =
-    decimal-digits_value own word (digits_of_decimal word inner.0) (decimal_not_empty word inner.0) (zero_alone word inner.0) (omega arith) in
-    let is = found.1 in
-    (sym spelled ∙ ap decimal is, omega arith, omega arith)
-
+-- a number that is written in decimal is read
 decimal_is_decimal : (number : ℕ) → number < 2 ^ 64 → is_decimal (decimal number) ≡ true
 decimal_is_decimal zero small = ap is_decimal (decimal_digit 0 (omega arith))
 decimal_is_decimal (suc n) small =
@@ -51,13 +27,6 @@ read_number least most number small above below =
     let decimal_too = decimal_is_decimal number fits in
     let value : digits_value 10 (decimal number) ≡ number = digits_value-decimal own number fits in
     rw (decimal_too, value) (grind (arith, nat_tests))
-
-pub decimal_numbers : (least most number : ℕ) (word : List ℕ) → most < 2 ^ 64 → (number_within least most word ≡ Some number)
-    ↔ ((word ≡ decimal number) × (least ≤ number) × (number ≤ most))
-decimal_numbers least most number word small = (
-  written_number least most number word small,
-  λ h. ap (number_within least most) h.0 ∙ read_number least most number small h.1 h.2,
-)
 
 -- a digit, and its number
 digit_of-digit_char : (number : ℕ) → number < 16 → digit_of (digit_char number) ≡ Some number
@@ -98,9 +67,6 @@ read_byte byte small =
     let low : digit_of (digit_char (byte % 16)) ≡ Some (byte % 16) = digit_of-digit_char (byte % 16) (omega arith) in
     let sum : 16 * (byte / 16) + byte % 16 ≡ byte = omega arith in
     rw (high, low) (ap Some sum)
-
-pub two_digits : (word : List ℕ) (byte : ℕ) → (byte_of word ≡ Some byte) ↔ ((byte < 256) × (word ≡ hex_digits byte))
-two_digits word byte = (written_byte word byte, λ h. ap byte_of h.1 ∙ read_byte byte h.0)
 
 -- a word of a set is read as its first place
 
@@ -143,7 +109,3 @@ place_from word (other ∷ others) (suc place) within is none =
       | true ↦ λ same. absurd (none 0 (omega arith) (sym (same_from word other same)))
       | false ↦ λ same. rw later refl
     ] refl
-
-pub places : (words : List (List ℕ)) (word : List ℕ) (place : ℕ) → (place_of word words ≡ Some place)
-    ↔ ((place < length words) × (get_or words place [] ≡ word) × ((k : ℕ) → k < place → get_or words k [] ≢ word))
-places words word place = (first_place word words place, λ h. place_from word words place h.0 h.1 h.2)

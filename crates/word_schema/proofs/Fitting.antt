@@ -1,7 +1,7 @@
 -- Values that are read fit their rows.
-use Rattle.std.proofs.Common.{Bool, ◌≡◌, ℕ, ◌<◌, leb, nat_lt, nat_le, not, ◌&&◌, List, [], ◌∷◌, ◌++◌, true, false, length, map, drop, Option, Some}
+use Rattle.std.proofs.Common.{◌≡◌, ℕ, ◌<◌, leb, nat_lt, nat_le, not, ◌&&◌, List, [], ◌∷◌, ◌++◌, true, false, length, map, drop, Option, Some}
 use Rattle.std.proofs.Common.{None, refl, ap, sym, ◌∙◌, subst, arith}
-use Rattle.std.proofs.lemmas.Bool.{and_parts}
+use Rattle.std.proofs.lemmas.Bool.{and_parts, not-true}
 use Rattle.std.proofs.lemmas.Bool.Decides.{nat_tests}
 use Rattle.std.specs.List.{AllByRecursion, list_all, list_any}
 use Rattle.std.specs.Prelude.{◌||◌}
@@ -66,16 +66,12 @@ finds_more first all (row ∷ rows) other finds =
       | false ↦ λ is other. (rw is finds.0, finds_more first all rows other finds.1)
     ] refl other
 
-not_true : (a : Bool) → not a ≡ true → a ≡ false
-not_true true e = absurd (cc)
-not_true false e = refl
-
 pub finds_all : (rows : List Row) → are_distinct (map (λ row. row.name) rows) ≡ true → AllByRecursion (λ row. row_named row.name rows ≡ Some row) rows
 unfolding FindsAll
 finds_all [] e = tt
 finds_all (row ∷ rows) e =
     let parts = and_parts (not (list_any (bytes_eq row.name) (map (λ row. row.name) rows))) (are_distinct (map (λ row. row.name) rows)) e in
-    (rw (same_text row.name) refl, finds_more row rows rows (not_true _ parts.0) (finds_all rows parts.1))
+    (rw (same_text row.name) refl, finds_more row rows rows (not-true _ parts.0) (finds_all rows parts.1))
 
 -- options that are given are of their kinds
 

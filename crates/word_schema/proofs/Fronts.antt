@@ -1,7 +1,7 @@
 -- Values and options that loops add one after the other.
-use Rattle.std.proofs.Common.{◌≡◌, ℕ, suc, zero, ◌+◌, ◌<◌, ◌≤◌, List, [], ◌∷◌, ◌++◌, length, get_or, drop, take, map, string_bytes, String, Global}
+use Rattle.std.proofs.Common.{◌≡◌, ℕ, ◌+◌, ◌<◌, ◌≤◌, List, [], ◌∷◌, ◌++◌, length, get_or, drop, take, map, string_bytes, String, Global}
 use Rattle.std.proofs.Common.{Option, Some, None, option_map, refl, ap, sym, ◌∙◌, arith, append_assoc, append-nil}
-use Rattle.std.proofs.lemmas.List.{drop_more, length-map}
+use Rattle.std.proofs.lemmas.List.{drop_more, length-map, drop_all}
 use Rattle.word_schema.specs.declared.value.Value.{Value}
 use Rattle.word_schema.specs.declared.given.Given.{Given as CodeGiven}
 use Rattle.word_schema.specs.declared.schema.OperandSchema.{OperandSchema}
@@ -20,12 +20,6 @@ pub behind_one : {X : Type 0} (front : List X) (x : X) (more : Option (List X))
     → behind front (option_map (λ (more : List X). x ∷ more) more) ≡ behind (front ++ x ∷ []) more
 behind_one front x None = refl
 behind_one front x (Some more) = ap Some (sym (append_assoc front (x ∷ []) more))
-
-drop_all : {X : Type 0} (xs : List X) (i : ℕ) → length xs ≤ i → drop i xs ≡ []
-drop_all [] zero le = refl
-drop_all [] (suc i) le = refl
-drop_all (x ∷ xs) zero le = absurd (omega arith)
-drop_all (x ∷ xs) (suc i) le = drop_all xs i (omega arith)
 
 -- options
 
@@ -62,7 +56,7 @@ pub operands_done : (operands : List OperandSchema) (words : List (String Global
     → length words ≤ i → behind front (operand_values (forms_of (drop i operands)) (map string_bytes (drop i words))) ≡ total → Some front ≡ total
 unfolding operand_values
 operands_done operands words i front total past past_too so_far =
-    sym (ap Some (append-nil front)) ∙ (rw (drop_all operands i past, drop_all words i past_too) at so_far)
+    sym (ap Some (append-nil front)) ∙ (rw (drop_all i operands past, drop_all i words past_too) at so_far)
 
 pub options_step : (options : List OptionSchema) (given : List Given) (i : ℕ) (option : OptionSchema) → i < length options
     → option_values (rows_of (drop i options)) given
@@ -73,7 +67,7 @@ options_step options given i option within = rw (drop_more options i option with
 pub options_done : (options : List OptionSchema) (given : List Given) (i : ℕ) (front : List Value) (total : Option (List Value)) → length options ≤ i
     → behind front (option_values (rows_of (drop i options)) given) ≡ total → Some front ≡ total
 unfolding option_values
-options_done options given i front total past so_far = sym (ap Some (append-nil front)) ∙ (rw (drop_all options i past) at so_far)
+options_done options given i front total past so_far = sym (ap Some (append-nil front)) ∙ (rw (drop_all i options past) at so_far)
 
 with_none : (value : Option Value) → with_value value None ≡ None
 with_none None = refl

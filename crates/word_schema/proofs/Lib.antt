@@ -6,7 +6,6 @@ pub mod Found
 pub mod Spelling
 pub mod Counting
 pub mod Orders
-pub mod Once
 pub mod Digits
 pub mod Fitting
 pub mod Writing

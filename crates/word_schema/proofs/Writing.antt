@@ -1,7 +1,7 @@
 -- The words that are written of values are read as these values.
 use Rattle.std.proofs.Common.{Bool, ◌≡◌, ◌≢◌, ℕ, suc, zero, ◌-◌, ◌^◌, ◌<◌, ◌≤◌, ◌==◌, leb, nat_lt, nat_le, not, ◌&&◌, List, [], ◌∷◌, ◌++◌, true}
 use Rattle.std.proofs.Common.{false, cond, length, get_or, map, take, drop, Option, Some, None, option_map, refl, ap, sym, ◌∙◌, arith}
-use Rattle.std.proofs.lemmas.Bool.{and_parts, leb-true}
+use Rattle.std.proofs.lemmas.Bool.{and_parts, leb-true, not-true}
 use Rattle.std.proofs.lemmas.Bool.Decides.{nat_tests}
 use Rattle.std.proofs.lemmas.List.{take-append-drop}
 use Rattle.std.specs.List.{AllByRecursion, list_all, list_any}
@@ -33,10 +33,6 @@ within least most n e =
     let parts = and_parts (leb least n) (leb n most) e in
     (leb-true _ _ parts.0, leb-true _ _ parts.1)
 
-not_true : (a : Bool) → not a ≡ true → a ≡ false
-not_true true e = absurd (cc)
-not_true false e = refl
-
 -- words that differ from one differ from each
 differ : (word : List ℕ) (words : List (List ℕ)) (k : ℕ) → list_any (bytes_eq word) words ≡ false → k < length words → get_or words k [] ≢ word
 differ word [] k none inside is = absurd (omega arith)
@@ -52,7 +48,7 @@ earlier [] place distinct inside k before is = absurd (omega arith)
 earlier (word ∷ words) zero distinct inside k before is = absurd (omega arith)
 earlier (word ∷ words) (suc place) distinct inside zero before is =
     let parts = and_parts (not (list_any (bytes_eq word) words)) (are_distinct words) distinct in
-    differ word words place (not_true _ parts.0) (omega arith) (sym is)
+    differ word words place (not-true _ parts.0) (omega arith) (sym is)
 earlier (word ∷ words) (suc place) distinct inside (suc k) before is =
     let parts = and_parts (not (list_any (bytes_eq word) words)) (are_distinct words) distinct in
     earlier words place parts.1 (omega arith) k (omega arith) is
@@ -184,7 +180,7 @@ say_values [] (value ∷ values) distinct fit = absurd (cc)
 say_values (row ∷ rows) [] distinct fit = absurd (cc)
 say_values (row ∷ rows) (value ∷ values) distinct fit =
     let parts = and_parts (not (list_any (bytes_eq row.name) (names rows))) (are_distinct (names rows)) distinct in
-    let other : list_any (bytes_eq row.name) (names rows) ≡ false = not_true _ parts.0 in
+    let other : list_any (bytes_eq row.name) (names rows) ≡ false = not-true _ parts.0 in
     let fitting = and_parts (fits_row row value) (fit_rows rows values) fit in
     let later = say_values rows values parts.1 fitting.1 in
     let none = none_named row.name rows values other in

@@ -6,4 +6,3 @@ pub mod Fits
 pub mod Written
 pub mod Spelled
 pub mod Steps
-pub mod Choices

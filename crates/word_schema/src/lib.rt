@@ -13,8 +13,8 @@
 //!
 //! `read_values` gives a value for each operand and then for each option, in the schema's order, exactly where the words are some of
 //! this command. A record takes its values out of the list by position, and tests nothing: the laws say that they fit their rows. They
-//! say too that the order of options doesn't matter, that each is given once, and that the words that are written of values are read
-//! as these values again. Nothing in this crate names a command, so that a new option is a row of its command's schema.
+//! say too that the order of options doesn't matter, and that the words that are written of values are read as these values again.
+//! Nothing in this crate names a command, so that a new option is a row of its command's schema.
 #![tactic(auto)]
 
 mod given;

@@ -1,10 +1,10 @@
 use Rattle.std.proofs.Common.{◌≡◌, ℕ, ◌+◌, ◌-◌, ◌*◌, List, [], length, drop, ap, ap₂, sym, ◌∙◌, arith}
 use Rattle.std.proofs.lemmas.List.{drop-drop, length_push}
 use Rattle.std.proofs.lemmas.Result.{err_from_is_err_and}
+use Rattle.vt_outside.proofs.Readings.{fault_of_whole}
 use Rattle.cfg_directory.specs.declared.listed.Listed.{Listed}
-use Rattle.cfg_directory.specs.Container.{entry_so, directory_so}
+use Rattle.cfg_directory.specs.Container.{entry_so, directory_so, reported}
 use Rattle.cfg_directory.specs.Parts.{directory_at}
-use Rattle.cfg_directory.proofs.Steps.{fails_as}
 use Rattle.cfg_directory.proofs.Parts.{directory_at-short, entry_goes_on, entry_fails, entries_done}
 use Rattle.cfg_directory.proofs.reading.read_directory.Goals as goal
 
@@ -15,7 +15,7 @@ pub returns-in_err-entry-clause-exact : goal.returns-in_err-entry-clause-exact
 returns-in_err-entry-clause-exact c =
     let p = err_from_is_err_and c.from_residual.result c.from_residual.ensures.1 in
     let shown = ap₂ (entry_so c.loop-index.index) c.as_slice.ensures c.split_at.ensures.front in
-    rw (p.1, p.2) (fails_as c.in_err-entry.field-0.0 (entry_so c.loop-index.index c.as_slice.result.now c.split_at.result.0.now)
+    rw (p.1, p.2) (fault_of_whole (reported c.in_err-entry.field-0.0) (entry_so c.loop-index.index c.as_slice.result.now c.split_at.result.0.now)
     (directory_at c.args.count c.args.bytes.now)
     (λ fault is. entry_fails c.args.count c.loop-index.index c.loop-index.listed c.loop-index.rest.now c.args.bytes.now c.loop-index-test.true
     c.if-bytes-count.false c.loop-index.invariant.said fault (sym shown ∙ is)) c.in_err-entry.ensures.exact)

@@ -1,6 +1,7 @@
 use Rattle.std.proofs.lemmas.Result.{err_from_is_err_and}
-use Rattle.desc_toml.specs.Reading.{machine_in, accepted}
-use Rattle.desc_toml.proofs.Steps.{fails_then, read_of_text, read_of_no_text}
+use Rattle.vt_outside.proofs.Readings.{fault_bound}
+use Rattle.desc_toml.specs.Reading.{machine_in, accepted, reported}
+use Rattle.desc_toml.proofs.Steps.{read_of_text, read_of_no_text}
 use Rattle.desc_toml.proofs.read.read_machine.Goals as goal
 
 pub returns-in_default-clause-read : goal.returns-in_default-clause-read
@@ -10,7 +11,7 @@ pub returns-in_err-machine-clause-read : goal.returns-in_err-machine-clause-read
 returns-in_err-machine-clause-read c =
     let p = err_from_is_err_and c.from_residual.result c.from_residual.ensures.1 in
     rw (p.1, p.2, read_of_text c.args.bytes.now c.in-Ok.ensures.cases.1)
-    (fails_then c.in_err-machine.field-0.0 (machine_in c.args.bytes.now) accepted (rw c.in-Ok.ensures.cases.0 at c.in_err-machine.ensures))
+    (fault_bound (reported c.in_err-machine.field-0.0) (machine_in c.args.bytes.now) accepted (rw c.in-Ok.ensures.cases.0 at c.in_err-machine.ensures))
 
 pub returns-in_err-machine-clause-no_text : goal.returns-in_err-machine-clause-no_text
 returns-in_err-machine-clause-no_text c = λ no_text. absurd (no_text c.in-Ok.ensures.cases.1)

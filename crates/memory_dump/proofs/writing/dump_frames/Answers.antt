@@ -1,5 +1,5 @@
 use Rattle.std.proofs.Common.{ap, ◌∙◌}
-use Rattle.memory_dump.proofs.Offered.{on_err}
+use Rattle.vt_outside.proofs.Results.{on_err}
 use Rattle.memory_dump.proofs.Rows.{rows_none}
 use Rattle.memory_dump.proofs.Frames.{frame_ram, frame_took, frame_passed, frame_failed}
 use Rattle.memory_dump.proofs.writing.dump_frames.Goals as goal

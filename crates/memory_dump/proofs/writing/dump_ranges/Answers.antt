@@ -2,7 +2,7 @@ use Rattle.std.proofs.Common.{◌≡◌, length, arith, ap, subst, ◌∙◌}
 use Rattle.vt_bytes.specs.Memory.{ram_ranges}
 use Rattle.memory_dump.specs.Dump.{ranges_text}
 use Rattle.vt_outside.specs.Stream.{Took, TookFront}
-use Rattle.memory_dump.proofs.Offered.{on_err}
+use Rattle.vt_outside.proofs.Results.{on_err}
 use Rattle.memory_dump.proofs.Parts.{ranges_none, ranges_more, ranges_failed}
 use Rattle.memory_dump.proofs.Frames.{range_text-frames}
 use Rattle.memory_dump.proofs.writing.dump_ranges.Goals as goal

@@ -1,8 +1,8 @@
 use Rattle.std.proofs.Common.{subst}
 use Rattle.std.proofs.lemmas.Result.{on_ok_weaker, on_err_weaker}
 use Rattle.vt_outside.specs.Stream.{Took}
-use Rattle.memory_dump.proofs.Offered.{on_err}
 use Rattle.vt_outside.proofs.Taken.{took_then, front_then}
+use Rattle.vt_outside.proofs.Results.{on_err}
 use Rattle.memory_dump.proofs.Parts.{header_is, header_failed, lines_failed, last_failed, all_taken}
 use Rattle.memory_dump.proofs.FewLines.{few_lines}
 use Rattle.memory_dump.proofs.writing.dump_to.Goals as goal

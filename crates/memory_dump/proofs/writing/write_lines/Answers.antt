@@ -1,5 +1,6 @@
 use Rattle.vt_outside.proofs.Taken.{took_piece}
-use Rattle.memory_dump.proofs.Offered.{on_err, line_failed}
+use Rattle.vt_outside.proofs.Results.{on_err}
+use Rattle.memory_dump.proofs.Offered.{line_failed}
 use Rattle.memory_dump.proofs.writing.write_lines.Goals as goal
 
 pub loop-rest-preserved : goal.loop-rest-preserved

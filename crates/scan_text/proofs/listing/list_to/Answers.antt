@@ -1,7 +1,7 @@
 use Rattle.std.proofs.lemmas.Result.{on_ok_weaker, on_err_weaker}
 use Rattle.vt_outside.proofs.Taken.{took_then, front_then, front_more}
+use Rattle.vt_outside.proofs.Results.{on_err}
 use Rattle.scan_text.specs.List.{list_of, acpi_lines}
-use Rattle.scan_text.proofs.Written.{on_err}
 use Rattle.scan_text.proofs.listing.list_to.Goals as goal
 
 pub returns-in_err-write_smbios-clause-front : goal.returns-in_err-write_smbios-clause-front

@@ -1,8 +1,9 @@
 use Rattle.std.proofs.Common.{ap}
 use Rattle.std.proofs.lemmas.Result.{on_ok_weaker, on_err_weaker}
 use Rattle.vt_outside.proofs.Taken.{took_then, front_then, front_more}
+use Rattle.vt_outside.proofs.Results.{on_err}
 use Rattle.scan_text.specs.List.{smbios_lines, structure_lines}
-use Rattle.scan_text.proofs.Written.{on_err, took_same, front_same}
+use Rattle.scan_text.proofs.Written.{took_same, front_same}
 use Rattle.scan_text.proofs.structures.write_smbios.Goals as goal
 
 pub returns-in_err-write_line-in-Some-clause-front : goal.returns-in_err-write_line-in-Some-clause-front

@@ -1,6 +1,7 @@
 use Rattle.std.proofs.Common.{ap, ◌∙◌}
+use Rattle.vt_outside.proofs.Results.{on_err}
 use Rattle.scan_text.specs.List.{structure_line, structure_lines}
-use Rattle.scan_text.proofs.Written.{on_err, took_same, front_same, lines_taken, lines_all, lines_failed}
+use Rattle.scan_text.proofs.Written.{took_same, front_same, lines_taken, lines_all, lines_failed}
 use Rattle.scan_text.proofs.structures.write_structures.Goals as goal
 
 pub returns-in_err-write_line-clause-front : goal.returns-in_err-write_line-clause-front

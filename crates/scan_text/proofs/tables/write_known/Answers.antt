@@ -1,5 +1,6 @@
+use Rattle.vt_outside.proofs.Results.{on_err}
 use Rattle.scan_text.specs.List.{line_if_there, known_lines}
-use Rattle.scan_text.proofs.Written.{on_err, lines_taken, lines_all, lines_failed}
+use Rattle.scan_text.proofs.Written.{lines_taken, lines_all, lines_failed}
 use Rattle.scan_text.proofs.tables.write_known.Goals as goal
 
 pub returns-in_err-write_if_there-clause-front : goal.returns-in_err-write_if_there-clause-front

@@ -1,5 +1,6 @@
+use Rattle.vt_outside.proofs.Results.{on_err}
 use Rattle.scan_text.specs.List.{length_line, length_lines}
-use Rattle.scan_text.proofs.Written.{on_err, took_same, front_same, lines_taken, lines_all, lines_failed}
+use Rattle.scan_text.proofs.Written.{took_same, front_same, lines_taken, lines_all, lines_failed}
 use Rattle.scan_text.proofs.tables.write_lengths.Goals as goal
 
 pub returns-in_err-write_line-clause-front : goal.returns-in_err-write_line-clause-front

@@ -1,7 +1,8 @@
 use Rattle.std.proofs.Common.{◌+◌, take, arith, refl, sym, ◌∙◌}
 use Rattle.std.proofs.lemmas.List.{length-take-le}
+use Rattle.vt_outside.proofs.Results.{on_err}
 use Rattle.smbios_decode.specs.Faults.{BeginsStrings}
-use Rattle.smbios_decode.proofs.Pieces.{Begins, pieces, on_err, both_within, strings_begin, none_begin, no_strings}
+use Rattle.smbios_decode.proofs.Pieces.{Begins, pieces, both_within, strings_begin, none_begin, no_strings}
 use Rattle.smbios_decode.proofs.strings.read_strings.Goals as goal
 use Rattle.smbios_decode.proofs.strings.read_strings.Goals.{then-end-eq0, else-end-eq0+in_ok-texts}
 

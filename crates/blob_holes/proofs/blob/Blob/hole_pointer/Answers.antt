@@ -1,5 +1,5 @@
 use Rattle.std.proofs.Common.{◌≡◌, length, take, length-take, arith, ap, ◌∙◌}
-use Rattle.blob_holes.proofs.Put.{length-put_at}
+use Rattle.vt_bytes.proofs.PutAt.{length-put_at}
 use Rattle.blob_holes.proofs.Kept.{kept_pointer}
 use Rattle.blob_holes.proofs.blob.Blob.hole_pointer.Goals as goal
 

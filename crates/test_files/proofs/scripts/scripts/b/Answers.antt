@@ -1,0 +1,11 @@
+use Rattle.std.proofs.Common.{rules}
+use Rattle.vt_outside.specs.Name.{name_of}
+use Rattle.test_files.proofs.scripts.scripts.b.Goals as goal
+
+pub unwrap-requires : goal.unwrap-requires
+unfolding name_of
+unwrap-requires c = search rules
+
+pub returns : goal.returns
+unfolding name_of
+returns c = search rules

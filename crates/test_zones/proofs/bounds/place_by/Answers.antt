@@ -1,5 +1,0 @@
-use Rattle.test_zones.proofs.Powers.{sixteen}
-use Rattle.test_zones.proofs.bounds.place_by.Goals as goal
-
-pub place-requires-clause-align : goal.place-requires-clause-align
-place-requires-clause-align g c = sixteen

@@ -1,5 +1,0 @@
-use Rattle.test_zones.proofs.Powers.{sixteen}
-use Rattle.test_zones.proofs.refusals.a_place.Goals as goal
-
-pub place-given-requires-clause-align : goal.place-given-requires-clause-align
-place-given-requires-clause-align g c = sixteen

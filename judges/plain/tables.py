@@ -1,0 +1,180 @@
+"""The ACPI tables that a memory shows, from its RSDP on (docs/FORMATS.md, "How tables are read")."""
+
+import collections
+
+from plain.ended import Refused
+from plain.terms import NoTerms, read_terms
+from plain.views import bytes_at, number_in, rows_with, sums_to_zero
+
+STATUS = 7
+OUTSIDE_RAM, BAD_SUM, BAD_LENGTH, BAD_ENTRY, WRONG_SIGNATURE, TWICE_GIVEN = range(1, 7)
+
+POINTERS, POINTERS_END, POINTER_SIZE = 0xE0000, 0x100000, 36
+HEADER_SIZE, FACS_SIZE, ID_SIZE = 36, 64, 16
+MOST_ENTRIES, MOST_NODES = 256, 1024
+
+# The tables of which there may be one, and where the entries of two of them begin, with the least length of each type.
+ONCE = (b"FACP", b"APIC", b"SRAT", b"SLIT", b"MCFG", b"HPET")
+ENTRIES = {
+    b"APIC": (44, {0: 8, 1: 12, 2: 10, 4: 6, 9: 16, 10: 12}),
+    b"SRAT": (48, {0: 16, 1: 40, 2: 24}),
+}
+
+SYSTEM_BUS = ("\\", (b"_SB_",))
+GENERATION, ADDRESS = ("", (b"VGEN",)), ("", (b"ADDR",))
+
+# The maker; the signatures that were read, of tables that have a record; the length of a DSDT that spells no terms, or None; and the signature
+# and the length of each table of another signature.
+Tables = collections.namedtuple("Tables", "maker signatures foreign others")
+
+
+def refused(fault, address):
+    return Refused(STATUS, f"tables: acpi fault {fault} at {address:016x}")
+
+
+def read_tables(memory):
+    """The tables, or None where no valid RSDP stands."""
+    pointer = valid_pointer(memory)
+    return None if pointer is None else Walk(memory).tables(pointer)
+
+
+def valid_pointer(memory):
+    """The bytes of the least valid RSDP, or None."""
+    for address in rows_with(memory, b"RSD PTR ", POINTERS, POINTERS_END):
+        if address + POINTER_SIZE <= POINTERS_END:
+            pointer = bytes_at(memory, address, POINTER_SIZE)
+            if pointer[15] >= 2 and sums_to_zero(pointer[:20]) and sums_to_zero(pointer):
+                return pointer
+    return None
+
+
+class Walk:
+    """Goes over the tables in the order in which they are read."""
+
+    def __init__(self, memory):
+        self.memory = memory
+        self.signatures = {b"XSDT"}
+        self.foreign = None
+        self.others = []
+
+    def tables(self, pointer):
+        xsdt = self.headed(number_in(pointer, 24, 8), due=b"XSDT")
+        for entry in range(HEADER_SIZE, len(xsdt), 8):
+            address = number_in(xsdt, entry, 8)
+            if address != 0:
+                self.named(address)
+        return Tables(pointer[9:15], self.signatures, self.foreign, self.others)
+
+    def headed(self, address, due=None):
+        """The bytes of a table with a header, which has passed the tests that each has to pass."""
+        header = bytes_at(self.memory, address, HEADER_SIZE)
+        if header is None:
+            raise refused(OUTSIDE_RAM, address)
+        if due is not None and header[:4] != due:
+            raise refused(WRONG_SIGNATURE, address)
+        length = number_in(header, 4, 4)
+        if not self.is_lawful(address, length, header[:4], due):
+            raise refused(BAD_LENGTH, address)
+        table = bytes_at(self.memory, address, length)
+        if table is None:
+            raise refused(OUTSIDE_RAM, address)
+        if not sums_to_zero(table):
+            raise refused(BAD_SUM, address)
+        return table
+
+    def is_lawful(self, address, length, signature, due):
+        """Whether the length of a table is one of its form. What an entry of the XSDT names is no XSDT and no DSDT, whatever its signature is."""
+        if due == b"XSDT":
+            return length >= HEADER_SIZE and length % 8 == HEADER_SIZE % 8 and length <= HEADER_SIZE + 8 * MOST_ENTRIES
+        if due is None and signature == b"SLIT":
+            return self.has_distances(address, length)
+        if due is None and signature == b"MCFG":
+            return length >= 44 and (length - 44) % 16 == 0
+        least = {b"FACP": 276, b"APIC": 44, b"SRAT": 48, b"HPET": 56}
+        return length >= (least.get(signature, HEADER_SIZE) if due is None else HEADER_SIZE)
+
+    def has_distances(self, address, length):
+        count = bytes_at(self.memory, address + 36, 8)
+        nodes = 0 if count is None else number_in(count, 0, 8)
+        return nodes <= MOST_NODES and length >= 44 + nodes * nodes
+
+    def named(self, address):
+        """Reads a table that an entry of the XSDT names, and what it leads to."""
+        table = self.headed(address)
+        signature = table[:4]
+        if signature not in ONCE:
+            self.others.append((signature, len(table)))
+            return
+        if signature in self.signatures:
+            raise refused(TWICE_GIVEN, address)
+        self.signatures.add(signature)
+        if signature in ENTRIES:
+            test_entries(address, table, *ENTRIES[signature])
+        if signature == b"FACP":
+            self.led(number_in(table, 132, 8) or number_in(table, 36, 4), self.facs)
+            self.led(number_in(table, 140, 8) or number_in(table, 40, 4), self.dsdt)
+
+    def led(self, address, read):
+        if address != 0:
+            read(address)
+
+    def facs(self, address):
+        facs = bytes_at(self.memory, address, FACS_SIZE)
+        if facs is None:
+            raise refused(OUTSIDE_RAM, address)
+        if facs[:4] != b"FACS":
+            raise refused(WRONG_SIGNATURE, address)
+        if number_in(facs, 4, 4) != FACS_SIZE:
+            raise refused(BAD_LENGTH, address)
+        self.signatures.add(b"FACS")
+
+    def dsdt(self, address):
+        dsdt = self.headed(address, due=b"DSDT")
+        self.signatures.add(b"DSDT")
+        try:
+            terms = read_terms(dsdt[HEADER_SIZE:])
+        except NoTerms:
+            self.foreign = len(dsdt)
+            return
+        identity = id_address(terms)
+        if identity is not None and bytes_at(self.memory, identity, ID_SIZE) is None:
+            raise refused(OUTSIDE_RAM, identity)
+
+
+def test_entries(address, table, start, least):
+    """Refuses a table one of whose entries is bad."""
+    at = start
+    while at < len(table):
+        left = len(table) - at
+        if left < 2 or not least.get(table[at], 2) <= table[at + 1] <= left:
+            raise refused(BAD_ENTRY, address + at)
+        at += table[at + 1]
+
+
+def id_address(terms):
+    """The address of a machine's generation's id to which terms lead, or None."""
+    for inner in system_buses(terms):
+        for kind, path, names in inner:
+            if kind == "device" and tuple(path) == GENERATION:
+                address = address_in(names)
+                if address is not None:
+                    return address
+    return None
+
+
+def system_buses(terms):
+    """The terms of each scope of the system bus, in the order in which they begin, wherever they stand."""
+    for kind, path, inner in terms:
+        if kind == "scope" and tuple(path) == SYSTEM_BUS:
+            yield inner
+        if kind != "name":
+            yield from system_buses(inner)
+
+
+def address_in(terms):
+    """The address that the first name `ADDR` of a device tells, where it tells one."""
+    values = [value for kind, path, value in terms if kind == "name" and tuple(path) == ADDRESS]
+    match values[:1]:
+        case [("package", [("integer", low), ("integer", high)])] if low < 1 << 32 and high < 1 << 32:
+            return low + (high << 32)
+    return None
