@@ -12,11 +12,6 @@ use Rattle.cfg_directory.proofs.Refusals.{judged_fault}
 use Rattle.cfg_directory.proofs.Heads.{contents_lack, contents_whole, contents_over}
 use Rattle.cfg_directory.proofs.Files.{sizes_front}
 
--- where the next file isn't whole yet, nothing is left
-pub record Ends (held : Held) (left : List ℕ) : Type 0 where
-  pub lacks : LacksBytes held
-  pub none : left ≡ []
-
 -- behind the last file all are whole
 pub all_whole : (held : Held) → (gathers : Gathers held) → length held.listed ≤ held.next → length (contents_of held.items) ≡ sizes_of held.listed
 all_whole held gathers past =

@@ -1,7 +1,7 @@
 -- What the run of a script leaves in memory.
 use Rattle.std.specs.Prelude.{◌≡◌, ℕ, ◌+◌, ◌<◌, ◌≤◌, ◌⊎◌, List, [], ◌∷◌, length}
 use Rattle.vt_outside.specs.Placement.{Range}
-use Rattle.vt_bytes.specs.Memory.{Memory, IsRam, at, bytes_at}
+use Rattle.vt_bytes.specs.Memory.{Memory, bytes_at}
 use Rattle.loader_script.specs.Run.{Placed}
 
 -- the range of a placed file
@@ -17,9 +17,3 @@ IsOutside (p ∷ placed) address = ((address < p.place) ⊎ (p.place + length p.
 abbrev pub Holds : Memory → List Placed → Type 0
 Holds m [] = Unit {0}
 Holds m (p ∷ placed) = (bytes_at m p.place (length p.bytes) ≡ p.bytes) × Holds m placed
-
--- The memory that is left after a load: each placed file stands in it, and every other RAM byte is the one that was there outside
--- of the files.
-pub record IsLeft (m : Memory) (placed : List Placed) (outside : ℕ → ℕ) : Type 0 where
-  pub files : Holds m placed
-  pub others : (address : ℕ) → IsRam m.top address → IsOutside placed address → at m address ≡ outside address

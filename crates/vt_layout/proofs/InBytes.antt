@@ -127,11 +127,6 @@ value-below (BigEndian width value) bytes each =
     subst (λ n. be bytes < 256 ^ n) (length-reverse bytes) (le-below (reverse bytes) (all_bytes bytes each))
 value-below row bytes each = le-below bytes each
 
--- the number that is taken of the bytes at a row
-pub record IsTaken (rows : List Row) (k : ℕ) (bytes : List ℕ) (taken : ℕ) : Type 0 where
-  pub number : taken ≡ read_number k rows bytes
-  pub fits : taken < 256 ^ width_of (row_at k rows)
-
 -- what is taken of it low byte first, unless it is high byte first
 pub low_first : (row : Row) (bytes : List ℕ) → ((width value : ℕ) → row ≡ BigEndian width value → ⊥) → value_in row bytes ≡ le bytes
 low_first (BigEndian width value) bytes other = absurd (other width value refl)
