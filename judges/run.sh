@@ -31,6 +31,7 @@ shopt -s nullglob
 here=$(dirname "$(readlink -f "$0")")
 root=$(dirname "$here")
 tools=$root/tools
+built=$root/crates/vmtables_cli/out/vmtables_cli
 program=$(readlink -f "${1:-$root/vmtables}")
 [ -f "$program" ] && [ -x "$program" ] || { echo "judges/run.sh: ${1:-$root/vmtables}: there is no such program" >&2; exit 2; }
 PATH=$PATH:/usr/sbin # where Debian has dmidecode
@@ -367,12 +368,19 @@ judge_all_plainly() {
     judge_plainly judge_loads.py "$program" examples/*.toml
 }
 
+# Whether a program is there, and nothing that crates are built of is newer.
+is_built() {
+    [ -x "$1" ] && [ -z "$(find crates \( -name out -o -name must-fail -o -name planted \) -prune -o -type f -newer "$1" -print -quit)" ]
+}
+
 # Has a second reader and what iasl compiles judge AML terms that are read, and written again.
 judge_terms() {
     local said again=$root/crates/aml_again/out/aml_again
     description="AML terms"
     echo "$description"
-    said=$(cd crates/aml_again && rt run </dev/null 2>&1) || { fault aml_again "the program" "$said"; return; }
+    if ! is_built "$again"; then
+        said=$(cd crates/aml_again && rt run </dev/null 2>&1) || { fault aml_again "the program" "$said"; return; }
+    fi
     judge_plainly judge_terms.py "$again"
     said=$(python3 "$here/judge_aml.py" "$again" 2>&1)
     case $? in
@@ -629,6 +637,7 @@ judge_document() {
 
 judge_all() {
     "$program" --version || exit 1 # builds ./vmtables where it isn't built, in sight
+    [ "$program" != "$root/vmtables" ] || program=$built # which spares a look at all files with each call
     cd "$root" || exit 1
     judge_lines
     judge_manual
