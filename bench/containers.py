@@ -6,10 +6,11 @@ usage: containers.py FOLDER
 `large.container` has one file of 16 MiB, all of high memory, which its script places and sums up. `random.container` has one of as many
 bytes at random, whose dump has a line for each 16 of them. `many.container` has 1,000 files of 4 KiB and a script of 8,192 commands, the
 most that one may have: each file is placed, and then pointers and sums follow, of one file after the other; `few.container` has a sixteenth of
-these files and commands. `writes.container` has as many commands as `many`, all of which but the first, which places a file, write its place
-to another file of fw_cfg, and `pointers.container` as many that add its place to a number in memory. `full.container` has as many bytes as an
-input may have, most of them in a file that no command names. `alone.container` has a script of no commands and no other file. All are spelled
-as docs/FORMATS.md says.
+these files and commands, and `written.container` is `many` with files that a guest may write. `writes.container` has as many commands as `many`,
+all of which but the first, which places a file, write its place to another file of fw_cfg, and `pointers.container` as many that add its place to
+a number in memory. `full.container` has as many bytes as an input may have, most of them in a file that no command names; `writable.container` is
+the same, but that a guest may write that file. `alone.container` has a script of no commands and no other file. All are spelled as docs/FORMATS.md
+says.
 """
 
 import pathlib
@@ -68,14 +69,14 @@ def at_random():
     return container([("random", random.Random(7).randbytes(16 << 20)), (SCRIPT, allocate("random", align=4096))])
 
 
-def full():
+def full(writable=()):
     script = (SCRIPT, b"")
     rest = MOST_BYTES - len(container([("unnamed", b""), script]))
-    return container([("unnamed", bytes(rest)), script])
+    return container([("unnamed", bytes(rest)), script], writable)
 
 
-def many(files, most):
-    """A container of so many files of 4 KiB, and of at most so many commands."""
+def many(files, most, written=False):
+    """A container of so many files of 4 KiB, which a guest may write or not, and of at most so many commands."""
     names = [f"file-{at:04}" for at in range(files)]
     commands = [allocate(name) for name in names]
     at = 0
@@ -83,7 +84,7 @@ def many(files, most):
         name = names[at % len(names)]
         commands += [add_pointer(name, names[(at + 1) % len(names)]), add_checksum(name, 4096)]
         at += 1
-    return container([(name, bytes(4096)) for name in names] + [(SCRIPT, b"".join(commands))])
+    return container([(name, bytes(4096)) for name in names] + [(SCRIPT, b"".join(commands))], names if written else ())
 
 
 def writes():
@@ -102,9 +103,11 @@ def main(folder):
     (folder / "random.container").write_bytes(at_random())
     (folder / "many.container").write_bytes(many(MANY_FILES, MOST_COMMANDS))
     (folder / "few.container").write_bytes(many(MANY_FILES // 16, MOST_COMMANDS // 16))
+    (folder / "written.container").write_bytes(many(MANY_FILES, MOST_COMMANDS, written=True))
     (folder / "writes.container").write_bytes(writes())
     (folder / "pointers.container").write_bytes(pointers())
     (folder / "full.container").write_bytes(full())
+    (folder / "writable.container").write_bytes(full(writable=("unnamed",)))
     (folder / "alone.container").write_bytes(container([(SCRIPT, b"")]))
 
 

@@ -34,6 +34,9 @@ short_sizes=($((24 << 20)) $((12 << 20)) $((3 << 20))) # bytes of a DSDT of shor
 buffer_sizes=($((32 << 20)) $((4 << 20)))              # of one of a buffer of fill bytes, which has no rows: the first is all of RAM above 1 MiB
 described=server                       # the example whose dump is decoded beside the readers of its tables
 processors=(4096 1024)                 # of the machines of gen
+cases=$root/crates/run_cases/out/run_cases
+resets=(1000 500)                      # how often a guest is reset
+reset_often=(many few written)         # the containers of bench/containers.py whose loads are
 
 # against WHAT INPUT WORD..: one more program to compare with, what it reads from standard input, and its words.
 against() {
@@ -201,6 +204,25 @@ add_writes() {
     against "the program's --version" /dev/null "$program" --version
 }
 
+# A file that a guest may write, of which a load keeps a copy, beside the same file that it may not.
+add_writable() {
+    local name="load writable"
+    against "load" "$work/writable.container" "$program" load
+    against "load of the same file, read-only" "$work/full.container" "$program" load
+    against "cat of as many bytes as the container has" "$work/writable.container" cat
+}
+
+# add_resets NAME: a load of a container whose guest is reset so often before it begins, by the program of cases, which makes such a plan.
+add_resets() {
+    local name="resets $1" count
+    for count in "${resets[@]}" 0; do
+        python3 "$root/bench/resets.py" "$work/$1.container" "$count" >"$work/$1-$count.cases" || exit 1
+    done
+    against "${resets[0]} resets" /dev/null "$cases" "$work/$1-${resets[0]}.cases"
+    against "${resets[1]} resets" /dev/null "$cases" "$work/$1-${resets[1]}.cases"
+    against "no reset" /dev/null "$cases" "$work/$1-0.cases"
+}
+
 # What is compared beside that for the container of many files and commands.
 add_many() {
     local name="load many"
@@ -277,7 +299,7 @@ compare_all_memory() {
         compare_memory "$input" boot
         compare_memory "$input" build
     done
-    for input in large many full random writes; do
+    for input in large many full writable random writes; do
         compare_memory "$work/$input.container" load
     done
     compare_memory /dev/null gen "${processors[0]}"
@@ -337,7 +359,9 @@ measure_dumps() {
 }
 
 "$root/vmtables" --version || exit 1 # builds the program where it isn't built, in sight
-(cd "$root/crates/aml_again" && rt run </dev/null) || exit 1
+for at in aml_again run_cases; do
+    (cd "$root/crates/$at" && rt run </dev/null >/dev/null) || exit 1
+done
 head -c "$guest_memory" /dev/zero >"$work/memory"
 python3 "$root/bench/descriptions.py" "$work" || exit 1
 for description in "$root"/examples/*.toml "$work/greatest.toml"; do
@@ -359,6 +383,10 @@ for container in large full many random; do
     esac
 done
 add_writes
+add_writable
+for container in "${reset_often[@]}"; do
+    add_resets "$container"
+done
 add_machine
 for kind in "${terms[@]}"; do
     add_terms "$kind"

@@ -16,3 +16,4 @@ pub mod Gathered
 pub mod States
 pub mod HeadFilled
 pub mod Told
+pub mod Restored

@@ -6,5 +6,6 @@ pub mod Fed
 pub mod Held
 pub mod Listing
 pub mod Shapes
+pub mod Restored
 pub use Rattle.vt_outside.specs.Name
 pub use Rattle.vt_bytes.specs.Numbers

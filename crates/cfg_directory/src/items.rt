@@ -1,8 +1,9 @@
-ghost use Rattle.std.specs.Prelude.{◌≡◌, ◌==◌, ◌+◌, ◌<◌, ◌≤◌, [], ◌∷◌, ◌++◌, length, Some, IsSomeAnd, IfOk, OnOk, OnErr};
+ghost use Rattle.std.specs.Prelude.{◌≡◌, ◌==◌, ◌+◌, ◌<◌, ◌≤◌, [], ◌∷◌, ◌++◌, length, Some, true, IsSomeAnd, IfOk, OnOk, OnErr};
 ghost use Rattle.std.specs.Option.{option_copied};
 ghost use Rattle.std.specs.List.{position};
 ghost use Rattle.cfg_directory.specs.Items.{IsItems, HasNoName, HasNoSelect, IsFileSelect, AreNumberedFrom, total_size, file_limit};
 ghost use Rattle.cfg_directory.specs.Items.{bytes_limit, named, selected, with_bytes_at};
+ghost use Rattle.cfg_directory.specs.Restored.{AreKept, kept_bytes, kept_of, restored, restored_item};
 
 use crate::item::Item;
 use std::alloc::Global;
@@ -122,6 +123,29 @@ impl Items {
         }
     }
 
+    /// Returns what each file that may be written holds, and no bytes for each other one, in the files' order: what `restore`
+    /// puts back. All memory comes from `alloc`. It fails with `OutOfMemory` only where memory runs out.
+    pub fn kept(&self, alloc: Global) -> Result<List<Bytes>, OutOfMemory>
+        ensures kept { IfOk result (λ kept. kept ≡ kept_of self.now) }
+        ensures may_be_restored { IfOk result (AreKept self.now) }
+    {
+        let items = self.items.as_slice();
+        let mut kept = List::with_room(alloc, items.len())?;
+        for item in items {
+            kept.push(kept_of(alloc, item)?)?;
+        }
+        Ok(kept)
+    }
+
+    /// Puts back what `kept` gave, in files that may be written. Each other one stays. There must be bytes for each file, as many as
+    /// it has where it may be written. It takes no memory.
+    pub fn restore(&mut self, kept: &[Bytes])
+        requires { AreKept self.old kept.now }
+        ensures { self.new ≡ restored self.old kept.now }
+    {
+        restore_all(&mut self.items, kept);
+    }
+
     /// Lends the files, in the order in which they were added.
     pub fn all(&self) -> &[Item]
         ensures items { result.now ≡ self.now }
@@ -136,4 +160,40 @@ fn index_of(items: &[Item], select: u16) -> Option<usize>
     ensures { result ≡ position (λ item. item.select == select) items.now }
 {
     items.iter().position(|item| item.select == select)
+}
+
+// What an item holds that may be written, and no bytes of any other.
+fn kept_of(alloc: Global, item: &Item) -> Result<Bytes, OutOfMemory>
+    ensures { IfOk result (λ bytes. bytes ≡ kept_bytes item.now) }
+{
+    let bytes = if item.writable {
+        item.bytes.as_slice()
+    } else {
+        &[]
+    };
+    let mut kept = Bytes::new(alloc);
+    kept.extend(bytes)?;
+    Ok(kept)
+}
+
+// Puts these bytes back in items that may be written.
+fn restore_all(items: &mut List<Item>, kept: &[Bytes])
+    requires { AreKept items.old kept.now }
+    ensures { items.new ≡ restored items.old kept.now }
+{
+    let mut place = 0;
+    while place < kept.len() {
+        restore_item(items.get_mut(place), &kept[place]);
+        place += 1;
+    }
+}
+
+// Puts these bytes back where the item may be written.
+fn restore_item(item: &mut Item, kept: &Bytes)
+    requires { item.old.writable ≡ true → length kept.now ≡ length item.old.bytes }
+    ensures { item.new ≡ restored_item item.old kept.now }
+{
+    if item.writable {
+        item.bytes.put(0, kept.as_slice());
+    }
 }

@@ -1,6 +1,6 @@
 //! Laws over the definitions, each the contract of a function that does nothing.
 
-ghost use Rattle.std.specs.Prelude.{◌≡◌, ◌≢◌, ℕ, ◌+◌, ◌*◌, ◌<◌, ◌≤◌, ◌++◌, List, length, Err, IsSomeAnd};
+ghost use Rattle.std.specs.Prelude.{◌≡◌, ◌≢◌, ℕ, ◌+◌, ◌*◌, ◌<◌, ◌≤◌, ◌++◌, true, List, length, Err, IsSomeAnd};
 ghost use Rattle.std.specs.List.{AllByRecursion};
 ghost use Rattle.vt_outside.specs.Name.{IsName};
 ghost use Rattle.cfg_directory.specs.declared.item.Item.{Item};
@@ -10,6 +10,7 @@ ghost use Rattle.vt_bytes.specs.Numbers.{be, be_bytes};
 ghost use Rattle.cfg_directory.specs.Items.{IsItems, AreDistinct, directory_of, selected, with_bytes_at};
 ghost use Rattle.cfg_directory.specs.Listing.{listed_in, listed_of, entries_of};
 ghost use Rattle.cfg_directory.specs.Shapes.{HaveOneShape};
+ghost use Rattle.cfg_directory.specs.Restored.{AreKept, kept_of, restored};
 ghost use Rattle.cfg_directory.specs.Container.{IsContainer, container_of, read_so};
 
 /// States that bytes are a container of one list of items at most.
@@ -48,4 +49,15 @@ pub fn writes_keep_the_shape()
     ensures { (items : List Item) (select offset : ℕ) (piece : List ℕ)
         → IsSomeAnd (selected items select) (λ item. offset + length piece ≤ length item.bytes) → AreDistinct items
         → HaveOneShape items (with_bytes_at items select offset piece) }
+{}
+
+/// States that what is kept of items restores them, and that bytes that are put into a file that may be written, where they fit, leave what
+/// they are restored to.
+pub fn writes_are_taken_back()
+    ensures kept { (items : List Item) → AreKept items (kept_of items) × (restored items (kept_of items) ≡ items) }
+    ensures write { (items : List Item) (kept : List (List ℕ)) (select offset : ℕ) (piece : List ℕ)
+        → IsSomeAnd (selected items select) (λ item. offset + length piece ≤ length item.bytes)
+        → IsSomeAnd (selected items select) (λ item. item.writable ≡ true) → AreDistinct items → AreKept items kept
+        → AreKept (with_bytes_at items select offset piece) kept
+        × (restored (with_bytes_at items select offset piece) kept ≡ restored items kept) }
 {}

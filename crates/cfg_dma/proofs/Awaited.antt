@@ -138,6 +138,7 @@ pub over_goes_on : (a b : Attached) (descriptor : ℕ) (transfer : Finished) →
     → GoesOn a (finish descriptor transfer b)
 over_goes_on a b descriptor transfer lawful moved room = record {
   room = let same = moved.room in let spare = moved.spare in omega (arith, length-append b.device.finished (transfer ∷ []));
+  opening = moved.opening;
   device = record { items = lawful.items; offset = lawful.offset; flight = tt };
   memory = lawful_with b.memory descriptor (be_bytes 4 (end_word transfer)) lawful.memory;
   top = moved.top;
@@ -147,7 +148,7 @@ over_goes_on a b descriptor transfer lawful moved room = record {
 -- and over any piece
 next_goes_on : (o : Option Flight) (bytes : ℕ) (a : Attached) → IsDevice a.device → IsMemory a.memory → IfSome o (IsInFlight a.device)
     → GoesOn a (move_next o bytes a)
-next_goes_on None bytes a device memory is = record { room = refl; device = device; memory = memory; top = refl; fill = refl }
+next_goes_on None bytes a device memory is = record { room = refl; opening = refl; device = device; memory = memory; top = refl; fill = refl }
 next_goes_on (Some flight) bytes a device memory is =
     let kind = flight.transfer.kind in
     let start = flight.transfer.address + flight.moved in
@@ -162,10 +163,11 @@ next_goes_on (Some flight) bytes a device memory is =
     (eqb-false (flight.moved + count) flight.transfer.length unfinished) in
     record {
       room = moved.room;
+      opening = moved.opening;
       device = record {
         items = lawful.items;
         offset = lawful.offset;
-        flight = record { moves = on.moves; left = on.left; fits = on.fits; room = on.room };
+        flight = record { moves = on.moves; left = on.left; fits = on.fits; writable = on.writable; room = on.room };
       };
       memory = lawful.memory;
       top = moved.top;

@@ -8,3 +8,4 @@ pub mod Started
 pub mod Awaited
 pub mod WriteStarted
 pub mod WriteAwaited
+pub mod Standing

@@ -11,9 +11,11 @@ use Rattle.cfg_dma.specs.declared.transfer.Kind.{Kind}
 use Rattle.cfg_dma.specs.declared.transfer.Kind.TheVariants.{Read, Write, Skip, Nothing}
 use Rattle.cfg_dma.specs.declared.transfer.Finished.{Finished}
 use Rattle.cfg_dma.specs.declared.transfer.Flight.{Flight}
-use Rattle.cfg_dma.specs.Device.{DeviceState, IsDevice, IsInFlight, KeepsDirectory, LieInFile, FitsIn, holds, advanced}
+use Rattle.cfg_dma.specs.Device.{DeviceState, IsDevice, IsInFlight, IsWritable, KeepsDirectory, LieInFile, FitsIn, holds, advanced}
 use Rattle.cfg_dma.specs.Transfers.{Attached, attached, move_as}
-use Rattle.cfg_dma.proofs.Written.{Fit, fit_from, fits_less, fits_written, fits_held, directory_written}
+use Rattle.cfg_directory.specs.Restored.{AreKept, restored}
+use Rattle.cfg_directory.proofs.Restored.{write_fits_and_goes}
+use Rattle.cfg_dma.proofs.Written.{Fit, fit_from, fits_less, fits_written, fits_held, directory_written, writable_written}
 use Rattle.cfg_dma.proofs.Runs.{one_more}
 
 -- ---- bytes that are read
@@ -46,25 +48,39 @@ pub memory_fits : (items : List Item) (m : Memory) (select offset address count 
 memory_fits items m select offset address count left distinct fits below =
     fit_from items select offset left (bytes_at m address count) distinct fits (omega (arith, length-bytes_at m address count))
 
-pub written_device : (items now : List Item) (directory : List ℕ) (select offset address count at spare : ℕ) (flight : Option Flight) (finished : List Finished)
-    (m : Memory) → IsItems items → IsItems now → KeepsDirectory items directory → FitsIn items select (offset + count)
+-- what a write leaves of the bytes that are put back at a reset
+taken_back : (items : List Item) (kept : List (List ℕ)) (select offset at count : ℕ) (m : Memory) → IsItems items → AreKept items kept
+    → FitsIn items select (offset + count) → IsWritable items select
+    → AreKept (with_bytes_at items select offset (bytes_at m at count)) kept
+    × (restored (with_bytes_at items select offset (bytes_at m at count)) kept ≡ restored items kept)
+taken_back items kept select offset at count m lawful are fits writable =
+    let size : offset + length (bytes_at m at count) ≡ offset + count = omega (arith, length-bytes_at m at count) in
+    write_fits_and_goes items kept select offset (bytes_at m at count) (subst (FitsIn items select) (sym size) fits) writable lawful.distinct are
+
+pub written_device : (items now : List Item) (kept : List (List ℕ)) (directory : List ℕ) (select offset address count at spare : ℕ) (flight : Option Flight) (finished : List Finished)
+    (m : Memory) → IsItems items → IsItems now → KeepsDirectory items directory → AreKept items kept → FitsIn items select (offset + count)
+    → IsWritable items select
     → now ≡ with_bytes_at items select offset (bytes_at m at count) → flight ≡ None
-    → KeepsDirectory now directory
-    × IsDevice (record { items = now; select = select; offset = offset + count; address = address; flight = flight; finished = finished; spare = spare })
-written_device items now directory select offset address count at spare flight finished m lawful kept keeps fits is idle =
+    → (KeepsDirectory now directory × AreKept now kept)
+    × IsDevice (record { items = now; opening = restored now kept; select = select; offset = offset + count; address = address; flight = flight; finished = finished; spare = spare })
+written_device items now kept directory select offset address count at spare flight finished m lawful after keeps are fits writable is idle =
     let fit = memory_fits items m select offset at count count lawful.distinct fits (omega arith) in
     let fits_now : FitsIn now select (offset + count) =
     subst (λ (is : List Item). FitsIn is select (offset + count)) (sym is)
     (fits_written items select offset (offset + count) (bytes_at m at count) fit fits) in (
+      (
+        record {
+          is = keeps.is ∙ sym (ap directory_of is ∙ directory_written items select offset (bytes_at m at count) fit);
+          small = keeps.small;
+        },
+        subst (λ (is : List Item). AreKept is kept) (sym is) (taken_back items kept select offset at count m lawful are fits writable).0,
+      ),
       record {
-        is = keeps.is ∙ sym (ap directory_of is ∙ directory_written items select offset (bytes_at m at count) fit);
-        small = keeps.small;
-      },
-      record {
-        items = kept;
-        offset = fits_held now select (offset + count) kept.distinct fits_now;
+        items = after;
+        offset = fits_held now select (offset + count) after.distinct fits_now;
         flight = subst (λ (o : Option Flight). IfSome o (IsInFlight (record {
           items = now;
+          opening = restored now kept;
           select = select;
           offset = offset + count;
           address = address;
@@ -76,14 +92,26 @@ written_device items now directory select offset address count at spare flight f
       },
     )
 
-pub written_is : (d : DeviceState) (now : List Item) (m : Memory) (at count : ℕ) → IsItems d.items → LieInFile d count
+pub written_is : (d : DeviceState) (now : List Item) (kept : List (List ℕ)) (m : Memory) (at count : ℕ) → IsItems d.items
+    → d.opening ≡ restored d.items kept → AreKept d.items kept → LieInFile d count → IsWritable d.items d.select
     → now ≡ with_bytes_at d.items d.select d.offset (bytes_at m at count)
-    → record d { items = now; offset = d.offset + count }
+    → record d { items = now; opening = restored now kept; offset = d.offset + count }
     ≡ record (advanced d count) { items = with_bytes_at d.items d.select d.offset (bytes_at m at count) }
-written_is d now m at count lawful fits is =
+written_is d now kept m at count lawful opening are fits writable is =
     let within = fits_held d.items d.select (d.offset + count) lawful.distinct fits in
     let end : d.offset + count ≡ min (d.offset + count) (length (holds d)) = omega arith in
-    ap₂ (λ (items : List Item) (offset : ℕ). record d { items = items; offset = offset }) is end
+    let back : restored now kept ≡ d.opening =
+    ap (λ (items : List Item). restored items kept) is ∙ (taken_back d.items kept d.select d.offset at count m lawful are fits writable).1 ∙ sym opening in
+    ap₂ (λ (items : List Item) (opening : List Item). record d { items = items; opening = opening; offset = d.offset + count }) is back
+    ∙ ap (λ offset. record d { items = with_bytes_at d.items d.select d.offset (bytes_at m at count); offset = offset }) end
+
+-- a file that a write goes to stays one that may be written
+pub still_writable : (kind : Kind) (d : DeviceState) (m : Memory) (address count : ℕ) → (kind ≡ Write → IsWritable d.items d.select)
+    → kind ≡ Write → IsWritable (move_as kind address count (attached d m)).device.items (move_as kind address count (attached d m)).device.select
+still_writable Read d m address count may is = absurd (cc)
+still_writable Skip d m address count may is = absurd (cc)
+still_writable Nothing d m address count may is = absurd (cc)
+still_writable Write d m address count may is = writable_written d.items d.select d.offset (bytes_at m address count) (may refl)
 
 -- ---- a transfer that goes on
 
@@ -126,5 +154,8 @@ goes_on d now m m' flight address count lawful is below after unfinished =
           subst (λ (d : DeviceState). LieInFile d (flight.transfer.length - (flight.moved + count))) (sym device)
           (subst (λ k. LieInFile (move_as flight.transfer.kind address count (attached d m)).device k) rest
           (still_fits flight.transfer.kind d m address count left lawful is.fits below writes));
+      writable = λ writes.
+          subst (λ (d : DeviceState). IsWritable d.items d.select) (sym device)
+          (still_writable flight.transfer.kind d m address count is.writable writes);
       room = let r = is.room in omega (arith, ap (λ (d : DeviceState). d.spare) device, same_room flight.transfer.kind d m address count);
     }

@@ -19,7 +19,7 @@ use Rattle.cfg_dma.specs.declared.transfer.Finished.{Finished}
 use Rattle.cfg_dma.specs.declared.transfer.Kind.{Kind}
 use Rattle.cfg_dma.specs.declared.transfer.Kind.TheVariants.{Read, Write, Skip, Nothing}
 use Rattle.cfg_dma.specs.Descriptor.{descriptor_in, kind_of, has_bit, selects, select_of}
-use Rattle.cfg_dma.specs.Device.{DeviceState, IsDevice, Moves, FitsIn, contents, with_selected}
+use Rattle.cfg_dma.specs.Device.{DeviceState, IsDevice, IsWritable, Moves, FitsIn, contents, with_selected}
 use Rattle.cfg_dma.specs.Transfers.{Attached, attached, begin_moving, begin_as, transfer_of, carry_out, start}
 use Rattle.cfg_dma.specs.Events.{with_high, with_low}
 use Rattle.cfg_dma.specs.Reads.{CanRead, AsksFor, IsMoving, GoesOn, next_read, descriptor_bytes, started}
@@ -180,18 +180,20 @@ can_start top descriptor transfer lawful descriptor_ram some ram sound =
     let low = range_low top transfer.address transfer.length lawful some ram in
     record { ram = descriptor_ram; length = omega arith; address = omega arith; sound = sound }
 
--- A transfer that moves bytes, and some, from an offset within its item on. A write fits into it.
+-- A transfer that moves bytes, and some, from an offset within its item on. A write fits into it, and it may be written.
 pub record CanMoveBytes (items : List Item) (transfer : Finished) : Type 0 where
   pub moves : Moves transfer.kind
   pub some : 0 < transfer.length
   pub within : transfer.offset ≤ length (contents items transfer.select)
   pub fits : transfer.kind ≡ Write → FitsIn items transfer.select (transfer.offset + transfer.length)
+  pub writable : transfer.kind ≡ Write → IsWritable items transfer.select
 
 -- once it is in flight all around goes on
 pub moving_goes_on : (a : Attached) (descriptor : ℕ) (transfer : Finished) (bytes : List ℕ) → IsDevice a.device → IsMemory a.memory → 0 < a.device.spare
     → CanMoveBytes a.device.items transfer → GoesOn a (attached (moving descriptor transfer a.device) (with_bytes a.memory descriptor bytes))
 moving_goes_on a descriptor transfer bytes device memory room can = record {
   room = refl;
+  opening = refl;
   device = record {
     items = device.items;
     offset = can.within;
@@ -201,6 +203,7 @@ moving_goes_on a descriptor transfer bytes device memory room can = record {
       fits = λ writes.
           fits_less a.device.items transfer.select (transfer.offset + (transfer.length - 0)) (transfer.offset + transfer.length) (omega arith)
           (can.fits writes);
+      writable = can.writable;
       room = room;
     };
   };
@@ -267,6 +270,7 @@ read_is_started a before descriptor control transfer device memory idle room fin
         some = can.some;
         within = omega arith;
         fits = λ writes. let reads = can.kind in absurd (cc);
+        writable = λ writes. let reads = can.kind in absurd (cc);
       }),
       refl,
       refl,

@@ -51,7 +51,7 @@ skip_is_over a before descriptor select count device memory idle room finished c
         finished = ap (λ (transfers : List Finished). transfers ++ transfer ∷ []) finished;
       },
       over_goes_on a b descriptor transfer (record { items = device.items; offset = omega arith; memory = lawful })
-          (record { room = refl; spare = refl; top = refl; fill = refl }) room,
+          (record { room = refl; spare = refl; opening = refl; top = refl; fill = refl }) room,
       refl,
       λ address other.
           beside_stays m descriptor (be_bytes 4 0) address lawful (omega arith) other ∙ others_with a.memory descriptor bytes address memory other,
@@ -114,6 +114,7 @@ write_is_started a before descriptor transfer device memory idle room finished c
         some = can.some;
         within = omega arith;
         fits = λ writes. can.fits;
+        writable = λ writes. can.writable;
       }),
       refl,
     )

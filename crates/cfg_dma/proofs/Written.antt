@@ -17,7 +17,7 @@ use Rattle.vt_layout.specs.Rows.{spelled}
 use Rattle.cfg_directory.specs.declared.item.Item.{Item}
 use Rattle.cfg_directory.specs.Items.{IsItems, AreDistinct, HasNoSelect, selected, with_bytes_at, directory_of, entry_rows, entry_bytes}
 use Rattle.cfg_directory.proofs.BytesPut.{IsFound, one_put, fits_in, IsItems-put}
-use Rattle.cfg_dma.specs.Device.{contents, bytes_of, signature, features, FitsIn}
+use Rattle.cfg_dma.specs.Device.{contents, bytes_of, signature, features, FitsIn, IsWritable}
 use Rattle.cfg_dma.proofs.Holds.{bytes_small, contents-file}
 
 -- whether an item has a selector; an item with bytes put into its own; and the same, only where it has the selector
@@ -235,6 +235,26 @@ fits_written (item ∷ items) select offset count piece fit fits =
           subst (λ (o : Option Item). IsSomeAnd o P) (sym (cond-true (has select now) (Some now) (selected rest select) (named ∙ its))) still
       | inr not ↦
           let later = fits_written items select offset count piece fit.1 (found_later P item items select not fits) in
+          subst (λ (o : Option Item). IsSomeAnd o P) (sym (cond-false (has select now) (Some now) (selected rest select) (named ∙ not))) later
+    ]
+
+-- a file that may be written stays one
+pub writable_written : (items : List Item) (select offset : ℕ) (piece : List ℕ) → IsWritable items select
+    → IsWritable (with_bytes_at items select offset piece) select
+writable_written [] select offset piece may = may
+writable_written (item ∷ items) select offset piece may =
+    let now = put_if select offset piece item in
+    let rest = with_bytes_at items select offset piece in
+    let named : has select now ≡ has select item = ap (λ s. s == select) (item_select select offset piece item) in
+    let same : now.writable ≡ item.writable =
+    cond_both (has select item) (put_in offset piece item) item (λ (i : Item). i.writable ≡ item.writable) (λ _. refl) (λ _. refl) in
+    let P : Item → Type 0 = λ (i : Item). i.writable ≡ true in
+    elim (cases_Bool (has select item)) as (λ _. IsWritable (now ∷ rest) select) [
+      | inl its ↦
+          subst (λ (o : Option Item). IsSomeAnd o P) (sym (cond-true (has select now) (Some now) (selected rest select) (named ∙ its)))
+          (same ∙ found_here P item items select its may)
+      | inr not ↦
+          let later = writable_written items select offset piece (found_later P item items select not may) in
           subst (λ (o : Option Item). IsSomeAnd o P) (sym (cond-false (has select now) (Some now) (selected rest select) (named ∙ not))) later
     ]
 

@@ -1,5 +1,7 @@
 -- A fw_cfg device as contracts see it: its items and its state (QEMU, docs/specs/fw_cfg).
-use Rattle.std.specs.Prelude.{◌≡◌, ℕ, ◌+◌, ◌-◌, ◌^◌, ◌<◌, ◌≤◌, ◌==◌, List, [], ◌∷◌, length, slice_index, min, Option, IfSome, IsSomeAnd, if◌then◌else◌}
+use Rattle.std.specs.Prelude.{◌≡◌, ℕ, ◌+◌, ◌-◌, ◌^◌, ◌<◌, ◌≤◌, ◌==◌, true, List, [], ◌∷◌, length, slice_index, min, Option, None, IfSome, IfNone}
+use Rattle.std.specs.Prelude.{MatchOption, IsSomeAnd, if◌then◌else◌}
+use Rattle.std.specs.List.{last_or}
 use Rattle.std.specs.Option.{option_map_or}
 use Rattle.vt_bytes.specs.Numbers.{le_bytes}
 use Rattle.cfg_directory.specs.declared.item.Item.{Item}
@@ -11,8 +13,9 @@ use Rattle.cfg_dma.specs.declared.transfer.Flight.{Flight}
 
 -- The state of a device.
 pub record DeviceState : Type 0 where
-  -- its files
+  -- its files, and what they were when it began
   pub items : List Item
+  pub opening : List Item
   -- the selected item, and the offset in it
   pub select : ℕ
   pub offset : ℕ
@@ -71,6 +74,10 @@ FitsIn items select count = IsSomeAnd (selected items select) (λ (item : Item).
 abbrev pub LieInFile : DeviceState → ℕ → Type 0
 LieInFile d count = FitsIn d.items d.select (d.offset + count)
 
+-- a selector is that of a file that may be written
+abbrev pub IsWritable : List Item → ℕ → Type 0
+IsWritable items select = IsSomeAnd (selected items select) (λ (item : Item). item.writable ≡ true)
+
 -- transfers that move bytes
 abbrev pub Moves : Kind → Type 0
 Moves Read = Unit {0}
@@ -78,12 +85,13 @@ Moves Write = Unit {0}
 Moves Skip = ⊥
 Moves Nothing = ⊥
 
--- What holds of a transfer in flight: it moves bytes, some are left, what is left to write fits in the item, and there is room for
--- it among those that are over.
+-- What holds of a transfer in flight: it moves bytes, some are left, what is left to write fits in the item, which may be written, and
+-- there is room for it among those that are over.
 pub record IsInFlight (d : DeviceState) (f : Flight) : Type 0 where
   pub moves : Moves f.transfer.kind
   pub left : f.moved < f.transfer.length
   pub fits : f.transfer.kind ≡ Write → LieInFile d (f.transfer.length - f.moved)
+  pub writable : f.transfer.kind ≡ Write → IsWritable d.items d.select
   pub room : 0 < d.spare
 
 -- What each device keeps: its items are lawful, its offset isn't past the end of the selected one, and what is said above holds of a
@@ -92,6 +100,31 @@ pub record IsDevice (d : DeviceState) : Type 0 where
   pub items : IsItems d.items
   pub offset : d.offset ≤ length (holds d)
   pub flight : IfSome d.flight (IsInFlight d)
+
+-- a device of which so many bytes of a transfer were moved has its item selected, and is behind these bytes
+abbrev pub StandsBehind : Finished → ℕ → DeviceState → Type 0
+StandsBehind transfer moved d = (d.select ≡ transfer.select) × (d.offset ≡ transfer.offset + moved)
+
+-- A device stands where its last transfer left it, or as far as the one in flight has come, and before the first one where it began. The address
+-- register is 0.
+pub record StandsWhereLeft (d : DeviceState) : Type 0 where
+  pub address : d.address ≡ 0
+  pub moving : IfSome d.flight (λ (flight : Flight). StandsBehind flight.transfer flight.moved d)
+  pub idle : IfNone d.flight (MatchOption (last_or None d.finished) ((d.select ≡ 0) × (d.offset ≡ 0)) (λ (t : Finished). StandsBehind t t.length d))
+
+-- The device after a reset: its files are what they were when it began, item 0x0000 is selected, at offset 0, the address register is 0, no
+-- transfer is in flight, and none is over; there is room for as many as before.
+abbrev pub reset_device : DeviceState → DeviceState
+reset_device d = record {
+  items = d.opening;
+  opening = d.opening;
+  select = 0x0000;
+  offset = 0;
+  address = 0;
+  flight = None;
+  finished = [];
+  spare = length d.finished + d.spare;
+}
 
 -- the bytes that a device keeps as its directory: no more than an offset can count
 pub record KeepsDirectory (items : List Item) (directory : List ℕ) : Type 0 where

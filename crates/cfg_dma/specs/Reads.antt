@@ -80,9 +80,10 @@ abbrev pub IsAwaited : List Item → List Finished → ℕ → ℕ → Finished 
 IsAwaited items before descriptor control transfer a =
     IsMoving items before descriptor control transfer a ⊎ IsOver items before descriptor transfer a
 
--- A device goes on with its room, and memory with its top and its fill byte; both stay lawful.
+-- A device goes on with its room and its opening files, and memory with its top and its fill byte; both stay lawful.
 pub record GoesOn (before after : Attached) : Type 0 where
   pub room : room_of after.device ≡ room_of before.device
+  pub opening : after.device.opening ≡ before.device.opening
   pub device : IsDevice after.device
   pub memory : IsMemory after.memory
   pub top : after.memory.top ≡ before.memory.top

@@ -3,13 +3,13 @@ ghost use Rattle.std.specs.List.{AllByRecursion};
 ghost use Rattle.std.specs.Option.{option_copied};
 ghost use Rattle.vt_outside.specs.Name.{IsName};
 ghost use Rattle.cfg_directory.specs.Items.{selected};
-ghost use Rattle.cfg_dma.specs.Device.{IsDevice, contents, bytes_of};
+ghost use Rattle.cfg_dma.specs.Device.{IsDevice, contents, bytes_of, reset_device};
 
 use crate::transfer::{Finished, Flight};
 use cfg_directory::{Item, Items, directory_bytes};
 use std::alloc::Global;
 use std::marker::Model;
-use vt_outside::{Bytes, OutOfMemory};
+use vt_outside::{Bytes, List, OutOfMemory};
 
 // Item 0x0000.
 const SIGNATURE: [u8; 4] = [0x51, 0x45, 0x4D, 0x55];
@@ -22,6 +22,8 @@ const FEATURES: [u8; 4] = [3, 0, 0, 0];
 #[derive(Drop)]
 pub struct Device {
     pub(crate) items: Items,
+    // What the files held that may be written, when the device began.
+    kept: List<Bytes>,
     // Item 0x0019. No write changes it.
     directory: Bytes,
     pub(crate) select: u16,
@@ -34,12 +36,14 @@ pub struct Device {
 
 impl Model for Device {
     ghost use Rattle.std.specs.Prelude.{◌-◌, vec_capacity, vec_len};
+    ghost use Rattle.cfg_directory.specs.Restored.{AreKept, restored};
     ghost use Rattle.cfg_dma.specs.Device.{DeviceState, IsDevice, KeepsDirectory};
 
     ghost Value = { DeviceState };
 
     ghost view = { λ d. record {
       items = d.items;
+      opening = restored d.items d.kept;
       select = d.select;
       offset = d.offset;
       address = d.address;
@@ -48,8 +52,9 @@ impl Model for Device {
       spare = vec_capacity d.finished - vec_len d.finished;
     } };
 
-    ghost invariant = { λ d. KeepsDirectory d.items d.directory × IsDevice (record {
+    ghost invariant = { λ d. (KeepsDirectory d.items d.directory × AreKept d.items d.kept) × IsDevice (record {
       items = d.items;
+      opening = restored d.items d.kept;
       select = d.select;
       offset = d.offset;
       address = d.address;
@@ -65,6 +70,7 @@ impl Device {
     pub fn begin(alloc: Global, items: Items, transfers: u32) -> Result<Device, OutOfMemory>
         ensures begun { IfOk result (λ device. device ≡ record {
           items = items;
+          opening = items;
           select = 0x0000;
           offset = 0;
           address = 0;
@@ -76,9 +82,11 @@ impl Device {
         ensures device { IfOk result IsDevice }
     {
         let directory = directory_bytes(alloc, &items)?;
+        let kept = items.kept(alloc)?;
         let finished = Vec::with_capacity(alloc, transfers as usize)?;
         Ok(Device {
             items,
+            kept,
             directory,
             select: 0,
             offset: 0,
@@ -86,6 +94,19 @@ impl Device {
             flight: None,
             finished,
         })
+    }
+
+    /// Makes the device what it was when it began: what the guest wrote is gone, and so are the transfers. No more transfers are over,
+    /// and there is room for as many in all as before. It takes no memory.
+    pub fn reset(&mut self)
+        ensures { self.new ≡ reset_device self.old }
+    {
+        self.items.restore(self.kept.as_slice());
+        self.select = 0;
+        self.offset = 0;
+        self.address = 0;
+        self.flight = None;
+        self.finished.clear();
     }
 
     /// Tells whether a transfer is in flight.

@@ -2,7 +2,7 @@ ghost use Rattle.std.specs.Prelude.{◌≡◌, ◌<◌, None, true};
 ghost use Rattle.vt_bytes.specs.Memory.{IsRamRange};
 ghost use Rattle.guest_memory.specs.Touched.{TouchesOnly};
 ghost use Rattle.cfg_dma.specs.declared.transfer.Kind.TheVariants.{Write};
-ghost use Rattle.cfg_dma.specs.Device.{LieInFile, Moves};
+ghost use Rattle.cfg_dma.specs.Device.{LieInFile, IsWritable, Moves};
 ghost use Rattle.cfg_dma.specs.Transfers.{attached, CanMove, room_of, finish, begin_moving, begin_as, transfer_of, carry_out, start, may_write};
 ghost use Rattle.cfg_dma.specs.Events.{LowWritten, happens, with_low};
 ghost use Rattle.cfg_dma.specs.Touching.{IsInDescriptor};
@@ -116,6 +116,7 @@ impl Device {
         requires room { 0 < self.old.spare }
         requires moves { Moves transfer.kind }
         requires fits { allowed ≡ true → transfer.kind ≡ Write → LieInFile self.old transfer.length }
+        requires writable { allowed ≡ true → transfer.kind ≡ Write → IsWritable self.old.items self.old.select }
         ensures after { attached self.new memory.new.memory ≡ begin_moving allowed descriptor transfer (attached self.old memory.old.memory) }
         ensures touches { TouchesOnly (IsInDescriptor descriptor) memory.old.memory.top memory.old.touched memory.new.touched }
     {
@@ -140,6 +141,7 @@ impl Device {
     fn may_write(&self, count: u32) -> bool
         ensures value { result ≡ may_write self.now count }
         ensures fits { result ≡ true → LieInFile self.now count }
+        ensures writable { result ≡ true → IsWritable self.now.items self.now.select }
     {
         match self.items.by_select(self.select) {
             Some(item) => {

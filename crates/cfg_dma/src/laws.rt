@@ -36,11 +36,12 @@ pub fn a_transfer_in_flight_keeps_to_its_range()
         → at (piece bytes a).memory address ≡ at a.memory address }
 {}
 
-/// States what any event leaves as it was: how many transfers are over or have room, and the top and the fill byte of memory. A transfer
-/// that is in flight then has its descriptor and its range in RAM.
+/// States what any event leaves as it was: how many transfers are over or have room, what the files were when the device began, and the top and
+/// the fill byte of memory. A transfer that is in flight then has its descriptor and its range in RAM.
 pub fn events_keep_the_room()
     ensures { (e : Event) (a : Attached) → IsDevice a.device → CanMove a → MayHappen e a
         → CanMove (happens e a) × (room_of (happens e a).device ≡ room_of a.device)
+        × ((happens e a).device.opening ≡ a.device.opening)
         × ((happens e a).memory.top ≡ a.memory.top) × ((happens e a).memory.fill ≡ a.memory.fill) }
 {}
 

@@ -3,7 +3,7 @@ ghost use Rattle.vt_bytes.specs.Memory.{IsRamRange, IsMemory, bytes_at, with_byt
 ghost use Rattle.guest_memory.specs.Touched.{TouchesOnly};
 ghost use Rattle.cfg_directory.specs.Items.{IsItems, with_bytes_at};
 ghost use Rattle.cfg_dma.specs.declared.transfer.Kind.TheVariants.{Read, Write};
-ghost use Rattle.cfg_dma.specs.Device.{LieInFile, FitsIn, IsDevice, IsInFlight, advanced};
+ghost use Rattle.cfg_dma.specs.Device.{LieInFile, FitsIn, IsDevice, IsInFlight, IsWritable, advanced};
 ghost use Rattle.cfg_dma.specs.Transfers.{attached, CanMove, room_of, move_as, move_next, next_bytes, settle, piece};
 ghost use Rattle.cfg_dma.specs.Events.{Piece, happens};
 ghost use Rattle.cfg_dma.specs.Touching.{IsAmong, IsInDescriptor, IsTouchedBy, MayTouch};
@@ -82,6 +82,7 @@ impl Device {
         requires ram { IsRamRange memory.old.memory.top address count }
         requires idle { self.old.flight ≡ None }
         requires fits { kind ≡ Write → LieInFile self.old count }
+        requires writable { kind ≡ Write → IsWritable self.old.items self.old.select }
         ensures after { attached self.new memory.new.memory ≡ move_as kind address count (attached self.old memory.old.memory) }
         ensures touches { TouchesOnly (λ place. (kind ≡ Read) × IsAmong address count place) memory.old.memory.top memory.old.touched memory.new.touched }
     {
@@ -112,6 +113,7 @@ impl Device {
         requires ram { IsRamRange memory.now.memory.top address count }
         requires idle { self.old.flight ≡ None }
         requires fits { LieInFile self.old count }
+        requires writable { IsWritable self.old.items self.old.select }
         ensures { self.new ≡ record (advanced self.old count) {
           items = with_bytes_at self.old.items self.old.select self.old.offset (bytes_at memory.now.memory address count);
         } }

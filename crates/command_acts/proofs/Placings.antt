@@ -1,6 +1,6 @@
 -- Which files are placed, and where.
 use Rattle.std.proofs.Common.{◌≡◌, ℕ, zero, suc, ◌+◌, ◌<◌, ◌≤◌, ◌^◌, inl, inr, true, false, List, [], ◌∷◌, ◌++◌, length, Option, Some, None}
-use Rattle.std.proofs.Common.{option_map, cond, slice_set, get_or, IsSome, is_some, ltb, replicate, vec_capacity, length-append, arith, refl, ap, ap₂}
+use Rattle.std.proofs.Common.{option_map, cond, slice_set, get_or, IsSome, is_some, ltb, drop, replicate, vec_capacity, length-append, arith, refl, ap, ap₂}
 use Rattle.std.proofs.Common.{subst, sym, ◌∙◌}
 use Rattle.std.proofs.lemmas.List.{length-map, get_or_read}
 use Rattle.std.specs.List.{AllByRecursion, position, position_or_len}
@@ -411,3 +411,11 @@ place_low m placed name at all named =
     let low : EndsLow (standing placed name at) =
     of_found EndsLow (λ (q : PlacedFile). bytes_eq q.name name) placed (standing placed name at) named (each_low m.top placed all) in
     omega (arith, low)
+
+-- one place more is nowhere
+pub nowhere_more : (places : List (Option ℕ)) (index : ℕ) → index < length places
+    → slice_set (replicate {A = Option ℕ} index None ++ drop index places) index None ≡ replicate {A = Option ℕ} (suc index) None ++ drop (suc index) places
+nowhere_more [] index within = absurd (omega arith)
+nowhere_more (place ∷ places) zero within = refl
+nowhere_more (place ∷ places) (suc index) within =
+    ap (λ (rest : List (Option ℕ)). None ∷ rest) (nowhere_more places index (omega arith))

@@ -94,6 +94,17 @@ impl Placements {
         self.places[index] = Some(file.place);
         self.placed.push_reserved(file);
     }
+
+    /// Notes that no file is placed any more. It takes no memory.
+    pub fn clear(&mut self)
+        requires are { ArePlacements self.old }
+        ensures are { ArePlacements self.new }
+        ensures infos { self.new.infos ≡ self.old.infos }
+        ensures none { self.new.placed.items ≡ [] }
+    {
+        put_nowhere(&mut self.places);
+        self.placed.clear();
+    }
 }
 
 /// Lists what the causes of a refusal need to know of the files of a device: the name, the size and the writable mark of each item,
@@ -119,6 +130,17 @@ fn info_of(item: &Item) -> FileInfo
         name: item.name,
         size: item.bytes.len() as u32,
         writable: item.writable,
+    }
+}
+
+// Puts each file nowhere.
+fn put_nowhere(places: &mut Vec<Option<u64>>)
+    ensures { places.new.items ≡ replicate (length places.old.items) None }
+{
+    let mut index = 0;
+    while index < places.len() {
+        places[index] = None;
+        index += 1;
     }
 }
 

@@ -32,7 +32,6 @@ use Rattle.cfg_dma.specs.Reads.{IsOver}
 use Rattle.command_acts.specs.Runs.{Answers}
 use Rattle.command_acts.specs.declared.fault.LoadFault.{LoadFault}
 use Rattle.command_acts.specs.Script.{script_in, script_from}
-use Rattle.load_states.specs.declared.event.Event.{Event}
 use Rattle.load_states.specs.declared.stage.Stage.{Stage}
 use Rattle.load_states.specs.declared.reading.Reading.{Reading}
 use Rattle.load_states.specs.declared.stage.Stage.TheVariants.{Asks, Awaits, AtCommand, AsksWrite, AwaitsWrite}
@@ -40,7 +39,7 @@ use Rattle.load_states.specs.Guarded.{descriptor_at, buffer_at}
 use Rattle.load_states.specs.LoadState.{LoadState, memory_of, items_now}
 use Rattle.load_states.specs.Steps.{asked, buffered, is_over}
 use Rattle.load_states.specs.Moves.{most_transfers, count_read}
-use Rattle.load_states.specs.Kept.{IsKept, IsIdle, StageKeeps, HasScript, HasCommands, IsComing, Knows, read_by, moves_before}
+use Rattle.load_states.specs.Kept.{KeepsNow, IsIdle, StageKeeps, HasScript, HasCommands, IsComing, Knows, read_by, moves_before}
 use Rattle.load_states.proofs.Known.{few_before, word_of}
 use Rattle.load_states.proofs.Readings.{IsReadOver}
 use Rattle.load_states.proofs.Looks.{over_now}
@@ -54,35 +53,35 @@ use Rattle.loader_script.specs.Refusal.{AreDistinct}
 use Rattle.firmware_load.proofs.Allocating.{distinct_placements}
 
 -- what holds at the stage that a load is at
-abbrev at_stage : {May : Answers} {items : List Item} {top fill : ℕ} {events : List Event} {w : LoadState} {stage : Stage}
-    → IsKept May items top fill events w → w.stage ≡ stage → StageKeeps May items w stage
-at_stage {May} {items} {top} {fill} {events} {w} kept is = subst (StageKeeps May items w) is kept.stage
+abbrev at_stage : {May : Answers} {items : List Item} {top fill : ℕ} {w : LoadState} {stage : Stage}
+    → KeepsNow May items top fill w → w.stage ≡ stage → StageKeeps May items w stage
+at_stage {May} {items} {top} {fill} {w} kept is = subst (StageKeeps May items w) is kept.stage
 
 -- ---- stages that ask
 
 -- there is room for one more transfer where fewer are over than a load makes at most
-room_left : {May : Answers} {items : List Item} {top fill : ℕ} {events : List Event} {w : LoadState} {before : List Finished}
-    → IsKept May items top fill events w → IsIdle w before → length before < most_transfers items → 0 < w.attached.device.spare
+room_left : {May : Answers} {items : List Item} {top fill : ℕ} {w : LoadState} {before : List Finished}
+    → KeepsNow May items top fill w → IsIdle w before → length before < most_transfers items → 0 < w.attached.device.spare
 room_left kept idle few = omega (arith, kept.room, few, ap length idle.finished)
 
 -- so there is for a read that is asked for
-pub reading_starts : {May : Answers} {items : List Item} {top fill : ℕ} {events : List Event} {w : LoadState} {reading : Reading}
-    → IsKept May items top fill events w → w.stage ≡ Asks reading → 0 < w.attached.device.spare
-reading_starts {May} {items} {top} {fill} {events} {w} {reading} kept is =
+pub reading_starts : {May : Answers} {items : List Item} {top fill : ℕ} {w : LoadState} {reading : Reading}
+    → KeepsNow May items top fill w → w.stage ≡ Asks reading → 0 < w.attached.device.spare
+reading_starts {May} {items} {top} {fill} {w} {reading} kept is =
     let keeps = at_stage kept is in room_left kept keeps.1.1.idle (few_before May items w reading keeps.0 keeps.1.0)
 
 -- ---- stages that await
 
 -- what is known while a read is awaited
-abbrev pub known_at : {May : Answers} {items : List Item} {top fill : ℕ} {events : List Event} {w : LoadState} {reading : Reading}
-    → IsKept May items top fill events w → w.stage ≡ Awaits reading → Knows May items w reading
+abbrev pub known_at : {May : Answers} {items : List Item} {top fill : ℕ} {w : LoadState} {reading : Reading}
+    → KeepsNow May items top fill w → w.stage ≡ Awaits reading → Knows May items w reading
 known_at kept is = (at_stage kept is).0
 
 -- and the read is over, once a look at the control word has found it zero
-pub over_at : {May : Answers} {items : List Item} {top fill : ℕ} {events : List Event} {w : LoadState} {reading : Reading}
-    → (kept : IsKept May items top fill events w) → (is : w.stage ≡ Awaits reading) → is_over w ≡ true
+pub over_at : {May : Answers} {items : List Item} {top fill : ℕ} {w : LoadState} {reading : Reading}
+    → (kept : KeepsNow May items top fill w) → (is : w.stage ≡ Awaits reading) → is_over w ≡ true
     → IsReadOver (read_by May items w reading (known_at kept is)) w
-over_at {May} {items} {top} {fill} {events} {w} {reading} kept is cleared =
+over_at {May} {items} {top} {fill} {w} {reading} kept is cleared =
     let keeps = at_stage kept is in
     let r = read_by May items w reading keeps.0 in
     let word = word_of May items w reading kept.lawful kept.device.items keeps.0 in
@@ -148,9 +147,9 @@ commands_fit {items} {w} {select} {size} {taken} {room} has rooms =
 -- ---- stages of the script's run
 
 -- the index of a command is small
-pub command_small : {May : Answers} {items : List Item} {top fill : ℕ} {events : List Event} {w : LoadState} {index : ℕ}
-    → IsKept May items top fill events w → w.stage ≡ AtCommand index → index ≤ 8192
-command_small {May} {items} {top} {fill} {events} {w} {index} kept is =
+pub command_small : {May : Answers} {items : List Item} {top fill : ℕ} {w : LoadState} {index : ℕ}
+    → KeepsNow May items top fill w → w.stage ≡ AtCommand index → index ≤ 8192
+command_small {May} {items} {top} {fill} {w} {index} kept is =
     let keeps = at_stage kept is in omega (arith, script_short items w.script keeps.0.script, keeps.1)
 
 -- so is that of one that is there
@@ -163,17 +162,17 @@ pub file_small : {May : Answers} {items : List Item} {w : LoadState} {index : �
 file_small {May} {items} {w} {index} coming =
     there_small items w index (Allocate coming.last.name coming.align coming.zone) coming.script coming.command
 
-pub write_small : {May : Answers} {items : List Item} {top fill : ℕ} {events : List Event} {w : LoadState} {index : ℕ}
-    → IsKept May items top fill events w → w.stage ≡ AwaitsWrite index → index < 8192
-write_small {May} {items} {top} {fill} {events} {w} {index} kept is =
+pub write_small : {May : Answers} {items : List Item} {top fill : ℕ} {w : LoadState} {index : ℕ}
+    → KeepsNow May items top fill w → w.stage ≡ AwaitsWrite index → index < 8192
+write_small {May} {items} {top} {fill} {w} {index} kept is =
     let known = (at_stage kept is).1 in
     there_small items w index (WritePointer known.dest known.src known.dst_offset known.src_offset known.size) known.script known.command
 
 -- there is room for a transfer more, and for another one
-spare_left : {May : Answers} {items : List Item} {top fill : ℕ} {events : List Event} {w : LoadState} (index : ℕ) (entry : Entry)
-    → IsKept May items top fill events w → HasScript items w → slice_get w.script index ≡ Some entry
+spare_left : {May : Answers} {items : List Item} {top fill : ℕ} {w : LoadState} (index : ℕ) (entry : Entry)
+    → KeepsNow May items top fill w → HasScript items w → slice_get w.script index ≡ Some entry
     → length w.attached.device.finished ≤ length (moves_before items index w w.placed) + 1 → 0 < w.attached.device.spare
-spare_left {May} {items} {top} {fill} {events} {w} index entry kept has there few =
+spare_left {May} {items} {top} {fill} {w} index entry kept has there few =
     omega (arith, kept.room, few, room_at items w.script index w.placed has.script (slice_get_within w.script index entry there))
 
 -- A guest is ready for the command that its firmware is at.

@@ -9,6 +9,7 @@ pub mod Listings
 pub mod AtStages
 pub mod LoadStates
 pub mod Touching
+pub mod Refilled
 pub mod Opening
 pub mod AtCommands
 pub mod CanMove

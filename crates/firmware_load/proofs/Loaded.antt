@@ -14,7 +14,8 @@ use Rattle.command_acts.specs.Runs.{Answers}
 use Rattle.load_states.specs.declared.event.Event.{Event}
 use Rattle.load_states.specs.declared.stage.Stage.{Stage}
 use Rattle.load_states.specs.declared.stage.Stage.TheVariants.{Asks, Awaits, AtCommand, AwaitsSkip, AsksWrite, AwaitsWrite, Done, Refused}
-use Rattle.load_states.specs.Loads.{most_closing, stage_after, opening_stage}
+use Rattle.load_states.specs.Loads.{most_closing, stage_after}
+use Rattle.load_states.specs.Steps.{opening_stage}
 use Rattle.load_states.specs.LoadState.{LoadState, memory_of}
 use Rattle.load_states.specs.Runs.{EndsAfter, closing_events, has_ended}
 use Rattle.load_states.proofs.WholeRuns.{loaded_over}

@@ -18,7 +18,7 @@ use Rattle.load_states.specs.LoadState.{LoadState, memory_of}
 use Rattle.load_states.specs.Runs.{AnyLawful, EndsAfter, StepsTo, has_ended, request_of}
 use Rattle.load_states.proofs.NoRoomAsked.{no_room_asks}
 use Rattle.load_states.proofs.Readings.{no_room_of}
-use Rattle.load_states.proofs.StepKeeps.{step_keeps}
+use Rattle.load_states.proofs.StepKeeps.{step_keeps, step_keeps_now}
 use Rattle.firmware_load.specs.World.{IsWithoutRoom, IsSound}
 use Rattle.firmware_load.specs.declared.loading.Loading.{Loading}
 use Rattle.firmware_load.specs.Inside.{load_of, IsInside, IsOnRun, AsksOnTheWay}
@@ -49,7 +49,7 @@ follows_more May first w next event left_first left left_now lawful follows is r
       so.0 ++ event ∷ [],
       so.1 ∙ ap (λ es. so.0 ++ es) is ∙ sym (append_assoc so.0 (event ∷ []) left_now),
       subst (λ (es : List Event). IsOnRun May begun es next) (append_assoc before so.0 (event ∷ []))
-          (run_more May begun (before ++ so.0) event w next (subst (AreLawful May) on.kept.top lawful) so.2 running steps),
+          (run_more May begun (before ++ so.0) event w next (subst (AreLawful May) on.kept.now.top lawful) so.2 running steps),
     )
 
 -- the schedule has no more
@@ -94,7 +94,7 @@ pub step_asks : (May : Answers) (items : List Item) (event : Event) (before afte
 step_asks May items event before after alloc_before alloc_after lawful inside running steps without sound =
     let top = before.guest.memory.memory.top in
     let fill = before.guest.memory.memory.fill in
-    let kept = step_keeps (AnyLawful top) items top fill inside.events event (load_of before) (load_of after) (λ handed request place free. free)
+    let kept = step_keeps_now (AnyLawful top) items top fill event (load_of before) (load_of after) (λ handed request place free. free)
     inside.kept (lawful_steps May top event (load_of before) (load_of after) lawful steps) in
     record {
       no_room = λ index is.
@@ -103,7 +103,7 @@ step_asks May items event before after alloc_before alloc_after lawful inside ru
             | inl there ↦ inl there
             | inr refuses ↦ inr (
               refuses.0,
-              elim (no_room_asks May (AnyLawful top) items top fill inside.events event (load_of before) (load_of after) index inside.kept steps is)
+              elim (no_room_asks May (AnyLawful top) items top fill event (load_of before) (load_of after) index inside.kept steps is)
                   as (λ _. IsAsked items index alloc_after.refused) [
                     | inl there ↦ absurd (true≢false (sym (no_room_ended before.stage index there) ∙ running))
                     | inr asked ↦ subst (IsAsked items index) (sym refuses.1) asked

@@ -13,23 +13,22 @@ use Rattle.command_acts.specs.Placing.{ArePlacements}
 use Rattle.command_acts.specs.Runs.{Answers}
 use Rattle.command_acts.specs.declared.fault.LoadFault.{LoadFault}
 use Rattle.command_acts.specs.Script.{script_in}
-use Rattle.load_states.specs.declared.event.Event.{Event}
-use Rattle.load_states.specs.Kept.{IsKept, StageKeeps}
-use Rattle.load_states.specs.Loads.{IsBegun, begun_device, opening_stage}
+use Rattle.load_states.specs.Kept.{KeepsNow, StageKeeps}
+use Rattle.load_states.specs.Loads.{IsBegun, begun_device}
+use Rattle.load_states.specs.Steps.{opening_stage}
 use Rattle.load_states.specs.Runs.{AnyLawful}
 use Rattle.load_states.proofs.Opening.{begun_keeps}
 use Rattle.firmware_load.specs.declared.loading.Loading.{Loading}
 use Rattle.firmware_load.specs.Inside.{load_of, IsInside, KeepsInside, IsOnRun}
 
 -- a load keeps what is told of its own top and its own fill byte
-pub kept_own : (l : Loading) (items : List Item) (top fill : ℕ) (events : List Event)
-    → IsKept (AnyLawful top) items top fill events (load_of l)
-    → IsKept (AnyLawful l.guest.memory.memory.top) items l.guest.memory.memory.top l.guest.memory.memory.fill events (load_of l)
-kept_own l items top fill events kept =
+pub kept_own : (l : Loading) (items : List Item) (top fill : ℕ) → KeepsNow (AnyLawful top) items top fill (load_of l)
+    → KeepsNow (AnyLawful l.guest.memory.memory.top) items l.guest.memory.memory.top l.guest.memory.memory.fill (load_of l)
+kept_own l items top fill kept =
     let m = l.guest.memory.memory in
     let w = load_of l in
-    subst (λ byte. IsKept (AnyLawful m.top) items m.top byte events w) (sym kept.fill)
-    (subst (λ end. IsKept (AnyLawful end) items end fill events w) (sym kept.top) kept)
+    subst (λ byte. KeepsNow (AnyLawful m.top) items m.top byte w) (sym kept.fill)
+    (subst (λ end. KeepsNow (AnyLawful end) items end fill w) (sym kept.top) kept)
 
 -- there is room for a script where there is room for more
 pub room_more : (decoded : Result (List Entry) LoadFault) (few many : ℕ) → few ≤ many → IfOk decoded (λ script. length script ≤ few)
@@ -70,11 +69,10 @@ opening_begun items top fill l opening = record {
   stage = opening.stage;
 }
 
--- Over no events it keeps inside what a load keeps.
+-- It keeps inside what a load keeps.
 pub opening_inside : (items : List Item) (top fill : ℕ) (l : Loading) → IsOpening items top fill l → IsInside items l
 opening_inside items top fill l opening = record {
-  events = [];
-  kept = kept_own l items top fill [] (begun_keeps (AnyLawful top) items top fill (load_of l) (opening_begun items top fill l opening));
+  kept = kept_own l items top fill (begun_keeps (AnyLawful top) items top fill (load_of l) (opening_begun items top fill l opening)).now;
   rooms = record {
     listed = opening.listed_room;
     script = opening.script_room;

@@ -14,7 +14,7 @@ use Rattle.command_acts.specs.Script.{script_in}
 use Rattle.command_acts.proofs.Goes.{answers_are_lawful}
 use Rattle.load_states.specs.declared.event.Event.{Event}
 use Rattle.load_states.specs.LoadState.{LoadState, memory_of}
-use Rattle.load_states.specs.Kept.{IsKept}
+use Rattle.load_states.specs.Kept.{IsKept, KeepsNow}
 use Rattle.load_states.specs.Runs.{AnyLawful, StepsTo, request_of}
 use Rattle.load_states.specs.Steps.{step}
 use Rattle.firmware_load.specs.declared.loading.Loading.{Loading}
@@ -22,7 +22,8 @@ use Rattle.firmware_load.specs.Inside.{load_of, world_in, IsInside, StaysBegun, 
 use Rattle.firmware_load.specs.World.{WorldState}
 use Rattle.firmware_load.proofs.LoadStates.{of_world}
 use Rattle.firmware_load.proofs.Opening.{kept_own}
-use Rattle.load_states.proofs.StepKeeps.{step_keeps}
+use Rattle.load_states.proofs.MoreAnswers.{MayMore, kept_more}
+use Rattle.load_states.proofs.StepKeeps.{step_keeps, step_keeps_now}
 
 -- a step of which each answer is one that others may give too
 pub asked_by : (May Other : Answers) (event : Event) (w next : LoadState) (asked : Option Request)
@@ -43,12 +44,11 @@ any_lawful state_of gives begun top are handed request answer may =
     subst (λ (range : Range). IfSome answer (λ place. IsFree range handed request.size request.align place)) (are request.zone) may.lawful
 
 -- a load with its top and its fill byte still, and with the rooms that it had
-kept_there : (items : List Item) (l next : Loading) (events : List Event)
-    → IsKept (AnyLawful l.guest.memory.memory.top) items l.guest.memory.memory.top l.guest.memory.memory.fill events (load_of next)
+kept_there : (items : List Item) (l next : Loading)
+    → KeepsNow (AnyLawful l.guest.memory.memory.top) items l.guest.memory.memory.top l.guest.memory.memory.fill (load_of next)
     → HasRooms items l → SameRooms l next → IsInside items next
-kept_there items l next events kept rooms same = record {
-  events = events;
-  kept = kept_own next items l.guest.memory.memory.top l.guest.memory.memory.fill events kept;
+kept_there items l next kept rooms same = record {
+  kept = kept_own next items l.guest.memory.memory.top l.guest.memory.memory.fill kept;
   rooms = record {
     listed = subst (λ room. length items ≤ room) (sym same.listed) rooms.listed;
     script = subst (λ room. IfOk (script_in items) (λ script. length script ≤ room)) (sym same.script) rooms.script;
@@ -64,30 +64,30 @@ pub inside_after : {A : Type 0} (state_of : A → AllocState) (gives : A → Req
 inside_after state_of gives begun l next event are steps same items inside =
     let top = l.guest.memory.memory.top in
     let fill = l.guest.memory.memory.fill in
-    let events = inside.events ++ event ∷ [] in
     let May : Answers = MayAnswer state_of gives begun in
     let w = load_of l in
-    let kept : IsKept (AnyLawful top) items top fill events (load_of next) =
-    step_keeps (AnyLawful top) items top fill inside.events event w (load_of next) (λ handed request place free. free) inside.kept
+    let kept : KeepsNow (AnyLawful top) items top fill (load_of next) =
+    step_keeps_now (AnyLawful top) items top fill event w (load_of next) (λ handed request place free. free) inside.kept
     (asked_by May (AnyLawful top) event w (load_of next) (request_of event w)
     (any_lawful state_of gives begun top are) steps) in
-    kept_there items l next events kept inside.rooms same
+    kept_there items l next kept inside.rooms same
 
--- So does a step of a world keep what is kept over the answers that its allocator may give.
-pub kept_after : {A : Type 0} (state_of : A → AllocState) (gives : A → Request → Option ℕ → Type 0) (begun : Begun)
-    (seen : WorldState) (loading : Option Loading)
+-- So does a step of a world keep what is kept over the answers that its allocator may give, or over fewer.
+pub kept_after : {A : Type 0} (state_of : A → AllocState) (gives : A → Request → Option ℕ → Type 0) (begun : Begun) (Fewer : Answers)
+    → MayMore Fewer (MayAnswer state_of gives begun) → (seen : WorldState) (loading : Option Loading)
     (l next : Loading) (event : Event) → loading ≡ Some l → world_in loading ≡ seen
     → IfSome seen.load (λ w. AreZonesOf (memory_of w).top begun.zones)
     → StepsTo (MayAnswer state_of gives begun) event (load_of l) (load_of next)
     → IfSome seen.load (λ old. (items : List Item) (top fill : ℕ) (events : List Event)
-    → IsKept (MayAnswer state_of gives begun) items top fill events old
+    → IsKept Fewer items top fill events old
     → IsKept (MayAnswer state_of gives begun) items top fill (events ++ event ∷ []) (load_of next))
-kept_after state_of gives begun seen loading l next event is seen_is zones_are steps =
+kept_after state_of gives begun Fewer more seen loading l next event is seen_is zones_are steps =
     let May : Answers = MayAnswer state_of gives begun in
     let same : world_in (Some l) ≡ seen = ap world_in (sym is) ∙ seen_is in
     let are : AreZonesOf l.guest.memory.memory.top begun.zones =
     subst (λ (w : WorldState). IfSome w.load (λ w. AreZonesOf (memory_of w).top begun.zones)) (sym same) zones_are in
     of_world (λ (w : LoadState) (touched : List Bool). (items : List Item) (top fill : ℕ) (events : List Event)
-    → IsKept May items top fill events w → IsKept May items top fill (events ++ event ∷ []) (load_of next)) seen loading l seen_is is
+    → IsKept Fewer items top fill events w → IsKept May items top fill (events ++ event ∷ []) (load_of next)) seen loading l seen_is is
     (λ items top fill events kept. step_keeps May items top fill events event (load_of l) (load_of next)
-    (answers_are_lawful state_of gives begun top (subst (λ t. AreZonesOf t begun.zones) kept.top are)) kept steps)
+    (answers_are_lawful state_of gives begun top (subst (λ t. AreZonesOf t begun.zones) kept.now.top are))
+    (kept_more Fewer May more items top fill events (load_of l) kept) steps)

@@ -21,14 +21,14 @@ use Rattle.load_states.specs.declared.reading.Reading.TheVariants as read
 use Rattle.load_states.specs.declared.stage.Stage.{Stage}
 use Rattle.load_states.specs.declared.stage.Stage.TheVariants.{Asks, Awaits, AtCommand, AwaitsSkip, AsksWrite, AwaitsWrite, Done, Refused}
 use Rattle.load_states.specs.Moves.{script_size}
-use Rattle.load_states.specs.Kept.{IsKept}
+use Rattle.load_states.specs.Kept.{KeepsNow}
 use Rattle.load_states.specs.Loads.{most_steps, most_closing}
 use Rattle.load_states.specs.LoadState.{LoadState, memory_of, items_now, listed_named}
 use Rattle.load_states.specs.Runs.{AnyLawful, StepsTo, closing_events, has_ended, whole_piece}
 use Rattle.load_states.proofs.Ending.{step_goes, step_not_back, whole_piece_idle, steps_left_most}
 use Rattle.load_states.proofs.NamedItems.{listing, listed_as_named}
 use Rattle.load_states.proofs.Readings.{steps_left}
-use Rattle.load_states.proofs.StepKeeps.{step_keeps}
+use Rattle.load_states.proofs.StepKeeps.{step_keeps_now}
 use Rattle.firmware_load.specs.declared.loading.Loading.{Loading}
 use Rattle.firmware_load.specs.Inside.{load_of, KeepsInside, IsOnRun, IsTurn}
 use Rattle.firmware_load.proofs.OnRun.{run_more, lawful_steps}
@@ -84,18 +84,18 @@ idle_flight None is = refl
 idle_flight (Some flight) is = absurd (omega (arith, is))
 
 -- by a step of the firmware
-step_taken : (May : Answers) (items : List Item) (top fill : ℕ) (events : List Event) (w next : LoadState) → IsKept May items top fill events w
+step_taken : (May : Answers) (items : List Item) (top fill : ℕ) (w next : LoadState) → KeepsNow May items top fill w
     → StepsTo May Firmware w next → has_ended w.stage ≡ false → IsTaken items w next
-step_taken May items top fill events w next kept steps running = record {
-  fewer = λ idle. step_goes May items top fill events w next kept steps (idle_flight w.attached.device.flight idle) running;
-  no_more = step_not_back May items top fill events w next kept steps;
+step_taken May items top fill w next kept steps running = record {
+  fewer = λ idle. step_goes May items top fill w next kept steps (idle_flight w.attached.device.flight idle) running;
+  no_more = step_not_back May items top fill w next kept steps;
 }
 
 -- a step and a piece
-piece_taken : (May : Answers) (items : List Item) (top fill : ℕ) (events : List Event) (w middle next : LoadState) → IsKept May items top fill events middle
+piece_taken : (May : Answers) (items : List Item) (top fill : ℕ) (w middle next : LoadState) → KeepsNow May items top fill middle
     → StepsTo May whole_piece middle next → IsTaken items w middle → IsTaken items w next × (next.attached.device.flight ≡ None) × (next.stage ≡ middle.stage)
-piece_taken May items top fill events w middle next kept steps taken =
-    let idle = whole_piece_idle May items top fill events middle next kept steps in (
+piece_taken May items top fill w middle next kept steps taken =
+    let idle = whole_piece_idle May items top fill middle next kept steps in (
       record {
         fewer = λ was. subst (λ (s : Stage). steps_left items s + 1 ≤ steps_left items w.stage) (sym idle.1) (taken.fewer was);
         no_more = subst (λ (s : Stage). steps_left items s ≤ steps_left items w.stage) (sym idle.1) taken.no_more;
@@ -118,19 +118,19 @@ left_running : (w : LoadState) → has_ended w.stage ≡ false
 left_running w is = cond-false (has_ended w.stage) _ _ is
 
 -- Each turn leaves less.
-pub turn_less : (May : Answers) (items : List Item) (top fill : ℕ) (events : List Event) (w next : LoadState) → AreLawful May top
-    → IsKept May items top fill events w → has_ended w.stage ≡ false → IsTurn May w next → turns_left next < turns_left w
-turn_less May items top fill events w next lawful kept running turn =
+pub turn_less : (May : Answers) (items : List Item) (top fill : ℕ) (w next : LoadState) → AreLawful May top
+    → KeepsNow May items top fill w → has_ended w.stage ≡ false → IsTurn May w next → turns_left next < turns_left w
+turn_less May items top fill w next lawful kept running turn =
     let was = left_running w running in
     elim turn.second as (λ _. turns_left next < turns_left w) [
       | inl over ↦
           let now = left_ended next (ap (λ (m : LoadState). has_ended m.stage) over.1 ∙ over.0) in
           omega (arith, was, now)
       | inr more ↦
-          let middle_kept = step_keeps May items top fill events Firmware w turn.middle lawful kept turn.first in
-          let taken = step_taken May items top fill events w turn.middle kept turn.first running in
-          let so = piece_taken May items top fill (events ++ Firmware ∷ []) w turn.middle next middle_kept more.1 taken in
-          let kept_next = step_keeps May items top fill (events ++ Firmware ∷ []) whole_piece turn.middle next lawful middle_kept more.1 in
+          let middle_kept = step_keeps_now May items top fill Firmware w turn.middle lawful kept turn.first in
+          let taken = step_taken May items top fill w turn.middle kept turn.first running in
+          let so = piece_taken May items top fill w turn.middle next middle_kept more.1 taken in
+          let kept_next = step_keeps_now May items top fill whole_piece turn.middle next lawful middle_kept more.1 in
           let now = left_running next (ap has_ended so.2 ∙ more.0) in
           let flight : in_flight next.attached.device.flight ≡ 0 = ap in_flight so.1 in
           let here : steps_left w.attached.device.items w.stage ≡ steps_left items w.stage = steps_same items (items_now w) w.stage kept.shape in
@@ -148,7 +148,7 @@ pub turn_less_inside : (May : Answers) (l next : Loading) → AreLawful May l.gu
     → IsTurn May (load_of l) (load_of next) → turns_left (load_of next) < turns_left (load_of l)
 turn_less_inside May l next lawful inside running turn =
     let top = l.guest.memory.memory.top in
-    turn_less (AnyLawful top) inside.0 top l.guest.memory.memory.fill inside.1.events (load_of l) (load_of next) (λ handed request place free. free)
+    turn_less (AnyLawful top) inside.0 top l.guest.memory.memory.fill (load_of l) (load_of next) (λ handed request place free. free)
     inside.1.kept running (record {
       middle = turn.middle;
       first = lawful_steps May top Firmware (load_of l) turn.middle lawful turn.first;
@@ -234,7 +234,7 @@ turn_on May begun first w next before closing lawful running_first count on runn
     let so = count.turns running in
     let k = so.0 in
     let even : closing_events closing ≡ closing_events (2 * k) = ap closing_events so.1 in
-    let taken = step_taken May items top fill (before ++ closing_events closing) w turn.middle on.kept turn.first running in
+    let taken = step_taken May items top fill w turn.middle on.kept.now turn.first running in
     let first_on = run_more May begun (before ++ closing_events closing) Firmware w turn.middle lawful on running turn.first in
     elim turn.second as (λ _. (more : ℕ) × IsCount items first.stage more next × IsOnRun May begun (before ++ closing_events more) next) [
       | inl over ↦ (
@@ -250,7 +250,7 @@ turn_on May begun first w next before closing lawful running_first count on runn
             ∙ ap (λ es. before ++ es) (ap (λ es. es ++ Firmware ∷ []) even ∙ one_closing k)) first_on),
       )
       | inr more ↦
-          let piece = piece_taken May items top fill ((before ++ closing_events closing) ++ Firmware ∷ []) w turn.middle next first_on.kept more.1 taken in
+          let piece = piece_taken May items top fill w turn.middle next first_on.kept.now more.1 taken in
           let flight : in_flight next.attached.device.flight ≡ 0 = ap in_flight piece.1 in
           let bound : k + 1 + steps_left items next.stage ≤ most_steps items + 1 = bound_after items w next k piece.0 so.2 in (
             2 * (k + 1),
@@ -272,4 +272,4 @@ pub closes_more : (May : Answers) (first w next : LoadState) → AreLawful May (
     → has_ended w.stage ≡ false → IsTurn May w next → Closes May first next
 closes_more May first w next lawful running_first closes running turn = λ begun before on.
     let so = closes begun before on in
-    turn_on May begun first w next before so.0 (subst (AreLawful May) on.kept.top lawful) running_first so.1 so.2 running turn
+    turn_on May begun first w next before so.0 (subst (AreLawful May) on.kept.now.top lawful) running_first so.1 so.2 running turn

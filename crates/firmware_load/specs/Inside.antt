@@ -26,8 +26,8 @@ use Rattle.load_states.specs.declared.stage.Stage.TheVariants.{Refused}
 use Rattle.load_states.specs.LoadState.{LoadState, memory_of}
 use Rattle.load_states.specs.Steps.{at_command}
 use Rattle.load_states.specs.Runs.{AnyLawful, EndsAfter, StepsTo, request_for, has_ended, whole_piece}
-use Rattle.load_states.specs.Kept.{IsKept}
-use Rattle.load_states.specs.Touching.{MayTouchOver}
+use Rattle.load_states.specs.Kept.{IsKept, KeepsNow}
+use Rattle.load_states.specs.Touching.{OneMayLeaveTouched, MayTouchOver}
 use Rattle.firmware_load.specs.declared.guest.Guest.{Guest}
 use Rattle.firmware_load.specs.declared.loading.Loading.{Loading}
 use Rattle.firmware_load.specs.World.{WorldState}
@@ -63,10 +63,9 @@ pub record HasRooms (items : List Item) (l : Loading) : Type 0 where
   pub infos : l.guest.placements.infos.items ≡ infos_of (files_of items)
   pub placements : ArePlacements l.guest.placements
 
--- A load that was begun with these items keeps, over some events, what a load keeps.
+-- A load that was begun with these items keeps what a load keeps.
 pub record IsInside (its_items : List Item) (l : Loading) : Type 0 where
-  pub events : List Event
-  pub kept : IsKept (AnyLawful l.guest.memory.memory.top) its_items l.guest.memory.memory.top l.guest.memory.memory.fill events (load_of l)
+  pub kept : KeepsNow (AnyLawful l.guest.memory.memory.top) its_items l.guest.memory.memory.top l.guest.memory.memory.fill (load_of l)
   pub rooms : HasRooms its_items l
 
 -- It was begun with some items.
@@ -84,12 +83,16 @@ pub record SameRooms (before after : Loading) : Type 0 where
   pub infos : after.guest.placements.infos ≡ before.guest.placements.infos
   pub placements : ArePlacements after.guest.placements
 
+-- no address: of frames that alone were touched which have one, none was
+abbrev pub Nowhere : ℕ → Type 0
+Nowhere address = ⊥
+
 -- What a guest leaves of its frames over these events: memory has its top still, files that were placed are placed, and no other frames were
 -- touched than those that may be.
 pub record TouchesOver (events : List Event) (before after : Guest) : Type 0 where
   pub top : after.memory.memory.top ≡ before.memory.memory.top
   pub placed : (address : ℕ) → IsInOne (placed_ranges before.placements.placed.items) address
-      → IsInOne (placed_ranges after.placements.placed.items) address
+      → IsInOne (placed_ranges after.placements.placed.items) address ⊎ OneMayLeaveTouched before.memory.memory.top events address
   pub touches : TouchesOnly (MayTouchOver before.memory.memory.top events (placed_ranges after.placements.placed.items)) before.memory.memory.top
       before.memory.touched after.memory.touched
 

@@ -2,7 +2,7 @@
 use Rattle.std.specs.Prelude.{⊤, ℕ, zero, suc, ◌+◌, ◌/◌, ◌%◌, ◌^◌, ◌<◌, ◌≤◌, List, [], ◌∷◌, nat_lt, if◌then◌else◌}
 use Rattle.zone_alloc.specs.Policies.{word_of}
 use Rattle.load_states.specs.declared.event.Event.{Event}
-use Rattle.load_states.specs.declared.event.Event.TheVariants.{Device, Firmware, Other}
+use Rattle.load_states.specs.declared.event.Event.TheVariants.{Device, Firmware, Other, Reset}
 
 -- A schedule: the events that it has for each seed, none for a number that is no u64, and those that are left.
 pub record Plan : Type 0 where
@@ -63,4 +63,5 @@ seeded_events (suc n) = events_from (suc n) 0 4096
 abbrev pub IsSeeded : Event → Type 0
 IsSeeded (Device bytes) = (1 ≤ bytes) × (bytes ≤ 4096)
 IsSeeded Firmware = ⊤
+IsSeeded Reset = ⊤
 IsSeeded (Other address byte) = (address < 0x100000) × (byte < 256)

@@ -4,14 +4,18 @@ ghost use Rattle.vt_bytes.specs.Memory.{IsTop, bytes_at};
 ghost use Rattle.vt_bytes.specs.Memory.{with_bytes};
 ghost use Rattle.vt_bytes.specs.Numbers.{le_bytes};
 ghost use Rattle.vt_layout.specs.Rows.{IsPointerSize};
+ghost use Rattle.cfg_dma.specs.Device.{reset_device};
 ghost use Rattle.cfg_dma.specs.Reads.{started, descriptor_bytes, selected_read};
 ghost use Rattle.cfg_dma.specs.Writes.{selected_skip};
 ghost use Rattle.cfg_dma.specs.Transfers.{attached};
 ghost use Rattle.load_states.specs.Guarded.{descriptor_at, buffer_at, is_guarded, written_by_other};
 ghost use Rattle.load_states.specs.declared.event.Event.TheVariants.{Other};
-ghost use Rattle.load_states.specs.Steps.{cleared};
-ghost use Rattle.firmware_load.specs.Inside.{TouchesOver};
+ghost use Rattle.load_states.specs.Steps.{cleared, refilled};
+ghost use Rattle.command_acts.specs.Placing.{ArePlacements};
+ghost use Rattle.guest_memory.specs.Touched.{TouchesOnly};
+ghost use Rattle.firmware_load.specs.Inside.{Nowhere, TouchesOver};
 
+use crate::f_segment::refill;
 use cfg_dma::Device;
 use command_acts::Placements;
 use guest_memory::GuestMemory;
@@ -120,6 +124,22 @@ impl Guest {
         if self.memory.is_ram(addr) && !is_guarded(self.memory.top(), addr) {
             self.memory.write(addr, byte);
         }
+    }
+
+    /// Makes the device what it was when it began, fills the F segment, in which a guest looks for an RSDP and an anchor, and has no file
+    /// placed. No frame is touched that wasn't.
+    pub(crate) fn reset(&mut self)
+        requires { ArePlacements self.old.placements }
+        ensures device { self.new.device ≡ reset_device self.old.device }
+        ensures memory { self.new.memory.memory ≡ refilled self.old.memory.memory }
+        ensures none { self.new.placements.placed.items ≡ [] }
+        ensures placements { ArePlacements self.new.placements }
+        ensures infos { self.new.placements.infos ≡ self.old.placements.infos }
+        ensures touches { TouchesOnly Nowhere self.old.memory.memory.top self.old.memory.touched self.new.memory.touched }
+    {
+        self.device.reset();
+        refill(&mut self.memory);
+        self.placements.clear();
     }
 
     /// Puts the fill byte into the work range.

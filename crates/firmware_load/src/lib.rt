@@ -14,6 +14,7 @@
 #![tactic(auto)]
 
 mod commands;
+mod f_segment;
 mod firmware;
 mod guest;
 pub mod laws;

@@ -2,15 +2,17 @@ ghost use Rattle.std.specs.Prelude.{◌≡◌, ◌≢◌, ℕ, [], ◌∷◌, tr
 ghost use Rattle.vt_bytes.specs.Memory.{IsTop};
 ghost use Rattle.command_acts.specs.Allocators.{AreZonesOf, MayAnswer};
 ghost use Rattle.command_acts.specs.FilesInMemory.{placed_ranges};
-ghost use Rattle.load_states.specs.declared.event.Event.TheVariants.{Device as Moved, Firmware as Stepped, Other as Written};
+ghost use Rattle.load_states.specs.declared.event.Event.TheVariants.{Device as Moved, Firmware as Stepped, Other as Written, Reset};
 ghost use Rattle.load_states.specs.Guarded.{is_guarded, written_by_other};
 ghost use Rattle.load_states.specs.Kept.{IsKept};
 ghost use Rattle.load_states.specs.Loads.{IsBegun};
 ghost use Rattle.load_states.specs.Runs.{NoAnswer, StepsTo, request_of};
-ghost use Rattle.load_states.specs.Steps.{step};
+ghost use Rattle.load_states.specs.Steps.{restarted, step};
+ghost use Rattle.firmware_load.specs.Inside.{Nowhere};
+ghost use Rattle.zone_alloc.specs.Allocators.{reset_as};
 ghost use Rattle.firmware_load.specs.World.{IsWithoutRoom, IsSound};
 ghost use Rattle.firmware_load.specs.Inside.{load_of, KeepsInside, StaysBegun, SameRooms, TouchesOver};
-ghost use Rattle.guest_memory.specs.Touched.{is_touched};
+ghost use Rattle.guest_memory.specs.Touched.{TouchesOnly, is_touched};
 
 use crate::guest::Guest;
 use crate::rooms::{most_transfers, script_len};
@@ -68,7 +70,8 @@ impl Loading {
         })
     }
 
-    /// Takes the step of an event. `place` is asked once, where the firmware carries out an Allocate, and else not at all.
+    /// Takes the step of an event. `place` is asked once, where the firmware carries out an Allocate, and else not at all; a reset gives back
+    /// what it has handed out.
     pub(crate) fn step<A: ZoneAlloc>(&mut self, place: &mut A, event: Event)
         requires inside { KeepsInside self.old }
         requires begun { (A.state place.old).begun.ready ≡ true }
@@ -79,7 +82,8 @@ impl Loading {
         ensures steps { StepsTo (MayAnswer A.state A.gives (A.state place.old).begun) event
             (load_of self.old) (load_of self.new) }
         ensures handed { (A.state place.new).handed ≡ placed_ranges self.new.guest.placements.placed.items }
-        ensures unasked { request_of event (load_of self.old) ≡ None → place.new ≡ place.old }
+        ensures unasked { event ≢ Reset → request_of event (load_of self.old) ≡ None → place.new ≡ place.old }
+        ensures given_back { event ≡ Reset → A.state place.new ≡ reset_as (A.state place.old) }
         ensures no_room { IsWithoutRoom event (load_of self.old) (load_of self.new) (A.state place.old) (A.state place.new) }
         ensures sound { IsSound (load_of self.old) (load_of self.new) (A.state place.old) (A.state place.new) }
         ensures begun { (A.state place.new).begun ≡ (A.state place.old).begun }
@@ -89,6 +93,7 @@ impl Loading {
             Event::Device(bytes) => self.move_piece(bytes),
             Event::Firmware => self.firmware_step(place),
             Event::Other { addr, byte } => self.write_by_other(addr, byte),
+            Event::Reset => self.restart(place),
         }
     }
 
@@ -100,6 +105,22 @@ impl Loading {
         ensures touches { TouchesOver [] self.old.guest self.new.guest }
     {
         self.guest.device.piece(&mut self.guest.memory, bytes);
+    }
+
+    // The guest is reset: the firmware begins again, and what `place` has handed out is given back.
+    fn restart<A: ZoneAlloc>(&mut self, place: &mut A)
+        requires inside { KeepsInside self.old }
+        requires begun { (A.state place.old).begun.ready ≡ true }
+        ensures steps { load_of self.new ≡ restarted (load_of self.old) }
+        ensures rooms { SameRooms self.old self.new }
+        ensures given_back { A.state place.new ≡ reset_as (A.state place.old) }
+        ensures touches { TouchesOnly Nowhere self.old.guest.memory.memory.top self.old.guest.memory.touched self.new.guest.memory.touched }
+    {
+        self.guest.reset();
+        self.stage = Stage::Asks(Reading::Count);
+        self.listed.clear();
+        self.script.clear();
+        place.reset();
     }
 
     // Another processor writes a byte, unless the address is no RAM or is guarded.

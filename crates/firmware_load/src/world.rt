@@ -6,6 +6,8 @@ ghost use Rattle.command_acts.specs.Allocators.{AreZonesOf, MayAnswer};
 ghost use Rattle.command_acts.specs.FilesInMemory.{placed_ranges};
 ghost use Rattle.command_acts.specs.Script.{IsAsked};
 ghost use Rattle.load_states.specs.declared.event.Event.{Event as EventOf};
+ghost use Rattle.load_states.specs.declared.event.Event.TheVariants.{Reset};
+ghost use Rattle.zone_alloc.specs.Allocators.{reset_as};
 ghost use Rattle.load_states.specs.Kept.{IsKept};
 ghost use Rattle.load_states.specs.Loads.{IsBegun};
 ghost use Rattle.load_states.specs.LoadState.{memory_of};
@@ -76,12 +78,14 @@ impl World {
         Ok(())
     }
 
-    /// Takes the step of one event: the device moves a piece of its transfer, the firmware takes a step, or another processor writes a
-    /// byte. A load was begun; `place` was begun with the zones of this memory, and has handed out the ranges of the files that are
-    /// placed, and no others. It is asked for a place once where an Allocate is carried out, and else not at all. It takes no memory.
+    /// Takes the step of one event: the device moves a piece of its transfer, the firmware takes a step, another processor writes a
+    /// byte, or the guest is reset. A load was begun; `place` was begun with the zones of this memory, and has handed out the ranges of the
+    /// files that are placed, and no others. It is asked for a place once where an Allocate is carried out, and else not at all. It takes no
+    /// memory.
     ///
-    /// When the load has ended, an event of the firmware has no effect. Each frame that the step touches has an address of the work range, of
-    /// a placed file, or that another processor writes.
+    /// A reset begins the load anew, whether it has ended or not: the device has the files that it began with, `place` hands nothing out any
+    /// more, and the F segment holds the fill byte; the rest of memory stays. When the load has ended, an event of the firmware has no effect.
+    /// Each frame that the step touches has an address of the work range, of a placed file, or that another processor writes.
     pub fn step<A: ZoneAlloc>(&mut self, place: &mut A, event: Event)
         requires some { IsSome self.old.load }
         requires begun { (A.state place.old).begun.ready ≡ true }
@@ -94,9 +98,15 @@ impl World {
             → IsKept (MayAnswer A.state A.gives (A.state place.old).begun) items top fill events old
             → IsKept (MayAnswer A.state A.gives (A.state place.old).begun) items top fill (events ++ event ∷ []) new)) }
 
+        // So it is for the first event, before which no place was answered.
+        ensures first { IfSome self.old.load (λ old. IsSomeAnd self.new.load (λ new. (items : List Item) (top fill : ℕ) (events : List EventOf)
+            → IsKept NoAnswer items top fill events old
+            → IsKept (MayAnswer A.state A.gives (A.state place.old).begun) items top fill (events ++ event ∷ []) new)) }
+
         // What the allocator was asked, where it refused, and what it keeps.
         ensures handed { IfSome self.new.load (λ w. (A.state place.new).handed ≡ placed_ranges w.placed) }
-        ensures unasked { IfSome self.old.load (λ w. request_of event w ≡ None → place.new ≡ place.old) }
+        ensures unasked { event ≢ Reset → IfSome self.old.load (λ w. request_of event w ≡ None → place.new ≡ place.old) }
+        ensures given_back { event ≡ Reset → A.state place.new ≡ reset_as (A.state place.old) }
         ensures no_room { IfSome self.old.load (λ old. IsSomeAnd self.new.load (λ new. IsWithoutRoom event old new (A.state place.old) (A.state place.new))) }
         ensures sound { IfSome self.old.load (λ old. IsSomeAnd self.new.load (λ new. IsSound old new (A.state place.old) (A.state place.new))) }
         ensures begun { (A.state place.new).begun ≡ (A.state place.old).begun }

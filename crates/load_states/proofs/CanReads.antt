@@ -14,9 +14,9 @@ use Rattle.command_acts.specs.declared.placed.PlacedFile.{PlacedFile}
 use Rattle.loader_script.specs.LoaderName.{loader_name}
 use Rattle.load_states.specs.Guarded.{descriptor_at, buffer_at, buffer_size}
 use Rattle.load_states.specs.Moves.{count_read, piece_read}
-use Rattle.load_states.specs.Kept.{IsZoned}
 use Rattle.load_states.proofs.Frames.{descriptor_ram, buffer_ram, beside_work}
 use Rattle.load_states.proofs.NamedItems.{named_is_file, contents_named}
+use Rattle.load_states.proofs.Zoned.{IsZoned}
 
 -- ---- what items hold
 

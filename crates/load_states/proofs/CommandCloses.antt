@@ -1,5 +1,5 @@
 -- The closing step, behind the last command.
-use Rattle.std.proofs.Common.{◌≡◌, ℕ, ◌+◌, ◌-◌, ◌<◌, ◌≤◌, ◌⊎◌, true, false, List, [], ◌∷◌, ◌++◌, length, replicate, Result, Ok}
+use Rattle.std.proofs.Common.{◌≡◌, ℕ, ◌+◌, ◌-◌, ◌<◌, ◌≤◌, ◌⊎◌, true, false, List, [], length, replicate, Result, Ok}
 use Rattle.std.proofs.Common.{inl, inr, arith, refl, ap, sym, subst, ◌∙◌}
 use Rattle.std.proofs.lemmas.Bool.Decides.{nat_tests}
 use Rattle.std.proofs.lemmas.List.{get_or-replicate, length-replicate, take_all}
@@ -13,20 +13,19 @@ use Rattle.cfg_directory.specs.Files.{files_of}
 use Rattle.command_acts.specs.FilesInMemory.{files_in, placed_ranges}
 use Rattle.command_acts.specs.declared.fault.LoadFault.{LoadFault}
 use Rattle.command_acts.specs.Runs.{Answers, EndsWith, at_files}
-use Rattle.load_states.specs.declared.event.Event.{Event}
-use Rattle.load_states.specs.declared.event.Event.TheVariants.{Firmware}
 use Rattle.load_states.specs.declared.stage.Stage.TheVariants.{AtCommand}
 use Rattle.load_states.specs.Guarded.{descriptor_at, buffer_at, buffer_size, is_work}
 use Rattle.load_states.specs.LoadState.{LoadState, memory_of, items_now, files_now, progress_of}
 use Rattle.load_states.specs.Steps.{cleared, closed}
-use Rattle.load_states.specs.Kept.{IsKept, StageKeeps, IsCleared}
+use Rattle.load_states.specs.Kept.{KeepsNow, StageKeeps, IsCleared}
 use Rattle.load_states.specs.Moves.{moves}
-use Rattle.load_states.proofs.Frames.{kept_from, files_same, left_firmware, beside_work, descriptor_ram, buffer_ram}
+use Rattle.load_states.proofs.Frames.{KeepsOn, kept_from, files_same, beside_work, descriptor_ram, buffer_ram}
 use Rattle.load_states.proofs.Fronts.{all_done}
 use Rattle.load_states.proofs.CommandCauses.{ended_run}
+use Rattle.load_states.proofs.Zoned.{zoned_files}
 
 -- a range that is filled holds the fill byte
-filled_there : (m : Memory) (start count fill address : ℕ) → IsMemory m → IsRamRange m.top start count → start ≤ address → address < start + count
+pub filled_there : (m : Memory) (start count fill address : ℕ) → IsMemory m → IsRamRange m.top start count → start ≤ address → address < start + count
     → at (with_bytes m start (replicate count fill)) address ≡ fill
 filled_there m start count fill address lawful ram from below =
     let i = address - start in
@@ -38,7 +37,7 @@ filled_there m start count fill address lawful ram from below =
     ∙ get_or-replicate count i fill 0 within
 
 -- and other bytes stay
-filled_other : (m : Memory) (start count fill address : ℕ) → IsMemory m → (address < start) ⊎ (start + count ≤ address)
+pub filled_other : (m : Memory) (start count fill address : ℕ) → IsMemory m → (address < start) ⊎ (start + count ≤ address)
     → at (with_bytes m start (replicate count fill)) address ≡ at m address
 filled_other m start count fill address lawful other =
     others_with m start (replicate count fill) address lawful
@@ -70,30 +69,31 @@ cleared_work m lawful address work =
     ]
 
 -- placed files stay
-files_cleared : (May : Answers) (items : List Item) (top fill : ℕ) (events : List Event) (w : LoadState) → IsKept May items top fill events w
+files_cleared : (May : Answers) (items : List Item) (top fill : ℕ) (w : LoadState) → KeepsNow May items top fill w
     → files_in (cleared (memory_of w)) w.placed ≡ files_now w
-files_cleared May items top fill events w kept =
-    files_same top (memory_of w) (cleared (memory_of w)) w.placed kept.top kept.loading.apart kept.zoned
+files_cleared May items top fill w kept =
+    files_same top (memory_of w) (cleared (memory_of w)) w.placed kept.top kept.loading.apart (zoned_files kept)
     (λ address ram guarded other. cleared_other (memory_of w) address kept.memory other)
 
 -- The firmware closes the load behind the last command.
-pub closed_keeps : (May : Answers) (items : List Item) (top fill : ℕ) (events : List Event) (w : LoadState) (index : ℕ)
-    → IsKept May items top fill events w → StageKeeps May items w (AtCommand index) → length w.script ≤ index
-    → IsKept May items top fill (events ++ Firmware ∷ []) (closed w)
-closed_keeps May items top fill events w index kept keeps past =
+pub closed_keeps : (May : Answers) (items : List Item) (top fill : ℕ) (w : LoadState) (index : ℕ)
+    → KeepsNow May items top fill w → StageKeeps May items w (AtCommand index) → length w.script ≤ index
+    → KeepsOn May items top fill w (closed w)
+closed_keeps May items top fill w index kept keeps past =
     let m = memory_of w in
     let ends = all_done May (files_of items) w.script index (placed_ranges w.placed) (progress_of w) past keeps.3 in
-    let same = files_cleared May items top fill events w kept in
-    kept_from May items top fill events (events ++ Firmware ∷ []) w (closed w) kept
+    let same = files_cleared May items top fill w kept in
+    kept_from May items top fill w (closed w) kept
     (record {
       room = refl;
+      opening = refl;
       device = kept.device;
       memory = lawful_with (with_bytes m descriptor_at (replicate 16 m.fill)) buffer_at (replicate buffer_size m.fill)
           (lawful_with m descriptor_at (replicate 16 m.fill) kept.memory);
       top = refl;
       fill = refl;
     }) refl refl
-    (λ address ram other beside. cleared_other m address kept.memory other) (λ address. left_firmware top fill events address) (
+    (λ address ram other beside. cleared_other m address kept.memory other) kept.stands (
       ended_run May items w.script Done (Ok tt) (closed w) keeps.2.idle keeps.0.script
           (subst (λ (now : List Placed). EndsWith May 0 w.script (opening (files_of items) []) Done (at_files (files_of (items_now w)) now []))
           (sym same) ends) refl,

@@ -1,12 +1,12 @@
 -- An Allocate that is given a place.
-use Rattle.std.proofs.Common.{◌≡◌, ℕ, suc, false, ◌+◌, ◌<◌, ◌≤◌, List, [], ◌∷◌, ◌++◌, length, take, Option, Some, None}
+use Rattle.std.proofs.Common.{◌≡◌, ℕ, suc, false, ◌+◌, ◌<◌, List, [], ◌∷◌, ◌++◌, length, take, Option, Some, None}
 use Rattle.std.proofs.Common.{inl, arith, refl, ap, ap₂, sym, subst, ◌∙◌, map}
 use Rattle.std.specs.List.{AllByRecursion, last_or}
 use Rattle.std.specs.Option.{option_map, option_map_or}
 use Rattle.std.proofs.lemmas.List.{map_push}
 use Rattle.std.proofs.lemmas.Option.{slice_get_within, get_or_from_slice_get}
 use Rattle.vt_outside.specs.Placement.{Range, IsFree}
-use Rattle.vt_bytes.specs.Memory.{Memory, IsTop, at}
+use Rattle.vt_bytes.specs.Memory.{IsRam, Memory, IsTop, at}
 use Rattle.cfg_directory.specs.declared.item.Item.{Item}
 use Rattle.cfg_directory.specs.declared.listed.Listed.{Listed}
 use Rattle.cfg_directory.specs.Items.{named}
@@ -32,16 +32,13 @@ use Rattle.command_acts.proofs.Allocations.{ranges_in}
 use Rattle.command_acts.proofs.Goes.{allocate_goes, new_from_free, loading_pushed, count_pushed}
 use Rattle.command_acts.proofs.OneMoreFile.{IsNew, all_push}
 use Rattle.command_acts.proofs.Placings.{distinct_infos}
-use Rattle.load_states.specs.declared.event.Event.{Event}
-use Rattle.load_states.specs.declared.event.Event.TheVariants.{Firmware}
 use Rattle.load_states.specs.declared.reading.Reading.TheVariants as read
 use Rattle.load_states.specs.declared.stage.Stage.TheVariants.{Awaits}
-use Rattle.load_states.specs.Guarded.{is_work}
+use Rattle.load_states.specs.Guarded.{descriptor_at, is_work}
 use Rattle.load_states.specs.LoadState.{LoadState, memory_of, items_now, files_now, progress_of, listed_named}
-use Rattle.load_states.specs.Moves.{most_transfers}
 use Rattle.load_states.specs.Steps.{Asking, asking, placed_at, to_its_place}
-use Rattle.load_states.specs.Kept.{IsKept, IsZoned, LoadRead, moves_before}
-use Rattle.load_states.proofs.Frames.{files_same, left_firmware}
+use Rattle.load_states.specs.Kept.{KeepsNow, IsInZone, LoadRead, moves_before}
+use Rattle.load_states.proofs.Frames.{KeepsOn, bios_outside, files_same}
 use Rattle.load_states.proofs.CanReads.{file_can, file_select_small}
 use Rattle.command_acts.proofs.ItemsWritten.{bytes_of_named}
 use Rattle.load_states.proofs.CommandMoves.{room_at}
@@ -49,7 +46,9 @@ use Rattle.load_states.proofs.NamedItems.{listing, listed_as_named, item_there}
 use Rattle.load_states.proofs.StartEvents.{StartsOn, starts_on, started_by}
 use Rattle.load_states.proofs.Fronts.{one_more}
 use Rattle.load_states.proofs.CommandCauses.{IsBefore}
-use Rattle.load_states.proofs.CommandZones.{zoned_in}
+use Rattle.load_states.proofs.Zoned.{in_zone, zoned_in, zoned_files}
+use Rattle.cfg_dma.specs.Device.{StandsWhereLeft}
+use Rattle.cfg_dma.proofs.Standing.{last_is, read_stands, started_address}
 
 -- A file that may be placed behind others: it is new to memory, lies in a guarded zone, and isn't empty.
 pub record IsPlaceable (items : List Item) (top : ℕ) (placed : List PlacedFile) (file : Item) (p : PlacedFile) : Type 0 where
@@ -58,7 +57,7 @@ pub record IsPlaceable (items : List Item) (top : ℕ) (placed : List PlacedFile
   pub some : 0 < p.size
   pub new : IsNew top placed p
   pub of_size : IsOfSize (files_of items) p
-  pub zoned : IsZoned top p
+  pub zone : IsInZone top p
   pub count : length (placed ++ p ∷ []) ≡ count_places (places_in (placed ++ p ∷ []) (infos_of (files_of items)))
 
 -- what holds of each element and of one more holds of each before
@@ -67,12 +66,12 @@ all_before P [] x all = tt
 all_before P (y ∷ ys) x all = (all.0, all_before P ys x all.1)
 
 -- the file of an Allocate that isn't refused, at the place that it is given, may be placed
-placeable : (May : Answers) (items : List Item) (top fill : ℕ) (events : List Event) (w : LoadState) (name : List ℕ) (align zone place : ℕ)
-    (item : Item) → AreLawful May top → IsKept May items top fill events w → named (items_now w) name ≡ Some item
+pub placeable : (May : Answers) (items : List Item) (top fill : ℕ) (w : LoadState) (name : List ℕ) (align zone place : ℕ)
+    (item : Item) → AreLawful May top → KeepsNow May items top fill w → named (items_now w) name ≡ Some item
     → cause_of (Allocate name align zone) (progress_of w) ≡ None
     → May (placed_ranges w.placed) (request_of (files_of (items_now w)) name align zone) (Some place)
     → IsPlaceable (items_now w) top w.placed item (record { name = name; place = place; size = length item.bytes })
-placeable May items top fill events w name align zone place item lawful kept there none may =
+placeable May items top fill w name align zone place item lawful kept there none may =
     let size = length item.bytes in
     let files = files_of (items_now w) in
     let bytes : length (bytes_of files name) ≡ size = ap (λ (bs : List ℕ). length bs) (bytes_of_named (items_now w) name item there) in
@@ -90,12 +89,12 @@ placeable May items top fill events w name align zone place item lawful kept the
       some = fresh.2;
       new = fresh.0;
       of_size = fresh.1;
-      zoned = zoned_in top name place size its_top (zone_numbered zone) given.from sized.within;
+      zone = in_zone top name place size (zone_numbered zone) given.from sized.within;
       count = counted.0;
     }
 
 -- the read of a file behind those that are placed
-abbrev file_read_of : List Item → ℕ → LoadState → Item → PlacedFile → LoadRead
+abbrev pub file_read_of : List Item → ℕ → LoadState → Item → PlacedFile → LoadRead
 file_read_of items index w file p =
     record { before = moves_before items index w w.placed; control = selected_read file.select; transfer = read_of file.select 0 p.size p.place }
 
@@ -115,17 +114,17 @@ pushed_ranges items m placed file p there size =
     ∙ sym (map_push range_of (files_in m placed) last)
 
 -- The Allocate is carried out with that file.
-placing_runs : (May : Answers) (items : List Item) (top fill : ℕ) (events : List Event) (w : LoadState) (index : ℕ) (align zone : ℕ) (file : Item)
-    (p : PlacedFile) (m : Memory) → named (items_now w) p.name ≡ Some file → p.size ≡ length file.bytes → IsKept May items top fill events w
+placing_runs : (May : Answers) (items : List Item) (top fill : ℕ) (w : LoadState) (index : ℕ) (align zone : ℕ) (file : Item)
+    (p : PlacedFile) (m : Memory) → named (items_now w) p.name ≡ Some file → p.size ≡ length file.bytes → KeepsNow May items top fill w
     → IsBefore May items w index (Allocate p.name align zone) → cause_of (Allocate p.name align zone) (progress_of w) ≡ None
     → May (placed_ranges w.placed) (request_of (files_of (items_now w)) p.name align zone) (Some p.place)
     → ((address : ℕ) → is_work address ≡ false → at m address ≡ at (memory_of w) address)
     → IsRun May (files_of items) (take (suc index) w.script) (placed_ranges (w.placed ++ p ∷ [])) AllDone
     (with_file (at_files (files_of (items_now w)) (files_in m w.placed) []) p.name p.place)
-placing_runs May items top fill events w index align zone file p m there size kept before none may stays =
+placing_runs May items top fill w index align zone file p m there size kept before none may stays =
     let files = files_of (items_now w) in
     let entry = Allocate p.name align zone in
-    let same : files_in m w.placed ≡ files_now w = files_same top (memory_of w) m w.placed kept.top kept.loading.apart kept.zoned
+    let same : files_in m w.placed ≡ files_now w = files_same top (memory_of w) m w.placed kept.top kept.loading.apart (zoned_files kept)
     (λ address ram guarded other. stays address other) in
     let given = subst (λ (handed : List Range). May handed (request_of files p.name align zone) (Some p.place))
     (sym (ranges_in (memory_of w) w.placed)) may in
@@ -138,68 +137,71 @@ placing_runs May items top fill events w index align zone file p m there size ke
     (pushed_ranges (items_now w) (memory_of w) w.placed file p there size))
 
 -- That load keeps what is kept.
-placing_keeps : (May : Answers) (items : List Item) (top fill : ℕ) (events : List Event) (w : LoadState) (index : ℕ) (align zone : ℕ) (file : Item)
-    (p : PlacedFile) (a : Attached) → IsKept May items top fill events w → IsBefore May items w index (Allocate p.name align zone)
+placing_keeps : (May : Answers) (items : List Item) (top fill : ℕ) (w : LoadState) (index : ℕ) (align zone : ℕ) (file : Item)
+    (p : PlacedFile) (a : Attached) → KeepsNow May items top fill w → IsBefore May items w index (Allocate p.name align zone)
     → cause_of (Allocate p.name align zone) (progress_of w) ≡ None
     → May (placed_ranges w.placed) (request_of (files_of (items_now w)) p.name align zone) (Some p.place)
     → IsPlaceable (items_now w) top w.placed file p → StartsOn (file_read_of items index w file p) w.attached a
-    → IsKept May items top fill (events ++ Firmware ∷ []) (placing index p a w)
-placing_keeps May items top fill events w index align zone file p a kept before none may can starts =
+    → StandsWhereLeft a.device → KeepsOn May items top fill w (placing index p a w)
+placing_keeps May items top fill w index align zone file p a kept before none may can starts stands =
     let goes : GoesOn w.attached a = starts.1 in
     let same : a.device.items ≡ items_now w = starts.2 in
     let next = placing index p a w in
+    let beside_before : (address : ℕ) → AllByRecursion (IsBeside address) next.placed → AllByRecursion (IsBeside address) w.placed =
+    λ address beside. all_before (IsBeside address) w.placed p beside in
+    let outside : (address : ℕ) → IsRam top address → is_work address ≡ false → AllByRecursion (IsBeside address) next.placed
+    → at (memory_of next) address ≡ at (memory_of w) address = λ address ram other beside. starts.3 address other in
     record {
-      lawful = kept.lawful;
-      names = kept.names;
-      shape = ap (map shape_of) same ∙ kept.shape;
-      device = goes.device;
-      room = subst (λ (r : ℕ). most_transfers items ≤ r) (sym goes.room) kept.room;
-      memory = goes.memory;
-      top = goes.top ∙ kept.top;
-      fill = goes.fill ∙ kept.fill;
-      loading = subst (λ (is : List Item). IsLoading top (files_of is) next.placed) (sym same)
-          (loading_pushed top (files_of (items_now w)) w.placed p kept.loading can.new can.of_size);
-      zoned = all_push (IsZoned top) w.placed p kept.zoned can.zoned;
-      count = subst (λ (is : List Item). length next.placed ≡ count_places (places_in next.placed (infos_of (files_of is)))) (sym same) can.count;
-      others = λ address ram other beside.
-          starts.3 address other ∙ kept.others address ram other (all_before (IsBeside address) w.placed p beside)
-          ∙ sym (left_firmware top fill events address);
-      stage = (
-        record {
-          script = record { listed = before.script.listed; script = before.script.script };
-          before = w.placed;
-          last = p;
-          align = align;
-          zone = zone;
-          command = before.there;
-          file = file;
-          placed_are = refl;
-          there = subst (λ (is : List Item). named is p.name ≡ Some file) (sym same) can.there;
-          size = can.size;
-          run = subst
-              (λ (is : List Item). IsRun May (files_of items) (take (suc index) w.script) (placed_ranges next.placed) AllDone
-              (with_file (at_files (files_of is) (files_in a.memory w.placed) []) p.name p.place)) (sym same)
-              (placing_runs May items top fill events w index align zone file p a.memory can.there can.size kept before none may starts.3);
-        },
-        inl starts.0,
-      );
+      now = record {
+        lawful = kept.lawful;
+        names = kept.names;
+        opening = goes.opening ∙ kept.opening;
+        shape = ap (map shape_of) same ∙ kept.shape;
+        device = goes.device;
+        room = goes.room ∙ kept.room;
+        stands = stands;
+        memory = goes.memory;
+        top = goes.top ∙ kept.top;
+        fill = goes.fill ∙ kept.fill;
+        loading = subst (λ (is : List Item). IsLoading top (files_of is) next.placed) (sym same)
+            (loading_pushed top (files_of (items_now w)) w.placed p kept.loading can.new can.of_size);
+        zones = all_push (IsInZone top) w.placed p kept.zones can.zone;
+        count = subst (λ (is : List Item). length next.placed ≡ count_places (places_in next.placed (infos_of (files_of is)))) (sym same) can.count;
+        bios = bios_outside May items top fill w next kept beside_before outside;
+        stage = (
+          record {
+            script = record { listed = before.script.listed; script = before.script.script };
+            before = w.placed;
+            last = p;
+            align = align;
+            zone = zone;
+            command = before.there;
+            file = file;
+            placed_are = refl;
+            there = subst (λ (is : List Item). named is p.name ≡ Some file) (sym same) can.there;
+            size = can.size;
+            run = subst
+                (λ (is : List Item). IsRun May (files_of items) (take (suc index) w.script) (placed_ranges next.placed) AllDone
+                (with_file (at_files (files_of is) (files_in a.memory w.placed) []) p.name p.place)) (sym same)
+                (placing_runs May items top fill w index align zone file p a.memory can.there can.size kept before none may starts.3);
+          },
+          inl starts.0,
+        );
+      };
+      beside = beside_before;
+      outside = outside;
     }
 
 -- the files that were listed are those of the items of now
-pub listed_as_now : (May : Answers) (items : List Item) (top fill : ℕ) (events : List Event) (w : LoadState) → IsKept May items top fill events w
+pub listed_as_now : (May : Answers) (items : List Item) (top fill : ℕ) (w : LoadState) → KeepsNow May items top fill w
     → w.listed ≡ listed_of items → w.listed ≡ listed_of (items_now w)
-listed_as_now May items top fill events w kept are = are ∙ sym (same_listed items (items_now w) kept.shape)
+listed_as_now May items top fill w kept are = are ∙ sym (same_listed items (items_now w) kept.shape)
 
 -- the listed file of a name that is there
 pub listed_there : (items : List Item) (listed : List Listed) (name : List ℕ) (item : Item) → listed ≡ listed_of items → named items name ≡ Some item
     → listed_named listed name ≡ Some (listing item)
 listed_there items listed name item are there =
     ap (λ (ls : List Listed). listed_named ls name) are ∙ listed_as_named items name ∙ ap (option_map listing) there
-
--- the last of a list
-last_is : {A : Type 0} (first : Option A) (xs : List A) (x : A) → last_or first (xs ++ x ∷ []) ≡ Some x
-last_is first [] x = refl
-last_is first (y ∷ xs) x = last_is (Some y) xs x
 
 -- what is asked for is the read of the file that was placed last
 placed_asking : (listed : List Listed) (placed : List PlacedFile) (p : PlacedFile) (found : Listed) → listed_named listed p.name ≡ Some found
@@ -223,26 +225,28 @@ placed_is index name place found w there =
     ap (λ (what : Asking). asking (read.File index) what (record w { placed = w.placed ++ p ∷ [] })) (placed_asking w.listed w.placed p found there)
 
 -- The read of the file of an Allocate is started, straight to the place that it is given.
-pub place_keeps : (May : Answers) (items : List Item) (top fill : ℕ) (events : List Event) (w : LoadState) (index : ℕ) (name : List ℕ)
-    (align zone place : ℕ) → AreLawful May top → IsKept May items top fill events w → IsBefore May items w index (Allocate name align zone)
+pub place_keeps : (May : Answers) (items : List Item) (top fill : ℕ) (w : LoadState) (index : ℕ) (name : List ℕ)
+    (align zone place : ℕ) → AreLawful May top → KeepsNow May items top fill w → IsBefore May items w index (Allocate name align zone)
     → cause_of (Allocate name align zone) (progress_of w) ≡ None
     → May (placed_ranges w.placed) (request_of (files_of (items_now w)) name align zone) (Some place)
-    → IsKept May items top fill (events ++ Firmware ∷ []) (placed_at index name place (listed_named w.listed name) w)
-place_keeps May items top fill events w index name align zone place lawful kept before none may =
+    → KeepsOn May items top fill w (placed_at index name place (listed_named w.listed name) w)
+place_keeps May items top fill w index name align zone place lawful kept before none may =
     let can : CanAllocate (progress_of w) name align zone = conditions_from (Allocate name align zone) (progress_of w) none in
     let found = item_there (items_now w) name can.file can.there in
     let item : Item = found.0 in
     let p : PlacedFile = record { name = name; place = place; size = length item.bytes } in
-    let placed = placeable May items top fill events w name align zone place item lawful kept found.1 none may in
+    let placed = placeable May items top fill w name align zone place item lawful kept found.1 none may in
     let r = file_read_of items index w item p in
     let within = slice_get_within w.script index (Allocate name align zone) before.there in
     let room = room_at items w.script index w.placed before.script.script within in
     let starts = starts_on top r w.attached kept.top kept.device kept.memory before.idle.idle before.idle.finished (omega (arith, room, kept.room))
-    (file_can (items_now w) top name item p kept.device.items found.1 refl placed.some placed.new.ram placed.zoned)
+    (file_can (items_now w) top name item p kept.device.items found.1 refl placed.some placed.new.ram (zoned_in top p (subst IsTop kept.top kept.memory.top) placed.zone))
     (inl (refl, file_select_small (items_now w) name item kept.device.items found.1, refl)) in
-    let listed = listed_there (items_now w) w.listed name item (listed_as_now May items top fill events w kept before.script.listed) found.1 in
+    let listed = listed_there (items_now w) w.listed name item (listed_as_now May items top fill w kept before.script.listed) found.1 in
     let here : LoadState = record w { placed = w.placed ++ p ∷ [] } in
-    subst (λ (o : Option Listed). IsKept May items top fill (events ++ Firmware ∷ []) (placed_at index name place o w)) (sym listed)
-    (subst (λ (what : Asking). IsKept May items top fill (events ++ Firmware ∷ []) (asking (read.File index) what here))
+    subst (λ (o : Option Listed). KeepsOn May items top fill w (placed_at index name place o w)) (sym listed)
+    (subst (λ (what : Asking). KeepsOn May items top fill w (asking (read.File index) what here))
     (sym (placed_asking w.listed w.placed p (listing item) listed))
-    (placing_keeps May items top fill events w index align zone item p (started_by r w.attached) kept before none may placed starts))
+    (placing_keeps May items top fill w index align zone item p (started_by r w.attached) kept before none may placed starts
+    (read_stands _ r.before descriptor_at r.control r.transfer (started_by r w.attached) (inl starts.0)
+    (started_address descriptor_at r.control r.transfer.length r.transfer.address w.attached))))

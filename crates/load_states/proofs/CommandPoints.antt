@@ -34,34 +34,34 @@ use Rattle.command_acts.specs.Steps.{LeadsOn}
 use Rattle.command_acts.proofs.Allocations.{ranges_in}
 use Rattle.command_acts.proofs.ItemsWritten.{as_file, put_as_file, selected_named}
 use Rattle.command_acts.proofs.OneCommand.{leads_from}
-use Rattle.load_states.specs.declared.event.Event.{Event}
-use Rattle.load_states.specs.declared.event.Event.TheVariants.{Firmware}
 use Rattle.load_states.specs.declared.stage.Stage.TheVariants.{AtCommand, AwaitsSkip, AsksWrite, AwaitsWrite}
 use Rattle.load_states.specs.Guarded.{descriptor_at, buffer_at, is_work}
 use Rattle.load_states.specs.LoadState.{LoadState, memory_of, items_now, files_now, progress_of, listed_named}
 use Rattle.load_states.specs.Moves.{command_moves, pointer_moves}
 use Rattle.load_states.specs.Steps.{is_over, skips, writes, passed, number_for, firmware_step}
-use Rattle.load_states.specs.Kept.{IsKept, StageKeeps, IsPointing, moves_before}
+use Rattle.load_states.specs.Kept.{KeepsNow, StageKeeps, IsPointing, moves_before}
 use Rattle.load_states.proofs.CanReads.{file_select_small}
 use Rattle.load_states.proofs.CommandCauses.{IsBefore}
 use Rattle.load_states.proofs.CommandMoves.{room_at, moves_of_command, pointer_moves_are}
 use Rattle.load_states.proofs.CommandPatches.{carried_more}
 use Rattle.load_states.proofs.CommandPlaces.{listed_as_now, listed_there}
-use Rattle.load_states.proofs.Frames.{kept_from, left_firmware, files_same, beside_work, descriptor_ram, buffer_ram}
+use Rattle.load_states.proofs.Frames.{KeepsOn, kept_from, files_same, beside_work, descriptor_ram, buffer_ram}
 use Rattle.load_states.proofs.Looks.{by_test, kept_with, kept_waiting}
 use Rattle.load_states.proofs.NamedItems.{contents_named, item_there}
 use Rattle.load_states.proofs.Pointing.{pointing_still, can_put, pointer_fits, place_as_run}
 use Rattle.load_states.proofs.Taken.{going_on}
+use Rattle.load_states.proofs.Zoned.{zoned_files}
+use Rattle.cfg_dma.proofs.Standing.{skip_stands, started_address, write_stands}
 
 -- memory outside of the work range stays
 abbrev StaysOutside : Memory → Memory → Type 0
 StaysOutside before after = (address : ℕ) → is_work address ≡ false → at after address ≡ at before address
 
 -- so placed files hold what they held
-files_outside : (May : Answers) (items : List Item) (top fill : ℕ) (events : List Event) (w : LoadState) (m : Memory) → IsKept May items top fill events w
+files_outside : (May : Answers) (items : List Item) (top fill : ℕ) (w : LoadState) (m : Memory) → KeepsNow May items top fill w
     → StaysOutside (memory_of w) m → files_in m w.placed ≡ files_now w
-files_outside May items top fill events w m kept stays =
-    files_same top (memory_of w) m w.placed kept.top kept.loading.apart kept.zoned (λ address ram guarded other. stays address other)
+files_outside May items top fill w m kept stays =
+    files_same top (memory_of w) m w.placed kept.top kept.loading.apart (zoned_files kept) (λ address ram guarded other. stays address other)
 
 -- an address that is beside the buffer is beside what is put at its start
 beside_number : (address size : ℕ) → size ≤ 4096 → (address < buffer_at) ⊎ (buffer_at + 4096 ≤ address)
@@ -92,12 +92,12 @@ skip_can items top p dest src dst_offset src_offset size file lawful can there s
     }
 
 -- The skip to where a WritePointer writes is over once it is asked for.
-pub point_keeps : (May : Answers) (items : List Item) (top fill : ℕ) (events : List Event) (w : LoadState) (index : ℕ) (dest src : List ℕ)
-    (dst_offset src_offset size : ℕ) → IsKept May items top fill events w
+pub point_keeps : (May : Answers) (items : List Item) (top fill : ℕ) (w : LoadState) (index : ℕ) (dest src : List ℕ)
+    (dst_offset src_offset size : ℕ) → KeepsNow May items top fill w
     → IsBefore May items w index (WritePointer dest src dst_offset src_offset size)
     → cause_of (WritePointer dest src dst_offset src_offset size) (progress_of w) ≡ None
-    → IsKept May items top fill (events ++ Firmware ∷ []) (skips index dst_offset (listed_named w.listed dest) w)
-point_keeps May items top fill events w index dest src dst_offset src_offset size kept before none =
+    → KeepsOn May items top fill w (skips index dst_offset (listed_named w.listed dest) w)
+point_keeps May items top fill w index dest src dst_offset src_offset size kept before none =
     let entry = WritePointer dest src dst_offset src_offset size in
     let can : CanWritePointer (progress_of w) dest src dst_offset src_offset size = conditions_from entry (progress_of w) none in
     let found = item_there (items_now w) dest can.file can.there in
@@ -126,33 +126,35 @@ point_keeps May items top fill events w index dest src dst_offset src_offset siz
     let next = going_on w after (AwaitsSkip index) in
     let outside : StaysOutside (memory_of w) after.memory = λ address other. starts.3 address (beside_work address other).0 in
     let still = pointing_still May items (items_now w) index w after (AwaitsSkip index)
-    (files_outside May items top fill events w after.memory kept outside) known in
-    let listed = listed_there (items_now w) w.listed dest file (listed_as_now May items top fill events w kept before.script.listed) found.1 in
-    subst (λ (o : Option Listed). IsKept May items top fill (events ++ Firmware ∷ []) (skips index dst_offset o w)) (sym listed)
-    (kept_from May items top fill events (events ++ Firmware ∷ []) w next kept starts.1 (ap (map shape_of) starts.2) refl
-    (λ address ram other beside. outside address other) (λ address. left_firmware top fill events address)
+    (files_outside May items top fill w after.memory kept outside) known in
+    let listed = listed_there (items_now w) w.listed dest file (listed_as_now May items top fill w kept before.script.listed) found.1 in
+    subst (λ (o : Option Listed). KeepsOn May items top fill w (skips index dst_offset o w)) (sym listed)
+    (kept_from May items top fill w next kept starts.1 (ap (map shape_of) starts.2) refl
+    (λ address ram other beside. outside address other)
+    (skip_stands (moves_before items index w w.placed) descriptor_at file.select dst_offset after starts.0
+    (started_address descriptor_at (selected_skip file.select) dst_offset 0 w.attached))
     (subst
     (λ (is : List Item).
     (k : IsPointing May items is index next) × IsSkipped (moves_before items index w w.placed) descriptor_at k.file.select k.dst_offset after)
     (sym starts.2) (still, starts.0)))
 
 -- The firmware sees it over, and asks for the write next.
-pub skip_taken_keeps : (May : Answers) (items : List Item) (top fill : ℕ) (events : List Event) (w : LoadState) (index : ℕ)
-    → IsKept May items top fill events w → StageKeeps May items w (AwaitsSkip index)
-    → IsKept May items top fill (events ++ Firmware ∷ []) (firmware_step (AwaitsSkip index) None w)
-skip_taken_keeps May items top fill events w index kept keeps =
-    by_test (IsKept May items top fill (events ++ Firmware ∷ [])) (is_over w) (record w { stage = AsksWrite index }) w
-    (λ over. kept_with May items top fill events w w.listed w.script (AsksWrite index) kept
+pub skip_taken_keeps : (May : Answers) (items : List Item) (top fill : ℕ) (w : LoadState) (index : ℕ)
+    → KeepsNow May items top fill w → StageKeeps May items w (AwaitsSkip index)
+    → KeepsOn May items top fill w (firmware_step (AwaitsSkip index) None w)
+skip_taken_keeps May items top fill w index kept keeps =
+    by_test (KeepsOn May items top fill w) (is_over w) (record w { stage = AsksWrite index }) w
+    (λ over. kept_with May items top fill w w.listed w.script (AsksWrite index) kept
     (pointing_still May items (items_now w) index w w.attached (AsksWrite index) refl keeps.0, keeps.1))
-    (λ waits. kept_waiting May items top fill events w kept)
+    (λ waits. kept_waiting May items top fill w kept)
 
 -- ---- the write
 
 -- Its number stands in the buffer, and its write is started.
-pub write_asked_keeps : (May : Answers) (items : List Item) (top fill : ℕ) (events : List Event) (w : LoadState) (index : ℕ)
-    → IsKept May items top fill events w → StageKeeps May items w (AsksWrite index)
-    → IsKept May items top fill (events ++ Firmware ∷ []) (firmware_step (AsksWrite index) None w)
-write_asked_keeps May items top fill events w index kept keeps =
+pub write_asked_keeps : (May : Answers) (items : List Item) (top fill : ℕ) (w : LoadState) (index : ℕ)
+    → KeepsNow May items top fill w → StageKeeps May items w (AsksWrite index)
+    → KeepsOn May items top fill w (firmware_step (AsksWrite index) None w)
+write_asked_keeps May items top fill w index kept keeps =
     let known = keeps.0 in
     let skipped = keeps.1 in
     let entry = WritePointer known.dest known.src known.dst_offset known.src_offset known.size in
@@ -184,13 +186,15 @@ write_asked_keeps May items top fill events w index kept keeps =
     ∙ others_with m descriptor_at (descriptor_bytes next_write known.size buffer_at) address lawful beside.0
     ∙ others_with (memory_of w) buffer_at number address kept.memory (beside_number address (length number) (omega (arith, size, few)) beside.1) in
     let next = going_on w after (AwaitsWrite index) in
-    subst (λ (o : Option Entry). IsKept May items top fill (events ++ Firmware ∷ []) (writes index o w)) (sym known.command)
-    (kept_from May items top fill events (events ++ Firmware ∷ []) w next kept
-    (record { room = goes.room; device = goes.device; memory = goes.memory; top = goes.top; fill = goes.fill })
+    subst (λ (o : Option Entry). KeepsOn May items top fill w (writes index o w)) (sym known.command)
+    (kept_from May items top fill w next kept
+    (record { room = goes.room; opening = goes.opening; device = goes.device; memory = goes.memory; top = goes.top; fill = goes.fill })
     (written_items (items_now w) number before (memory_of w).top descriptor_at transfer after known.lawful.distinct can size (inl writing)) refl
-    (λ address ram other beside. outside address other) (λ address. left_firmware top fill events address) (
+    (λ address ram other beside. outside address other)
+    (write_stands (items_now w) number before descriptor_at transfer after (inl writing)
+    (started_address descriptor_at next_write known.size buffer_at a)) (
       items_now w,
-      pointing_still May items (items_now w) index w after (AwaitsWrite index) (files_outside May items top fill events w after.memory kept outside) known,
+      pointing_still May items (items_now w) index w after (AwaitsWrite index) (files_outside May items top fill w after.memory kept outside) known,
       inl writing,
     ))
 
@@ -223,13 +227,13 @@ files_written before w dest src dst_offset src_offset size file distinct there w
     ap (λ (fs : List File). Some (at_files fs (files_now w) [])) (sym are)
 
 -- The firmware goes on behind it once it is over.
-write_taken : (May : Answers) (items : List Item) (top fill : ℕ) (events : List Event) (w : LoadState) (index : ℕ) (before : List Item)
-    → IsKept May items top fill events w → (known : IsPointing May items before index w)
+write_taken : (May : Answers) (items : List Item) (top fill : ℕ) (w : LoadState) (index : ℕ) (before : List Item)
+    → KeepsNow May items top fill w → (known : IsPointing May items before index w)
     → IsWritten before (number_for w known.src known.src_offset known.size)
     (moves_before items index w w.placed ++ skip_of known.file.select known.dst_offset ∷ []) descriptor_at
     (write_of known.file.select known.dst_offset known.size buffer_at) w.attached
-    → IsKept May items top fill (events ++ Firmware ∷ []) (passed index w)
-write_taken May items top fill events w index before kept known written =
+    → KeepsOn May items top fill w (passed index w)
+write_taken May items top fill w index before kept known written =
     let entry = WritePointer known.dest known.src known.dst_offset known.src_offset known.size in
     let skip = skip_of known.file.select known.dst_offset in
     let transfer = write_of known.file.select known.dst_offset known.size buffer_at in
@@ -250,17 +254,17 @@ write_taken May items top fill events w index before kept known written =
       known.goes,
       files_written before w known.dest known.src known.dst_offset known.src_offset known.size known.file known.lawful.distinct known.there written.put,
     ) in
-    kept_with May items top fill events w w.listed w.script (AtCommand (suc index)) kept (
+    kept_with May items top fill w w.listed w.script (AtCommand (suc index)) kept (
       record { listed = known.script.listed; script = known.script.script },
       (let within = slice_get_within w.script index entry known.command in omega arith),
       record { idle = written.idle; finished = written.finished ∙ sym finished },
       carried_more May items index entry w (progress_of w) known.command known.run leads (sym (ranges_in (memory_of w) w.placed)),
     )
 
-pub write_taken_keeps : (May : Answers) (items : List Item) (top fill : ℕ) (events : List Event) (w : LoadState) (index : ℕ)
-    → IsKept May items top fill events w → StageKeeps May items w (AwaitsWrite index)
-    → IsKept May items top fill (events ++ Firmware ∷ []) (firmware_step (AwaitsWrite index) None w)
-write_taken_keeps May items top fill events w index kept keeps =
-    by_test (IsKept May items top fill (events ++ Firmware ∷ [])) (is_over w) (passed index w) w
-    (λ zero. write_taken May items top fill events w index keeps.0 kept keeps.1 (write_over _ _ _ descriptor_at _ w.attached keeps.2 zero))
-    (λ waits. kept_waiting May items top fill events w kept)
+pub write_taken_keeps : (May : Answers) (items : List Item) (top fill : ℕ) (w : LoadState) (index : ℕ)
+    → KeepsNow May items top fill w → StageKeeps May items w (AwaitsWrite index)
+    → KeepsOn May items top fill w (firmware_step (AwaitsWrite index) None w)
+write_taken_keeps May items top fill w index kept keeps =
+    by_test (KeepsOn May items top fill w) (is_over w) (passed index w) w
+    (λ zero. write_taken May items top fill w index keeps.0 kept keeps.1 (write_over _ _ _ descriptor_at _ w.attached keeps.2 zero))
+    (λ waits. kept_waiting May items top fill w kept)

@@ -1,5 +1,5 @@
 -- The number of files, once its read is over.
-use Rattle.std.proofs.Common.{◌≡◌, ◌≢◌, ℕ, ◌*◌, ◌==◌, List, [], ◌∷◌, ◌++◌, length}
+use Rattle.std.proofs.Common.{◌≡◌, ◌≢◌, ℕ, ◌*◌, ◌==◌, List, [], length}
 use Rattle.std.proofs.Common.{inr, arith, refl, sym, ap, subst, ◌∙◌}
 use Rattle.std.proofs.lemmas.Bool.{eqb-true, eqb-false}
 use Rattle.std.proofs.lemmas.List.{take_at}
@@ -17,8 +17,6 @@ use Rattle.cfg_dma.specs.Reads.{IsOver}
 use Rattle.command_acts.specs.declared.fault.LoadFault.TheVariants.{NoScript}
 use Rattle.command_acts.specs.Runs.{Answers}
 use Rattle.command_acts.specs.Script.{script_from}
-use Rattle.load_states.specs.declared.event.Event.{Event}
-use Rattle.load_states.specs.declared.event.Event.TheVariants.{Firmware}
 use Rattle.load_states.specs.declared.stage.Stage.{Stage}
 use Rattle.load_states.specs.declared.reading.Reading.TheVariants as read
 use Rattle.load_states.specs.declared.stage.Stage.TheVariants.{Asks, Refused}
@@ -26,12 +24,13 @@ use Rattle.load_states.specs.Guarded.{descriptor_at, buffer_at}
 use Rattle.load_states.specs.LoadState.{LoadState}
 use Rattle.load_states.specs.Steps.{buffered, counted}
 use Rattle.load_states.specs.Moves.{count_read}
-use Rattle.load_states.specs.Kept.{IsKept, HasNothing}
+use Rattle.load_states.specs.Kept.{KeepsNow, HasNothing}
 use Rattle.load_states.proofs.Looks.{by_test, kept_with, ended_unread}
 use Rattle.load_states.proofs.NamedItems.{contents_listed, none_named}
+use Rattle.load_states.proofs.Frames.{KeepsOn}
 
 -- the buffer spells the number of files
-count_held : (items : List Item) (before : List Finished) (a : Attached) → IsItems items → IsOver items before descriptor_at count_read a
+pub count_held : (items : List Item) (before : List Finished) (a : Attached) → IsItems items → IsOver items before descriptor_at count_read a
     → be (bytes_at a.memory buffer_at 4) ≡ length items
 count_held items before a lawful over =
     ap be (over.held ∙ ap (λ (bytes : List ℕ). part bytes 0 4) (contents_listed items)
@@ -39,20 +38,20 @@ count_held items before a lawful over =
     ∙ count_of_files items lawful
 
 -- The firmware takes it: it asks for the entries, or there is no script.
-pub count_taken : (May : Answers) (items : List Item) (top fill : ℕ) (events : List Event) (w : LoadState) → IsKept May items top fill events w
+pub count_taken : (May : Answers) (items : List Item) (top fill : ℕ) (w : LoadState) → KeepsNow May items top fill w
     → (has : HasNothing items w) → IsOver items [] descriptor_at count_read w.attached
-    → IsKept May items top fill (events ++ Firmware ∷ []) (counted (be (buffered 4 w)) w)
-count_taken May items top fill events w kept has over =
+    → KeepsOn May items top fill w (counted (be (buffered 4 w)) w)
+count_taken May items top fill w kept has over =
     let after : Stage → LoadState = λ stage. record w { stage = stage } in
-    subst (λ (n : ℕ). IsKept May items top fill (events ++ Firmware ∷ []) (counted n w)) (sym (count_held items [] w.attached kept.lawful over))
-    (by_test (λ (stage : Stage). IsKept May items top fill (events ++ Firmware ∷ []) (after stage)) (length items == 0) (Refused NoScript)
+    subst (λ (n : ℕ). KeepsOn May items top fill w (counted n w)) (sym (count_held items [] w.attached kept.lawful over))
+    (by_test (λ (stage : Stage). KeepsOn May items top fill w (after stage)) (length items == 0) (Refused NoScript)
     (Asks (read.Entries (64 * length items) 0))
-    (λ none. kept_with May items top fill events w w.listed w.script (Refused NoScript) kept
+    (λ none. kept_with May items top fill w w.listed w.script (Refused NoScript) kept
     (ended_unread May items NoScript (after (Refused NoScript)) over.idle
     (ap script_from (none_named items loader_name (eqb-true (length items) 0 none))) has.placed has.begun))
     (λ some.
     let differs : length items ≢ 0 = eqb-false (length items) 0 some in
-    kept_with May items top fill events w w.listed w.script (Asks (read.Entries (64 * length items) 0)) kept (
+    kept_with May items top fill w w.listed w.script (Asks (read.Entries (64 * length items) 0)) kept (
       omega arith,
       (
         record {

@@ -6,7 +6,8 @@ use Rattle.vt_bytes.specs.Memory.{Memory, IsMemory, IsRam, at}
 use Rattle.cfg_directory.specs.declared.item.Item.{Item}
 use Rattle.cfg_directory.specs.Shapes.{shape_of, HaveOneShape}
 use Rattle.vt_bytes.proofs.Numbers.{length-le_bytes}
-use Rattle.cfg_dma.specs.Device.{IsDevice}
+use Rattle.cfg_dma.specs.Device.{IsDevice, StandsWhereLeft}
+use Rattle.cfg_dma.proofs.Standing.{piece_address, read_stands, write_stands}
 use Rattle.cfg_dma.specs.declared.transfer.Finished.{Finished}
 use Rattle.cfg_dma.specs.Transfers.{Attached, piece}
 use Rattle.cfg_dma.specs.Reads.{IsAwaited, CanRead, GoesOn, IsBesideRead}
@@ -16,7 +17,6 @@ use Rattle.cfg_dma.proofs.WriteAwaited.{write_moves_on, written_items}
 use Rattle.command_acts.specs.declared.placed.PlacedFile.{PlacedFile}
 use Rattle.command_acts.specs.FilesInMemory.{IsBeside, files_in, place_of}
 use Rattle.command_acts.specs.Runs.{Answers}
-use Rattle.load_states.specs.declared.event.Event.{Event}
 use Rattle.load_states.specs.declared.event.Event.TheVariants.{Device}
 use Rattle.load_states.specs.declared.stage.Stage.{Stage}
 use Rattle.load_states.specs.declared.reading.Reading.{Reading}
@@ -24,10 +24,11 @@ use Rattle.load_states.specs.declared.stage.Stage.TheVariants.{Asks, Awaits, AtC
 use Rattle.load_states.specs.Guarded.{descriptor_at, buffer_at, is_work}
 use Rattle.load_states.specs.LoadState.{LoadState, memory_of, items_now, files_now}
 use Rattle.load_states.specs.Steps.{step, number_for}
-use Rattle.load_states.specs.Kept.{IsKept, StageKeeps, IsAwaiting, read_by, moves_before}
+use Rattle.load_states.specs.Kept.{KeepsNow, StageKeeps, IsAwaiting, read_by, moves_before}
 use Rattle.load_states.proofs.Known.{front_beside, known_still, can_read, beside_read}
-use Rattle.load_states.proofs.Frames.{kept_from, left_device, files_same}
+use Rattle.load_states.proofs.Frames.{KeepsOn, kept_from, files_same}
 use Rattle.load_states.proofs.Pointing.{can_put, pointing_still, beside_word}
+use Rattle.load_states.proofs.Zoned.{zoned_files}
 
 -- ---- the load after a piece
 
@@ -40,20 +41,22 @@ abbrev StaysAround : ℕ → List PlacedFile → Memory → Memory → Type 0
 StaysAround top placed before after =
     (address : ℕ) → IsRam top address → is_work address ≡ false → AllByRecursion (IsBeside address) placed → at after address ≡ at before address
 
--- What a piece leads to: the load goes on, with items of one shape, memory stays around, and what holds at its stage holds.
+-- What a piece leads to: the load goes on, with items of one shape, memory stays around, the device stands where it should, and what holds at its
+-- stage holds.
 abbrev LeadsOn : Answers → List Item → ℕ → LoadState → Stage → Attached → Type 0
 LeadsOn May items top w s a =
     GoesOn w.attached a × HaveOneShape (items_now w) a.device.items × StaysAround top w.placed w.attached.memory a.memory
-    × StageKeeps May items (with_attached w a) s
+    × StandsWhereLeft a.device × StageKeeps May items (with_attached w a) s
 
 -- where no transfer is in flight nothing changes
-idle_leads : (May : Answers) (items : List Item) (top bytes : ℕ) (w : LoadState) (s : Stage) → IsDevice w.attached.device → IsMemory w.attached.memory
+idle_leads : (May : Answers) (items : List Item) (top fill bytes : ℕ) (w : LoadState) (s : Stage) → KeepsNow May items top fill w
     → w.attached.device.flight ≡ None → StageKeeps May items w s → LeadsOn May items top w s (piece bytes w.attached)
-idle_leads May items top bytes w s device memory idle keeps =
+idle_leads May items top fill bytes w s kept idle keeps =
     subst (λ (a : Attached). LeadsOn May items top w s a) (sym (piece_idle bytes w.attached idle)) (
-      record { room = refl; device = device; memory = memory; top = refl; fill = refl },
+      record { room = refl; opening = refl; device = kept.device; memory = kept.memory; top = refl; fill = refl },
       refl,
       λ address ram other beside. refl,
+      kept.stands,
       keeps,
     )
 
@@ -89,35 +92,36 @@ some_move top before control transfer bytes a its_top device memory can awaited 
       | inr over ↦
           subst (MovesOn before control transfer a) (sym (piece_idle bytes a over.idle)) (
             inr over,
-            record { room = refl; device = device; memory = memory; top = refl; fill = refl },
+            record { room = refl; opening = refl; device = device; memory = memory; top = refl; fill = refl },
             refl,
             λ address other. refl,
           )
     ]
 
 -- a piece of a read that is awaited
-reading_leads : (May : Answers) (items : List Item) (top fill : ℕ) (events : List Event) (bytes : ℕ) (w : LoadState) (reading : Reading)
-    → IsKept May items top fill events w → StageKeeps May items w (Awaits reading)
+reading_leads : (May : Answers) (items : List Item) (top fill : ℕ) (bytes : ℕ) (w : LoadState) (reading : Reading)
+    → KeepsNow May items top fill w → StageKeeps May items w (Awaits reading)
     → LeadsOn May items top w (Awaits reading) (piece bytes w.attached)
-reading_leads May items top fill events bytes w reading kept keeps =
+reading_leads May items top fill bytes w reading kept keeps =
     let known = keeps.0 in
     let r = read_by May items w reading known in
     let after = piece bytes w.attached in
     let moved = some_move top r.before r.control r.transfer bytes w.attached kept.top kept.device kept.memory
-    (can_read May items top fill events w reading kept known) keeps.1 in
+    (can_read May items top fill w reading kept known) keeps.1 in
     let still = known_still May items w after w.stage reading moved.2
-    (front_beside May items top w after.memory reading known kept.loading.apart kept.zoned moved.3) known in (
+    (front_beside May items top w after.memory reading known kept.loading.apart (zoned_files kept) moved.3) known in (
       moved.1,
       ap (map shape_of) moved.2,
       λ address ram other beside. moved.3 address (beside_read May items w reading known address other beside),
+      read_stands after.device.items r.before descriptor_at r.control r.transfer after moved.0 (piece_address bytes w.attached ∙ kept.stands.address),
       (still.known, subst (IsAwaiting (with_attached w after)) (sym still.same) moved.0),
     )
 
 -- a piece of a write that is awaited
-writing_leads : (May : Answers) (items : List Item) (top fill : ℕ) (events : List Event) (bytes index : ℕ) (w : LoadState)
-    → IsKept May items top fill events w → StageKeeps May items w (AwaitsWrite index)
+writing_leads : (May : Answers) (items : List Item) (top fill : ℕ) (bytes index : ℕ) (w : LoadState)
+    → KeepsNow May items top fill w → StageKeeps May items w (AwaitsWrite index)
     → LeadsOn May items top w (AwaitsWrite index) (piece bytes w.attached)
-writing_leads May items top fill events bytes index w kept keeps =
+writing_leads May items top fill bytes index w kept keeps =
     let items_before = keeps.0 in
     let known = keeps.1 in
     let number = number_for w known.src known.src_offset known.size in
@@ -130,38 +134,38 @@ writing_leads May items top fill events bytes index w kept keeps =
     (subst (λ t. CanWrite items_before t descriptor_at transfer) (sym kept.top) can) keeps.2 in
     let outside : (address : ℕ) → is_work address ≡ false → at after.memory address ≡ at (memory_of w) address =
     λ address other. moved.2 address (beside_word address other) in
-    let same : files_in after.memory w.placed ≡ files_now w = files_same top (memory_of w) after.memory w.placed kept.top kept.loading.apart kept.zoned
+    let same : files_in after.memory w.placed ≡ files_now w = files_same top (memory_of w) after.memory w.placed kept.top kept.loading.apart (zoned_files kept)
     (λ address ram guarded other. outside address other) in
     let shaped : (a : Attached) → IsWriteAwaited items_before number before descriptor_at transfer a → HaveOneShape items_before a.device.items = λ a awaited.
     written_items items_before number before top descriptor_at transfer a known.lawful.distinct can size awaited in (
       moved.1,
       shaped after moved.0 ∙ sym (shaped w.attached keeps.2),
       λ address ram other beside. outside address other,
+      write_stands items_before number before descriptor_at transfer after moved.0 (piece_address bytes w.attached ∙ kept.stands.address),
       (items_before, pointing_still May items items_before index w after w.stage same known, moved.0),
     )
 
 -- a piece at each stage
-stage_leads : (May : Answers) (items : List Item) (top fill : ℕ) (events : List Event) (bytes : ℕ) (w : LoadState) (s : Stage)
-    → IsKept May items top fill events w → StageKeeps May items w s → LeadsOn May items top w s (piece bytes w.attached)
-stage_leads May items top fill events bytes w (Asks reading) kept keeps =
-    idle_leads May items top bytes w (Asks reading) kept.device kept.memory keeps.1.1.idle.idle keeps
-stage_leads May items top fill events bytes w (Awaits reading) kept keeps = reading_leads May items top fill events bytes w reading kept keeps
-stage_leads May items top fill events bytes w (AtCommand index) kept keeps =
-    idle_leads May items top bytes w (AtCommand index) kept.device kept.memory keeps.2.idle keeps
-stage_leads May items top fill events bytes w (AwaitsSkip index) kept keeps =
-    idle_leads May items top bytes w (AwaitsSkip index) kept.device kept.memory keeps.1.idle keeps
-stage_leads May items top fill events bytes w (AsksWrite index) kept keeps =
-    idle_leads May items top bytes w (AsksWrite index) kept.device kept.memory keeps.1.idle keeps
-stage_leads May items top fill events bytes w (AwaitsWrite index) kept keeps = writing_leads May items top fill events bytes index w kept keeps
-stage_leads May items top fill events bytes w Done kept keeps =
-    idle_leads May items top bytes w Done kept.device kept.memory keeps.0.idle keeps
-stage_leads May items top fill events bytes w (Refused why) kept keeps =
-    idle_leads May items top bytes w (Refused why) kept.device kept.memory keeps.idle keeps
+stage_leads : (May : Answers) (items : List Item) (top fill : ℕ) (bytes : ℕ) (w : LoadState) (s : Stage)
+    → KeepsNow May items top fill w → StageKeeps May items w s → LeadsOn May items top w s (piece bytes w.attached)
+stage_leads May items top fill bytes w (Asks reading) kept keeps =
+    idle_leads May items top fill bytes w (Asks reading) kept keeps.1.1.idle.idle keeps
+stage_leads May items top fill bytes w (Awaits reading) kept keeps = reading_leads May items top fill bytes w reading kept keeps
+stage_leads May items top fill bytes w (AtCommand index) kept keeps =
+    idle_leads May items top fill bytes w (AtCommand index) kept keeps.2.idle keeps
+stage_leads May items top fill bytes w (AwaitsSkip index) kept keeps =
+    idle_leads May items top fill bytes w (AwaitsSkip index) kept keeps.1.idle keeps
+stage_leads May items top fill bytes w (AsksWrite index) kept keeps =
+    idle_leads May items top fill bytes w (AsksWrite index) kept keeps.1.idle keeps
+stage_leads May items top fill bytes w (AwaitsWrite index) kept keeps = writing_leads May items top fill bytes index w kept keeps
+stage_leads May items top fill bytes w Done kept keeps =
+    idle_leads May items top fill bytes w Done kept keeps.0.idle keeps
+stage_leads May items top fill bytes w (Refused why) kept keeps =
+    idle_leads May items top fill bytes w (Refused why) kept keeps.idle keeps
 
 -- A piece of the device's transfer keeps what the load keeps.
-pub device_keeps : (May : Answers) (items : List Item) (top fill : ℕ) (events : List Event) (w : LoadState) (bytes : ℕ) (answer : Option ℕ)
-    → IsKept May items top fill events w → IsKept May items top fill (events ++ Device bytes ∷ []) (step (Device bytes) answer w)
-device_keeps May items top fill events w bytes answer kept =
-    let leads = stage_leads May items top fill events bytes w w.stage kept kept.stage in
-    kept_from May items top fill events (events ++ Device bytes ∷ []) w (with_attached w (piece bytes w.attached)) kept leads.0 leads.1 refl leads.2
-    (λ address. left_device top fill events bytes address) leads.3
+pub device_keeps : (May : Answers) (items : List Item) (top fill : ℕ) (w : LoadState) (bytes : ℕ) (answer : Option ℕ)
+    → KeepsNow May items top fill w → KeepsOn May items top fill w (step (Device bytes) answer w)
+device_keeps May items top fill w bytes answer kept =
+    let leads = stage_leads May items top fill bytes w w.stage kept kept.stage in
+    kept_from May items top fill w (with_attached w (piece bytes w.attached)) kept leads.0 leads.1 refl leads.2 leads.3 leads.4

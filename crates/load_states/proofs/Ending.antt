@@ -21,12 +21,11 @@ use Rattle.cfg_dma.specs.declared.transfer.Finished.{Finished}
 use Rattle.cfg_dma.proofs.Awaited.{whole_piece, piece_idle}
 use Rattle.cfg_dma.proofs.Started.{range_low}
 use Rattle.command_acts.specs.Runs.{Answers}
-use Rattle.load_states.specs.declared.event.Event.{Event}
 use Rattle.load_states.specs.declared.event.Event.TheVariants.{Device, Firmware}
 use Rattle.load_states.specs.declared.stage.Stage.{Stage}
 use Rattle.load_states.specs.declared.stage.Stage.TheVariants.{Asks, Awaits, AtCommand, AwaitsSkip, AsksWrite, AwaitsWrite, Done, Refused}
 use Rattle.load_states.specs.Guarded.{descriptor_at}
-use Rattle.load_states.specs.Kept.{IsKept, StageKeeps, HasScript, LoadRead, IsAwaiting, IsPointing, read_by}
+use Rattle.load_states.specs.Kept.{KeepsNow, StageKeeps, HasScript, LoadRead, IsAwaiting, IsPointing, read_by}
 use Rattle.load_states.specs.Loads.{most_steps}
 use Rattle.load_states.specs.Moves.{script_size}
 use Rattle.load_states.specs.LoadState.{LoadState, memory_of, items_now, listed_named, progress_of}
@@ -154,17 +153,17 @@ either May items w next Done is keeps steps = inr (ap (λ (m : LoadState). m.sta
 either May items w next (Refused why) is keeps steps = inr (ap (λ (m : LoadState). m.stage) steps, λ idle. ap has_ended is)
 
 -- A step of the firmware goes on where no transfer is in flight and the load hasn't ended, and never takes the firmware back.
-pub step_goes : (May : Answers) (items : List Item) (top fill : ℕ) (events : List Event) (w next : LoadState) → IsKept May items top fill events w
+pub step_goes : (May : Answers) (items : List Item) (top fill : ℕ) (w next : LoadState) → KeepsNow May items top fill w
     → StepsTo May Firmware w next → w.attached.device.flight ≡ None → has_ended w.stage ≡ false → Goes items w.stage next.stage
-step_goes May items top fill events w next kept steps idle running =
+step_goes May items top fill w next kept steps idle running =
     elim (either May items w next w.stage refl kept.stage steps) as (λ _. Goes items w.stage next.stage) [
       | inl goes ↦ goes
       | inr stays ↦ absurd (true≢false (sym (stays.1 idle) ∙ running))
     ]
 
-pub step_not_back : (May : Answers) (items : List Item) (top fill : ℕ) (events : List Event) (w next : LoadState) → IsKept May items top fill events w
+pub step_not_back : (May : Answers) (items : List Item) (top fill : ℕ) (w next : LoadState) → KeepsNow May items top fill w
     → StepsTo May Firmware w next → steps_left items next.stage ≤ steps_left items w.stage
-step_not_back May items top fill events w next kept steps =
+step_not_back May items top fill w next kept steps =
     elim (either May items w next w.stage refl kept.stage steps) as (λ _. steps_left items next.stage ≤ steps_left items w.stage) [
       | inl goes ↦ omega (arith, goes)
       | inr stays ↦ subst (λ (s : Stage). steps_left items s ≤ steps_left items w.stage) (sym stays.0) (omega arith)
@@ -201,30 +200,30 @@ waits_end top w its_top device memory waits = elim waits.awaited as (λ _. (piec
 ]
 
 -- none is in flight behind it, at each stage
-whole_idles : (May : Answers) (items : List Item) (top fill : ℕ) (events : List Event) (w : LoadState) (s : Stage) → IsKept May items top fill events w
+whole_idles : (May : Answers) (items : List Item) (top fill : ℕ) (w : LoadState) (s : Stage) → KeepsNow May items top fill w
     → StageKeeps May items w s → (piece 0xFFFFFFFF w.attached).device.flight ≡ None
-whole_idles May items top fill events w (Asks reading) kept keeps = idle_still w.attached keeps.1.1.idle.idle
-whole_idles May items top fill events w (Awaits reading) kept keeps =
+whole_idles May items top fill w (Asks reading) kept keeps = idle_still w.attached keeps.1.1.idle.idle
+whole_idles May items top fill w (Awaits reading) kept keeps =
     waits_end top w kept.top kept.device kept.memory (record {
       of = read_by May items w reading keeps.0;
       awaited = keeps.1;
-      can = can_read May items top fill events w reading kept keeps.0;
+      can = can_read May items top fill w reading kept keeps.0;
     })
-whole_idles May items top fill events w (AtCommand index) kept keeps = idle_still w.attached keeps.2.idle
-whole_idles May items top fill events w (AwaitsSkip index) kept keeps = idle_still w.attached keeps.1.idle
-whole_idles May items top fill events w (AsksWrite index) kept keeps = idle_still w.attached keeps.1.idle
-whole_idles May items top fill events w (AwaitsWrite index) kept keeps =
+whole_idles May items top fill w (AtCommand index) kept keeps = idle_still w.attached keeps.2.idle
+whole_idles May items top fill w (AwaitsSkip index) kept keeps = idle_still w.attached keeps.1.idle
+whole_idles May items top fill w (AsksWrite index) kept keeps = idle_still w.attached keeps.1.idle
+whole_idles May items top fill w (AwaitsWrite index) kept keeps =
     let few = pointer_fits May items keeps.0 index w keeps.1 in
     whole_write w.attached keeps.0 _ _ descriptor_at 0xFFFFFFFF _ refl (omega arith) keeps.2
-whole_idles May items top fill events w Done kept keeps = idle_still w.attached keeps.0.idle
-whole_idles May items top fill events w (Refused why) kept keeps = idle_still w.attached keeps.idle
+whole_idles May items top fill w Done kept keeps = idle_still w.attached keeps.0.idle
+whole_idles May items top fill w (Refused why) kept keeps = idle_still w.attached keeps.idle
 
 -- A piece as long as any transfer leaves none in flight, and the stage as it was.
-pub whole_piece_idle : (May : Answers) (items : List Item) (top fill : ℕ) (events : List Event) (w next : LoadState) → IsKept May items top fill events w
+pub whole_piece_idle : (May : Answers) (items : List Item) (top fill : ℕ) (w next : LoadState) → KeepsNow May items top fill w
     → StepsTo May (Device 0xFFFFFFFF) w next → (next.attached.device.flight ≡ None) × (next.stage ≡ w.stage)
-whole_piece_idle May items top fill events w next kept steps = (
+whole_piece_idle May items top fill w next kept steps = (
   subst (λ (m : LoadState). m.attached.device.flight ≡ None) (sym steps)
-      (whole_idles May items top fill events w w.stage kept kept.stage),
+      (whole_idles May items top fill w w.stage kept kept.stage),
   ap (λ (m : LoadState). m.stage) steps,
 )
 

@@ -1,5 +1,5 @@
 -- Entries of the directory, once a read of them is over.
-use Rattle.std.proofs.Common.{◌≡◌, ℕ, suc, ◌+◌, ◌-◌, ◌*◌, ◌/◌, ◌<◌, ◌==◌, if◌then◌else◌, List, [], ◌∷◌, ◌++◌, length, take}
+use Rattle.std.proofs.Common.{◌≡◌, ℕ, suc, ◌+◌, ◌-◌, ◌*◌, ◌/◌, ◌<◌, ◌==◌, if◌then◌else◌, List, ◌∷◌, ◌++◌, length, take}
 use Rattle.std.proofs.Common.{inr, arith, refl, sym, ap, ap₂, subst, ◌∙◌}
 use Rattle.std.specs.List.{AllByRecursion}
 use Rattle.std.proofs.lemmas.Bool.{eqb-true, eqb-false}
@@ -15,8 +15,6 @@ use Rattle.loader_script.specs.LoaderName.{loader_name}
 use Rattle.cfg_dma.specs.Device.{contents}
 use Rattle.cfg_dma.specs.Reads.{IsOver}
 use Rattle.command_acts.specs.Runs.{Answers}
-use Rattle.load_states.specs.declared.event.Event.{Event}
-use Rattle.load_states.specs.declared.event.Event.TheVariants.{Firmware}
 use Rattle.load_states.specs.declared.stage.Stage.{Stage}
 use Rattle.load_states.specs.declared.reading.Reading.TheVariants as read
 use Rattle.load_states.specs.declared.stage.Stage.TheVariants.{Asks}
@@ -24,15 +22,16 @@ use Rattle.load_states.specs.Guarded.{descriptor_at, buffer_at, buffer_size}
 use Rattle.load_states.specs.LoadState.{LoadState, memory_of, listed_named}
 use Rattle.load_states.specs.Steps.{asked, buffered, entries_taken, stage_for}
 use Rattle.load_states.specs.Moves.{count_read, piece_read, first_reads, all_reads}
-use Rattle.load_states.specs.Kept.{IsKept, HasEntries, with_entries}
+use Rattle.load_states.specs.Kept.{KeepsNow, HasEntries, with_entries}
 use Rattle.load_states.proofs.Looks.{by_test, kept_with}
 use Rattle.load_states.proofs.NamedItems.{contents_listed, listing}
 use Rattle.load_states.proofs.PartsListed.{listed_more}
 use Rattle.load_states.proofs.PieceSizes.{entries_piece, last_piece, another_piece, offset_after}
 use Rattle.load_states.proofs.ScriptFound.{directory_taken}
+use Rattle.load_states.proofs.Frames.{KeepsOn}
 
 -- The files that were listed so far, and those that the buffer lists, are the first ones.
-entries_held : (items : List Item) (size taken pieces : ℕ) (m : Memory) → IsItems items → AllByRecursion (λ (item : Item). IsName item.name) items
+pub entries_held : (items : List Item) (size taken pieces : ℕ) (m : Memory) → IsItems items → AllByRecursion (λ (item : Item). IsName item.name) items
     → taken ≡ buffer_size * pieces → size ≡ 64 * length items → taken < size
     → bytes_at m buffer_at (asked (size - buffer_size * pieces))
     ≡ part (contents items 0x19) (4 + buffer_size * pieces) (asked (size - buffer_size * pieces))
@@ -53,23 +52,23 @@ entries_held items size taken pieces m lawful names is whole left held =
     ∙ ap (λ (number : ℕ). take number (listed_of items)) (sym piece.both)
 
 -- all are the files of the directory
-all_listed : (items : List Item) (size : ℕ) → size ≡ 64 * length items → take (size / 64) (listed_of items) ≡ listed_of items
+pub all_listed : (items : List Item) (size : ℕ) → size ≡ 64 * length items → take (size / 64) (listed_of items) ≡ listed_of items
 all_listed items size whole =
     let number : length (listed_of items) ≡ length items = length-map items listing in take_all (size / 64) (listed_of items) (omega arith)
 
 -- The firmware takes entries: it asks for more, or looks for the script among all files.
-pub entries_are_taken : (May : Answers) (items : List Item) (top fill : ℕ) (events : List Event) (w : LoadState) (size taken : ℕ)
-    → IsKept May items top fill events w → (has : HasEntries items size taken w)
+pub entries_are_taken : (May : Answers) (items : List Item) (top fill : ℕ) (w : LoadState) (size taken : ℕ)
+    → KeepsNow May items top fill w → (has : HasEntries items size taken w)
     → IsOver items (with_entries size has.pieces) descriptor_at (piece_read 0x19 4 size has.pieces) w.attached
-    → IsKept May items top fill (events ++ Firmware ∷ []) (entries_taken size taken (asked (size - taken)) w)
-entries_are_taken May items top fill events w size taken kept has over =
+    → KeepsOn May items top fill w (entries_taken size taken (asked (size - taken)) w)
+entries_are_taken May items top fill w size taken kept has over =
     let count = asked (size - taken) in
     let now : List Listed = take ((taken + count) / 64) (listed_of items) in
     let same : w.listed ++ listed_in (count / 64) (buffered count w) ≡ now =
     ap (λ (l : List Listed). l ++ listed_in (count / 64) (buffered count w)) has.listed
     ∙ entries_held items size taken has.pieces (memory_of w) kept.lawful kept.names has.taken_is has.size_is has.some_left over.held in
     let after : List Listed → Stage → LoadState = λ listed stage. record w { listed = listed; stage = stage } in
-    let Keeps : List Listed → Stage → Type 0 = λ listed stage. IsKept May items top fill (events ++ Firmware ∷ []) (after listed stage) in
+    let Keeps : List Listed → Stage → Type 0 = λ listed stage. KeepsOn May items top fill w (after listed stage) in
     subst (λ (l : List Listed). Keeps l (if taken + count == size then stage_for (listed_named l loader_name) else Asks (read.Entries size (taken + count))))
     (sym same)
     (by_test (Keeps now) (taken + count == size) (stage_for (listed_named now loader_name)) (Asks (read.Entries size (taken + count)))
@@ -80,10 +79,10 @@ entries_are_taken May items top fill events w size taken kept has over =
     let finished = over.finished ∙ ap (λ (n : ℕ). count_read ∷ first_reads 0x19 4 size n) last
     ∙ ap (λ (n : ℕ). count_read ∷ all_reads 0x19 4 n) has.size_is in
     subst (λ (l : List Listed). Keeps l (stage_for (listed_named l loader_name))) (sym whole)
-    (directory_taken May items top fill events w kept over.idle finished has.script has.placed has.begun))
+    (directory_taken May items top fill w kept over.idle finished has.script has.placed has.begun))
     (λ more.
     let another = another_piece size taken has.pieces has.taken_is has.some_left (eqb-false (taken + count) size more) in
-    kept_with May items top fill events w now w.script (Asks (read.Entries size (taken + count))) kept (
+    kept_with May items top fill w now w.script (Asks (read.Entries size (taken + count))) kept (
       another.some_left,
       (
         record {

@@ -15,17 +15,16 @@ use Rattle.cfg_dma.specs.Reads.{IsOver, read_of, moved_by}
 use Rattle.command_acts.specs.declared.placed.PlacedFile.{PlacedFile}
 use Rattle.command_acts.specs.FilesInMemory.{files_in, placed_in}
 use Rattle.command_acts.specs.Runs.{Answers, at_files, placed_at}
-use Rattle.load_states.specs.declared.event.Event.{Event}
-use Rattle.load_states.specs.declared.event.Event.TheVariants.{Firmware}
 use Rattle.load_states.specs.declared.stage.Stage.TheVariants.{AtCommand}
 use Rattle.load_states.specs.Guarded.{descriptor_at}
 use Rattle.load_states.specs.LoadState.{LoadState, memory_of, items_now}
 use Rattle.load_states.specs.Moves.{file_read, command_moves}
-use Rattle.load_states.specs.Kept.{IsKept, HasCarriedOut, IsComing, moves_before}
+use Rattle.load_states.specs.Kept.{KeepsNow, HasCarriedOut, IsComing, moves_before}
 use Rattle.load_states.proofs.Looks.{kept_with}
 use Rattle.command_acts.proofs.ItemsWritten.{bytes_of_named}
 use Rattle.load_states.proofs.CommandMoves.{moves_of_file, file_read_is}
 use Rattle.load_states.proofs.NamedItems.{contents_named}
+use Rattle.load_states.proofs.Frames.{KeepsOn}
 
 -- memory holds a file as it is placed, where it holds what its read moved
 file_held : (items : List Item) (m : Memory) (last : PlacedFile) (file : Item) → IsItems items → named items last.name ≡ Some file
@@ -46,12 +45,12 @@ files_held items m placed before last file lawful are is size held =
     ∙ ap (λ (p : Placed). files_in m before ++ p ∷ []) (file_held items m last file lawful is size held)
 
 -- The firmware goes on behind the file.
-pub file_is_there : (May : Answers) (items : List Item) (top fill : ℕ) (events : List Event) (w : LoadState) (index : ℕ)
-    → IsKept May items top fill events w → (coming : IsComing May items index w)
+pub file_is_there : (May : Answers) (items : List Item) (top fill : ℕ) (w : LoadState) (index : ℕ)
+    → KeepsNow May items top fill w → (coming : IsComing May items index w)
     → IsOver (items_now w) (moves_before items index w coming.before) descriptor_at (read_of coming.file.select 0 coming.last.size coming.last.place)
     w.attached
-    → IsKept May items top fill (events ++ Firmware ∷ []) (record w { stage = AtCommand (suc index) })
-file_is_there May items top fill events w index kept coming over =
+    → KeepsOn May items top fill w (record w { stage = AtCommand (suc index) })
+file_is_there May items top fill w index kept coming over =
     let script = coming.script in
     let last = coming.last in
     let entry = Allocate last.name coming.align coming.zone in
@@ -67,7 +66,7 @@ file_is_there May items top fill events w index kept coming over =
     ) in
     let reads = moves_of_file May items index last.name coming.align coming.zone w _ coming.before last coming.command coming.run so_many
     ∙ ap (λ (r : List Finished). moves_before items index w coming.before ++ r) one in
-    kept_with May items top fill events w w.listed w.script (AtCommand (suc index)) kept (
+    kept_with May items top fill w w.listed w.script (AtCommand (suc index)) kept (
       record { listed = script.listed; script = script.script },
       (let within = slice_get_within w.script index entry coming.command in omega arith),
       record { idle = over.idle; finished = over.finished ∙ sym (ap (moves_before items (suc index) w) coming.placed_are ∙ reads) },

@@ -1,5 +1,5 @@
 -- What a step of the load leaves as it was.
-use Rattle.std.proofs.Common.{◌≡◌, ℕ, ◌+◌, ◌<◌, ◌≤◌, ◌⊎◌, inl, inr, true, false, List, [], ◌∷◌, ◌++◌, length, ◌==◌, ◌&&◌, not, if◌then◌else◌}
+use Rattle.std.proofs.Common.{◌≡◌, ℕ, ◌+◌, ◌<◌, ◌≤◌, ◌⊎◌, inl, inr, true, false, List, [], ◌∷◌, length, ◌&&◌}
 use Rattle.std.proofs.Common.{arith, refl, sym, ap, ap₂, subst, ◌∙◌}
 use Rattle.std.specs.Prelude.{nat_lt, nat_le, ◌||◌}
 use Rattle.std.specs.List.{AllByRecursion}
@@ -12,49 +12,17 @@ use Rattle.loader_script.specs.declared.refusing.FileInfo.{FileInfo}
 use Rattle.loader_script.specs.Run.{Placed, infos_of}
 use Rattle.cfg_directory.specs.Files.{files_of}
 use Rattle.cfg_directory.specs.Shapes.{HaveOneShape}
+use Rattle.cfg_dma.specs.Device.{StandsWhereLeft}
 use Rattle.cfg_dma.specs.Reads.{GoesOn}
 use Rattle.command_acts.specs.declared.placed.PlacedFile.{PlacedFile}
 use Rattle.command_acts.specs.FilesInMemory.{files_in, ArePlaced, IsBeside, IsLoading}
 use Rattle.command_acts.specs.Placing.{count_places, places_in}
 use Rattle.command_acts.specs.Runs.{Answers}
-use Rattle.load_states.specs.declared.event.Event.{Event}
-use Rattle.load_states.specs.declared.event.Event.TheVariants.{Device, Firmware, Other}
 use Rattle.load_states.specs.Guarded.{descriptor_at, buffer_at, is_work, is_guarded}
 use Rattle.load_states.specs.LoadState.{LoadState, memory_of, items_now}
-use Rattle.load_states.specs.Moves.{most_transfers}
-use Rattle.load_states.specs.Runs.{left_by_others}
-use Rattle.load_states.specs.Kept.{IsKept, StageKeeps, IsZoned}
+use Rattle.load_states.specs.Kept.{KeepsNow, StageKeeps, IsInZone, IsFilledBios}
+use Rattle.load_states.proofs.Zoned.{IsZoned, above_work, bios_ram}
 use Rattle.load_states.proofs.Shaped.{same_infos, loading_shaped}
-
--- ---- what the other processors left, after one more event
-
--- a piece of the device's transfer adds nothing
-pub left_device : (top held : ℕ) (events : List Event) (bytes address : ℕ)
-    → left_by_others top held (events ++ Device bytes ∷ []) address ≡ left_by_others top held events address
-left_device top held [] bytes address = refl
-left_device top held (Other written byte ∷ events) bytes address =
-    left_device top (if written == address && not (is_guarded top address) then byte else held) events bytes address
-left_device top held (Device count ∷ events) bytes address = left_device top held events bytes address
-left_device top held (Firmware ∷ events) bytes address = left_device top held events bytes address
-
--- a step of the firmware adds nothing
-pub left_firmware : (top held : ℕ) (events : List Event) (address : ℕ)
-    → left_by_others top held (events ++ Firmware ∷ []) address ≡ left_by_others top held events address
-left_firmware top held [] address = refl
-left_firmware top held (Other written byte ∷ events) address =
-    left_firmware top (if written == address && not (is_guarded top address) then byte else held) events address
-left_firmware top held (Device count ∷ events) address = left_firmware top held events address
-left_firmware top held (Firmware ∷ events) address = left_firmware top held events address
-
--- a write of another processor adds its byte, at its address where that isn't guarded
-pub left_other : (top held : ℕ) (events : List Event) (written byte address : ℕ)
-    → left_by_others top held (events ++ Other written byte ∷ []) address
-    ≡ (if written == address && not (is_guarded top address) then byte else left_by_others top held events address)
-left_other top held [] written byte address = refl
-left_other top held (Other earlier other ∷ events) written byte address =
-    left_other top (if earlier == address && not (is_guarded top address) then other else held) events written byte address
-left_other top held (Device count ∷ events) written byte address = left_other top held events written byte address
-left_other top held (Firmware ∷ events) written byte address = left_other top held events written byte address
 
 -- ---- the work range
 
@@ -121,31 +89,57 @@ files_same top before after (p ∷ placed) its_top apart zoned same =
 
 -- ---- what is kept
 
--- A step keeps what the load keeps if it changes no byte but in the work range and in placed files, and of items their bytes at most, places no
--- file, and what holds at its new stage holds.
-pub kept_from : (May : Answers) (items : List Item) (top fill : ℕ) (events later : List Event) (w next : LoadState)
-    → IsKept May items top fill events w → GoesOn w.attached next.attached → HaveOneShape (items_now w) (items_now next)
+-- What a step of the firmware or of the device leaves: what a load keeps at each moment, and memory as it was outside of the work range and of
+-- placed files, where more may be placed than were.
+pub record KeepsOn (May : Answers) (items : List Item) (top fill : ℕ) (w next : LoadState) : Type 0 where
+  pub now : KeepsNow May items top fill next
+  pub beside : (address : ℕ) → AllByRecursion (IsBeside address) next.placed → AllByRecursion (IsBeside address) w.placed
+  pub outside : (address : ℕ) → IsRam top address → is_work address ≡ false → AllByRecursion (IsBeside address) next.placed
+      → at (memory_of next) address ≡ at (memory_of w) address
+
+-- the BIOS area is outside of the work range
+pub bios_outside : (May : Answers) (items : List Item) (top fill : ℕ) (w next : LoadState) → KeepsNow May items top fill w
+    → ((address : ℕ) → AllByRecursion (IsBeside address) next.placed → AllByRecursion (IsBeside address) w.placed)
+    → ((address : ℕ) → IsRam top address → is_work address ≡ false → AllByRecursion (IsBeside address) next.placed
+    → at (memory_of next) address ≡ at (memory_of w) address)
+    → IsFilledBios fill next
+bios_outside May items top fill w next kept beside same address from below other =
+    same address (bios_ram top address from below) (above_work address (omega arith)) other ∙ kept.bios address from below (beside address other)
+
+-- A step goes so if it changes no byte but in the work range and in placed files, and of items their bytes at most, places no file, and what holds
+-- at its new stage holds.
+pub kept_from : (May : Answers) (items : List Item) (top fill : ℕ) (w next : LoadState)
+    → KeepsNow May items top fill w → GoesOn w.attached next.attached → HaveOneShape (items_now w) (items_now next)
     → next.placed ≡ w.placed
     → ((address : ℕ) → IsRam top address → is_work address ≡ false → AllByRecursion (IsBeside address) w.placed
     → at (memory_of next) address ≡ at (memory_of w) address)
-    → ((address : ℕ) → left_by_others top fill later address ≡ left_by_others top fill events address)
-    → StageKeeps May items next next.stage → IsKept May items top fill later next
-kept_from May items top fill events later w next kept goes shape placed same left stage = record {
-  lawful = kept.lawful;
-  names = kept.names;
-  shape = shape ∙ kept.shape;
-  device = goes.device;
-  room = subst (λ n. most_transfers items ≤ n) (sym goes.room) kept.room;
-  memory = goes.memory;
-  top = goes.top ∙ kept.top;
-  fill = goes.fill ∙ kept.fill;
-  loading = subst (IsLoading top (files_of (items_now next))) (sym placed) (loading_shaped top (items_now w) (items_now next) w.placed shape kept.loading);
-  zoned = subst (AllByRecursion (IsZoned top)) (sym placed) kept.zoned;
-  count = subst (λ (files : List PlacedFile). length files ≡ count_places (places_in files (infos_of (files_of (items_now next))))) (sym placed)
-      (subst (λ (infos : List FileInfo). length w.placed ≡ count_places (places_in w.placed infos))
-      (sym (same_infos (items_now w) (items_now next) shape)) kept.count);
-  others = λ address ram other beside.
-      let before = subst (AllByRecursion (IsBeside address)) placed beside in
-      same address ram other before ∙ kept.others address ram other before ∙ sym (left address);
-  stage = stage;
-}
+    → StandsWhereLeft next.attached.device → StageKeeps May items next next.stage → KeepsOn May items top fill w next
+kept_from May items top fill w next kept goes shape placed same stands stage =
+    let before : (address : ℕ) → AllByRecursion (IsBeside address) next.placed → AllByRecursion (IsBeside address) w.placed =
+    λ address beside. subst (AllByRecursion (IsBeside address)) placed beside in
+    let outside : (address : ℕ) → IsRam top address → is_work address ≡ false → AllByRecursion (IsBeside address) next.placed
+    → at (memory_of next) address ≡ at (memory_of w) address = λ address ram other beside. same address ram other (before address beside) in
+    record {
+      now = record {
+        lawful = kept.lawful;
+        names = kept.names;
+        opening = goes.opening ∙ kept.opening;
+        shape = shape ∙ kept.shape;
+        device = goes.device;
+        room = goes.room ∙ kept.room;
+        stands = stands;
+        memory = goes.memory;
+        top = goes.top ∙ kept.top;
+        fill = goes.fill ∙ kept.fill;
+        loading = subst (IsLoading top (files_of (items_now next))) (sym placed)
+            (loading_shaped top (items_now w) (items_now next) w.placed shape kept.loading);
+        zones = subst (AllByRecursion (IsInZone top)) (sym placed) kept.zones;
+        count = subst (λ (files : List PlacedFile). length files ≡ count_places (places_in files (infos_of (files_of (items_now next))))) (sym placed)
+            (subst (λ (infos : List FileInfo). length w.placed ≡ count_places (places_in w.placed infos))
+            (sym (same_infos (items_now w) (items_now next) shape)) kept.count);
+        bios = bios_outside May items top fill w next kept before outside;
+        stage = stage;
+      };
+      beside = before;
+      outside = outside;
+    }

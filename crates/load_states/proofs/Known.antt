@@ -16,7 +16,6 @@ use Rattle.cfg_dma.specs.Reads.{CanRead, IsBesideRead, selected_read, next_read,
 use Rattle.command_acts.specs.declared.placed.PlacedFile.{PlacedFile}
 use Rattle.command_acts.specs.FilesInMemory.{files_in, AreApart, ArePlaced, IsBeside}
 use Rattle.command_acts.specs.Runs.{Answers, at_files, placed_at}
-use Rattle.load_states.specs.declared.event.Event.{Event}
 use Rattle.load_states.specs.declared.reading.Reading.{Reading}
 use Rattle.load_states.specs.declared.reading.Reading.TheVariants as read
 use Rattle.load_states.specs.declared.stage.Stage.{Stage}
@@ -24,12 +23,13 @@ use Rattle.load_states.specs.Guarded.{descriptor_at, buffer_at, buffer_size, is_
 use Rattle.load_states.specs.LoadState.{LoadState, memory_of, items_now}
 use Rattle.load_states.specs.Steps.{Asking, asked, asking_for, script_control}
 use Rattle.load_states.specs.Moves.{count_read, piece_read, most_transfers}
-use Rattle.load_states.specs.Kept.{IsKept, IsZoned, IsComing, HasCarriedOut, Knows, LoadRead, IsLeft, read_by}
+use Rattle.load_states.specs.Kept.{KeepsNow, IsComing, HasCarriedOut, Knows, LoadRead, IsLeft, read_by}
 use Rattle.load_states.proofs.Frames.{files_same, beside_work, buffer_ram, buffer_is_work, work_is_guarded}
 use Rattle.load_states.proofs.Taken.{going_on, nothing_still, entries_still, commands_still, script_still}
 use Rattle.load_states.proofs.Counting.{entries_room, script_room}
 use Rattle.load_states.proofs.CanReads.{place_beside, count_can, piece_can, script_can, file_can, directory_holds, file_select_small}
 use Rattle.load_states.proofs.Looks.{by_test}
+use Rattle.load_states.proofs.Zoned.{IsZoned, zoned_files}
 
 -- ---- the file that was placed last, and those before it
 
@@ -125,25 +125,25 @@ known_still May items w a s reading its stays known =
 -- ---- the read
 
 -- it can be carried out, where it isn't empty
-pub can_read : (May : Answers) (items : List Item) (top fill : ℕ) (events : List Event) (w : LoadState) (reading : Reading)
-    → IsKept May items top fill events w → (known : Knows May items w reading) → 0 < (read_by May items w reading known).transfer.length
+pub can_read : (May : Answers) (items : List Item) (top fill : ℕ) (w : LoadState) (reading : Reading)
+    → KeepsNow May items top fill w → (known : Knows May items w reading) → 0 < (read_by May items w reading known).transfer.length
     → CanRead (items_now w) top descriptor_at (read_by May items w reading known).transfer
-can_read May items top fill events w read.Count kept known some =
+can_read May items top fill w read.Count kept known some =
     subst (λ (is : List Item). CanRead is top descriptor_at count_read) (sym known.begun) (count_can items top kept.names)
-can_read May items top fill events w (read.Entries size taken) kept known some =
+can_read May items top fill w (read.Entries size taken) kept known some =
     let below : buffer_size * known.pieces < size = omega (arith, known.taken_is, known.some_left) in
     let within : 4 + size ≤ length (contents items 0x19) = omega (arith, known.size_is, directory_holds items kept.names) in
     subst (λ (is : List Item). CanRead is top descriptor_at (piece_read 0x19 4 size known.pieces)) (sym known.begun)
     (piece_can items top 0x19 4 size known.pieces within below)
-can_read May items top fill events w (read.Commands select size taken) kept known some =
+can_read May items top fill w (read.Commands select size taken) kept known some =
     let below : buffer_size * known.pieces < size = omega (arith, known.taken_is, known.some_left) in
     subst (λ (is : List Item). CanRead is top descriptor_at (piece_read select 0 size known.pieces)) (sym known.begun)
     (script_can items top known.loader select size known.pieces kept.lawful known.there known.select_is known.size_is below)
-can_read May items top fill events w (read.File index) kept known some =
+can_read May items top fill w (read.File index) kept known some =
     let last = known.last in
     file_can (items_now w) top last.name known.file last kept.device.items known.there known.size some
     (are_before top w.placed known.before last known.placed_are kept.loading.apart).ram
-    (of_last (IsZoned top) w.placed known.before last known.placed_are kept.zoned)
+    (of_last (IsZoned top) w.placed known.before last known.placed_are (zoned_files kept))
 
 -- one into the buffer isn't empty
 pub some_read : (May : Answers) (items : List Item) (w : LoadState) (reading : Reading) → IsLeft reading → (known : Knows May items w reading)

@@ -1,3 +1,5 @@
+pub mod Zoned
+pub mod LeftByOthers
 pub mod Frames
 pub mod Shaped
 pub mod Pointing
@@ -27,9 +29,9 @@ pub mod Fronts
 pub mod CommandCauses
 pub mod CommandPatches
 pub mod CommandCloses
-pub mod CommandZones
 pub mod CommandPlaces
 pub mod CommandSteps
+pub mod ResetEvents
 pub mod StepKeeps
 pub mod MoreAnswers
 pub mod WholeRuns

@@ -1,5 +1,5 @@
 -- A look of the firmware at an awaited read: the read is over, or the firmware waits.
-use Rattle.std.proofs.Common.{◌≡◌, ℕ, ◌^◌, ◌<◌, ◌==◌, Bool, true, false, if◌then◌else◌, List, [], ◌∷◌, ◌++◌, None, Result, Err}
+use Rattle.std.proofs.Common.{◌≡◌, ℕ, ◌^◌, ◌<◌, ◌==◌, Bool, true, false, if◌then◌else◌, List, [], None, Result, Err}
 use Rattle.std.proofs.Common.{inl, inr, arith, refl, sym, subst}
 use Rattle.std.specs.Prelude.{IfOk, IfErr}
 use Rattle.std.proofs.lemmas.Bool.{cases_Bool, cond-true, cond-false, eqb-true}
@@ -17,12 +17,10 @@ use Rattle.cfg_dma.proofs.Started.{word_written}
 use Rattle.command_acts.specs.declared.fault.LoadFault.{LoadFault}
 use Rattle.command_acts.specs.Runs.{Answers, EndsWith, result_of}
 use Rattle.command_acts.specs.Script.{script_in}
-use Rattle.load_states.specs.declared.event.Event.{Event}
-use Rattle.load_states.specs.declared.event.Event.TheVariants.{Firmware}
 use Rattle.load_states.specs.declared.stage.Stage.{Stage}
 use Rattle.load_states.specs.LoadState.{LoadState, items_now, progress_of}
-use Rattle.load_states.specs.Kept.{IsKept, StageKeeps, HasEnded}
-use Rattle.load_states.proofs.Frames.{kept_from, left_firmware}
+use Rattle.load_states.specs.Kept.{KeepsNow, StageKeeps, HasEnded}
+use Rattle.load_states.proofs.Frames.{KeepsOn, kept_from}
 
 -- what holds on either side of a test holds of the choice
 pub by_test : {A : Type 0} (P : A → Type 0) (b : Bool) (x y : A) → (b ≡ true → P x) → (b ≡ false → P y) → P (if b then x else y)
@@ -43,20 +41,20 @@ over_now items before descriptor control transfer a some fits awaited zero = eli
 ]
 
 -- A step of the firmware that takes something from the buffer, or goes on, keeps what is kept where its new stage does.
-pub kept_with : (May : Answers) (items : List Item) (top fill : ℕ) (events : List Event) (w : LoadState) (listed : List Listed) (script : List Entry)
-    (stage : Stage) → IsKept May items top fill events w
+pub kept_with : (May : Answers) (items : List Item) (top fill : ℕ) (w : LoadState) (listed : List Listed) (script : List Entry)
+    (stage : Stage) → KeepsNow May items top fill w
     → StageKeeps May items (record w { listed = listed; script = script; stage = stage }) stage
-    → IsKept May items top fill (events ++ Firmware ∷ []) (record w { listed = listed; script = script; stage = stage })
-kept_with May items top fill events w listed script stage kept held =
+    → KeepsOn May items top fill w (record w { listed = listed; script = script; stage = stage })
+kept_with May items top fill w listed script stage kept held =
     let next : LoadState = record w { listed = listed; script = script; stage = stage } in
-    kept_from May items top fill events (events ++ Firmware ∷ []) w next kept
-    (record { room = refl; device = kept.device; memory = kept.memory; top = refl; fill = refl }) refl refl
-    (λ address ram other beside. refl) (λ address. left_firmware top fill events address) held
+    kept_from May items top fill w next kept
+    (record { room = refl; opening = refl; device = kept.device; memory = kept.memory; top = refl; fill = refl }) refl refl
+    (λ address ram other beside. refl) kept.stands held
 
 -- A step of a firmware that waits keeps it.
-pub kept_waiting : (May : Answers) (items : List Item) (top fill : ℕ) (events : List Event) (w : LoadState) → IsKept May items top fill events w
-    → IsKept May items top fill (events ++ Firmware ∷ []) w
-kept_waiting May items top fill events w kept = kept_with May items top fill events w w.listed w.script w.stage kept kept.stage
+pub kept_waiting : (May : Answers) (items : List Item) (top fill : ℕ) (w : LoadState) → KeepsNow May items top fill w
+    → KeepsOn May items top fill w w
+kept_waiting May items top fill w kept = kept_with May items top fill w w.listed w.script w.stage kept kept.stage
 
 -- a load without a script has ended, with nothing placed
 pub ended_unread : (May : Answers) (items : List Item) (why : LoadFault) (w : LoadState) → w.attached.device.flight ≡ None → script_in items ≡ Err why

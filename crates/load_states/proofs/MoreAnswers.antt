@@ -15,12 +15,12 @@ use Rattle.load_states.specs.declared.event.Event.{Event}
 use Rattle.load_states.specs.declared.stage.Stage.{Stage}
 use Rattle.load_states.specs.declared.reading.Reading.{Reading}
 use Rattle.load_states.specs.declared.stage.Stage.TheVariants.{Asks, Awaits, AtCommand, AwaitsSkip, AsksWrite, AwaitsWrite, Done, Refused}
-use Rattle.load_states.specs.Kept.{IsKept, StageKeeps, IsNext, IsAwaiting, IsPointing, HasEnded, Knows, read_by}
+use Rattle.load_states.specs.Kept.{KeepsNow, IsKept, StageKeeps, IsNext, IsAwaiting, IsPointing, HasEnded, Knows, read_by}
 use Rattle.load_states.specs.LoadState.{LoadState, items_now, progress_of}
 use Rattle.load_states.proofs.Known.{Still, known_in}
 
 -- whatever one may answer so may the other
-abbrev MayMore : Answers → Answers → Type 0
+abbrev pub MayMore : Answers → Answers → Type 0
 MayMore May More = (handed : List Range) (request : Request) (answer : Option ℕ) → May handed request answer → More handed request answer
 
 -- an end of a run
@@ -93,21 +93,29 @@ stage_more May More items w (AwaitsWrite index) more keeps = (keeps.0, pointing_
 stage_more May More items w Done more keeps = (ended_more May More items (Ok tt) w more keeps.0, keeps.1, keeps.2)
 stage_more May More items w (Refused why) more keeps = ended_more May More items (Err why) w more keeps
 
--- What is kept is kept.
-pub kept_more : (May More : Answers) → MayMore May More → (items : List Item) (top fill : ℕ) (events : List Event) (w : LoadState)
-    → IsKept May items top fill events w → IsKept More items top fill events w
-kept_more May More more items top fill events w kept = record {
+-- What is kept at a moment is kept.
+pub now_more : (May More : Answers) → MayMore May More → (items : List Item) (top fill : ℕ) (w : LoadState)
+    → KeepsNow May items top fill w → KeepsNow More items top fill w
+now_more May More more items top fill w kept = record {
   lawful = kept.lawful;
   names = kept.names;
+  opening = kept.opening;
   shape = kept.shape;
   device = kept.device;
   room = kept.room;
+  stands = kept.stands;
   memory = kept.memory;
   top = kept.top;
   fill = kept.fill;
   loading = kept.loading;
-  zoned = kept.zoned;
+  zones = kept.zones;
   count = kept.count;
-  others = kept.others;
+  bios = kept.bios;
   stage = stage_more May More items w w.stage more kept.stage;
 }
+
+-- And what is kept over events.
+pub kept_more : (May More : Answers) → MayMore May More → (items : List Item) (top fill : ℕ) (events : List Event) (w : LoadState)
+    → IsKept May items top fill events w → IsKept More items top fill events w
+kept_more May More more items top fill events w kept =
+    record { now = now_more May More more items top fill w kept.now; others = kept.others }

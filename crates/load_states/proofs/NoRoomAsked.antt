@@ -19,10 +19,10 @@ use Rattle.command_acts.specs.declared.fault.LoadFault.TheVariants.{NoRoom}
 use Rattle.command_acts.specs.Script.{IsAsked}
 use Rattle.command_acts.specs.Runs.{Answers, request_by}
 use Rattle.load_states.specs.declared.event.Event.{Event}
-use Rattle.load_states.specs.declared.event.Event.TheVariants.{Device, Firmware, Other}
+use Rattle.load_states.specs.declared.event.Event.TheVariants.{Device, Firmware, Other, Reset}
 use Rattle.load_states.specs.declared.stage.Stage.{Stage}
 use Rattle.load_states.specs.declared.stage.Stage.TheVariants.{Asks, Awaits, AtCommand, AwaitsSkip, AsksWrite, AwaitsWrite, Done, Refused}
-use Rattle.load_states.specs.Kept.{IsKept, StageKeeps, HasScript}
+use Rattle.load_states.specs.Kept.{KeepsNow, StageKeeps, HasScript}
 use Rattle.load_states.specs.LoadState.{LoadState, items_now, progress_of}
 use Rattle.load_states.specs.Runs.{StepsTo, request_of, request_at}
 use Rattle.load_states.specs.Steps.{is_over, taken_of, carried_out, commanded, at_command, placed_at, skips, writes, passed}
@@ -140,12 +140,14 @@ firmware_comes May Kept items k w next (Refused why) shape at keeps is stage =
     inl (ap no_room_of (sym at) ∙ ap (λ (m : LoadState). no_room_of m.stage) (sym is) ∙ stage)
 
 -- A step that comes to NoRoom was there before, or asks what the command of that index asks, however places are answered.
-pub no_room_asks : (May Kept : Answers) (items : List Item) (top fill : ℕ) (events : List Event) (event : Event) (w next : LoadState) (index : ℕ)
-    → IsKept Kept items top fill events w → StepsTo May event w next → next.stage ≡ Refused (NoRoom index)
+pub no_room_asks : (May Kept : Answers) (items : List Item) (top fill : ℕ) (event : Event) (w next : LoadState) (index : ℕ)
+    → KeepsNow Kept items top fill w → StepsTo May event w next → next.stage ≡ Refused (NoRoom index)
     → (no_room_of w.stage ≡ Some index) ⊎ IsAsked items index (request_of event w)
-no_room_asks May Kept items top fill events (Device bytes) w next index kept is stage =
+no_room_asks May Kept items top fill (Device bytes) w next index kept is stage =
     inl (ap (λ (m : LoadState). no_room_of m.stage) (sym is) ∙ ap no_room_of stage)
-no_room_asks May Kept items top fill events Firmware w next index kept is stage =
+no_room_asks May Kept items top fill Firmware w next index kept is stage =
     firmware_comes May Kept items index w next w.stage kept.shape refl kept.stage is (ap no_room_of stage)
-no_room_asks May Kept items top fill events (Other address byte) w next index kept is stage =
+no_room_asks May Kept items top fill (Other address byte) w next index kept is stage =
     inl (ap (λ (m : LoadState). no_room_of m.stage) (sym is) ∙ ap no_room_of stage)
+no_room_asks May Kept items top fill Reset w next index kept is stage =
+    absurd (none-some index (sym (ap (λ (m : LoadState). no_room_of m.stage) is) ∙ ap no_room_of stage))

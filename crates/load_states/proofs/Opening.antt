@@ -1,11 +1,11 @@
 -- What a load keeps when it is begun.
-use Rattle.std.proofs.Common.{◌≡◌, ℕ, ◌≤◌, List, [], ◌∷◌, length, map, inl, arith, refl, ap, sym, subst, ◌∙◌}
+use Rattle.std.proofs.Common.{◌≡◌, ℕ, List, [], ◌∷◌, length, map, inl, arith, refl, ap, sym, subst, ◌∙◌}
 use Rattle.std.specs.List.{AllByRecursion}
-use Rattle.vt_bytes.specs.Memory.{IsRam}
+use Rattle.vt_bytes.specs.Memory.{IsRam, at}
 use Rattle.cfg_directory.specs.declared.item.Item.{Item}
 use Rattle.cfg_directory.specs.Items.{IsItems}
 use Rattle.cfg_directory.specs.Shapes.{shape_of}
-use Rattle.cfg_dma.specs.Device.{DeviceState, IsDevice}
+use Rattle.cfg_dma.specs.Device.{DeviceState, IsDevice, StandsWhereLeft}
 use Rattle.cfg_dma.specs.Transfers.{room_of}
 use Rattle.cfg_directory.specs.Files.{files_of}
 use Rattle.loader_script.specs.declared.refusing.FileInfo.{FileInfo}
@@ -14,13 +14,13 @@ use Rattle.command_acts.specs.declared.placed.PlacedFile.{PlacedFile}
 use Rattle.command_acts.specs.FilesInMemory.{IsLoading}
 use Rattle.command_acts.specs.Placing.{count_places, places_in}
 use Rattle.command_acts.specs.Runs.{Answers}
-use Rattle.load_states.specs.LoadState.{LoadState, items_now}
-use Rattle.load_states.specs.Kept.{IsKept, IsZoned, StageKeeps}
+use Rattle.load_states.specs.LoadState.{LoadState, memory_of, items_now}
+use Rattle.load_states.specs.Kept.{IsKept, IsInZone, StageKeeps}
 use Rattle.load_states.specs.Loads.{IsBegun, begun_device}
-use Rattle.load_states.specs.Moves.{most_transfers}
+use Rattle.load_states.proofs.Zoned.{bios_ram}
 
 -- no files have no places
-nothing_placed : (infos : List FileInfo) → 0 ≡ count_places (places_in [] infos)
+pub nothing_placed : (infos : List FileInfo) → 0 ≡ count_places (places_in [] infos)
 nothing_placed [] = refl
 nothing_placed (info ∷ infos) = nothing_placed infos
 
@@ -32,31 +32,38 @@ begun_lawful items lawful = record { items = lawful; offset = omega arith; fligh
 pub begun_keeps : (May : Answers) (items : List Item) (top fill : ℕ) (w : LoadState) → IsBegun items top fill w → IsKept May items top fill [] w
 begun_keeps May items top fill w begun =
     let none : w.placed ≡ [] = begun.nothing.placed in
+    let filled : (address : ℕ) → IsRam top address → at (memory_of w) address ≡ fill =
+    λ address ram. begun.blank address (subst (λ t. IsRam t address) (sym begun.top) ram) ∙ begun.fill in
     record {
-      lawful = begun.lawful;
-      names = begun.names;
-      shape = ap (λ (d : DeviceState). map shape_of d.items) begun.device;
-      device = subst IsDevice (sym begun.device) (begun_lawful items begun.lawful);
-      room = subst (λ (d : DeviceState). most_transfers items ≤ room_of d) (sym begun.device) (omega arith);
-      memory = begun.memory;
-      top = begun.top;
-      fill = begun.fill;
-      loading = subst (IsLoading top (files_of (items_now w))) (sym none) (record { apart = tt; sizes = tt });
-      zoned = subst (AllByRecursion (IsZoned top)) (sym none) tt;
-      count = subst (λ (placed : List PlacedFile). length placed ≡ count_places (places_in placed (infos_of (files_of (items_now w))))) (sym none)
-          (nothing_placed (infos_of (files_of (items_now w))));
-      others = λ address ram other beside. begun.blank address (subst (λ t. IsRam t address) (sym begun.top) ram) ∙ begun.fill;
-      stage = subst (StageKeeps May items w) (sym begun.stage) (
-        tt,
-        (
-          begun.nothing,
-          record {
-            idle = record {
-              idle = ap (λ (d : DeviceState). d.flight) begun.device;
-              finished = ap (λ (d : DeviceState). d.finished) begun.device;
-            };
-            asks = inl (refl, omega arith, refl);
-          },
-        ),
-      );
+      now = record {
+        lawful = begun.lawful;
+        names = begun.names;
+        opening = ap (λ (d : DeviceState). d.opening) begun.device;
+        shape = ap (λ (d : DeviceState). map shape_of d.items) begun.device;
+        device = subst IsDevice (sym begun.device) (begun_lawful items begun.lawful);
+        room = ap (λ (d : DeviceState). room_of d) begun.device ∙ omega arith;
+        stands = subst StandsWhereLeft (sym begun.device) (record { address = refl; moving = tt; idle = (refl, refl) });
+        memory = begun.memory;
+        top = begun.top;
+        fill = begun.fill;
+        loading = subst (IsLoading top (files_of (items_now w))) (sym none) (record { apart = tt; sizes = tt });
+        zones = subst (AllByRecursion (IsInZone top)) (sym none) tt;
+        count = subst (λ (placed : List PlacedFile). length placed ≡ count_places (places_in placed (infos_of (files_of (items_now w))))) (sym none)
+            (nothing_placed (infos_of (files_of (items_now w))));
+        bios = λ address from below beside. filled address (bios_ram top address from below);
+        stage = subst (StageKeeps May items w) (sym begun.stage) (
+          tt,
+          (
+            begun.nothing,
+            record {
+              idle = record {
+                idle = ap (λ (d : DeviceState). d.flight) begun.device;
+                finished = ap (λ (d : DeviceState). d.finished) begun.device;
+              };
+              asks = inl (refl, omega arith, refl);
+            },
+          ),
+        );
+      };
+      others = λ address ram other beside told. filled address ram;
     }

@@ -1,6 +1,6 @@
 -- A write of another processor keeps what the load keeps.
 use Rattle.std.proofs.Common.{◌≡◌, ◌≢◌, ℕ, ◌+◌, ◌<◌, ◌≤◌, ◌⊎◌, inl, inr, Bool, true, false, List, [], ◌∷◌, ◌++◌, ◌==◌, ◌&&◌, not}
-use Rattle.std.proofs.Common.{if◌then◌else◌, Option, Result, Ok, Err, arith, refl, sym, ap, ap₂, subst, ◌∙◌}
+use Rattle.std.proofs.Common.{if◌then◌else◌, Result, Ok, Err, arith, refl, sym, ap, ap₂, subst, ◌∙◌}
 use Rattle.std.specs.Prelude.{nat_lt, nat_le, IfOk}
 use Rattle.std.specs.List.{AllByRecursion}
 use Rattle.std.proofs.lemmas.Bool.{cases_lt, cases_eq, cond-true, cond-false, and_parts, and_cases, and_left, and_right, and_from}
@@ -26,13 +26,14 @@ use Rattle.load_states.specs.declared.stage.Stage.{Stage}
 use Rattle.load_states.specs.declared.stage.Stage.TheVariants.{Asks, Awaits, AtCommand, AwaitsSkip, AsksWrite, AwaitsWrite, Done, Refused}
 use Rattle.load_states.specs.Guarded.{descriptor_at, buffer_at, is_work, is_guarded, written_by_other}
 use Rattle.load_states.specs.LoadState.{LoadState, memory_of, with_memory, items_now}
-use Rattle.load_states.specs.Steps.{step}
-use Rattle.load_states.specs.Kept.{IsKept, StageKeeps, IsZoned, IsNext, IsAwaiting, IsCleared, HasCarriedOut, HasSkipped, HasEnded, read_by}
-use Rattle.load_states.proofs.Frames.{left_other, descriptor_is_work, buffer_is_work, work_is_guarded, files_same}
+use Rattle.load_states.specs.Kept.{IsKept, KeepsNow, StageKeeps, IsNext, IsAwaiting, IsCleared, HasCarriedOut, HasSkipped, HasEnded, read_by}
+use Rattle.load_states.proofs.LeftByOthers.{left_more, told_before}
+use Rattle.load_states.proofs.Frames.{descriptor_is_work, buffer_is_work, work_is_guarded, files_same}
 use Rattle.load_states.proofs.Pointing.{pointing_still, pointer_fits}
 use Rattle.load_states.proofs.Looks.{by_test}
 use Rattle.load_states.proofs.Known.{FrontStays, known_still, front_outside, read_guarded}
 use Rattle.load_states.proofs.Taken.{script_still}
+use Rattle.load_states.proofs.Zoned.{IsZoned, bios_guarded, bios_ram, zoned_files}
 
 -- ---- the byte that is written
 
@@ -243,10 +244,10 @@ stage_same May items top w m (Refused why) its_top keeps_top apart zoned stay ke
 
 -- ---- the event
 
--- A write of another processor keeps what the load keeps.
-pub other_keeps : (May : Answers) (items : List Item) (top fill : ℕ) (events : List Event) (w : LoadState) (address byte : ℕ) (answer : Option ℕ)
-    → IsKept May items top fill events w → IsKept May items top fill (events ++ Other address byte ∷ []) (step (Other address byte) answer w)
-other_keeps May items top fill events w address byte answer kept =
+-- A write of another processor keeps what the load keeps at each moment.
+pub other_keeps_now : (May : Answers) (items : List Item) (top fill : ℕ) (w : LoadState) (address byte : ℕ) → KeepsNow May items top fill w
+    → KeepsNow May items top fill (with_memory w (written_by_other address byte (memory_of w)))
+other_keeps_now May items top fill w address byte kept =
     let m = memory_of w in
     let after = written_by_other address byte m in
     let lawful = other_lawful m address byte kept.memory in
@@ -254,18 +255,31 @@ other_keeps May items top fill events w address byte answer kept =
     record {
       lawful = kept.lawful;
       names = kept.names;
+      opening = kept.opening;
       shape = kept.shape;
       device = kept.device;
       room = kept.room;
+      stands = kept.stands;
       memory = lawful.0;
       top = lawful.1.top ∙ kept.top;
       fill = lawful.1.fill ∙ kept.fill;
       loading = kept.loading;
-      zoned = kept.zoned;
+      zones = kept.zones;
       count = kept.count;
-      others = λ place ram other beside.
-          at_other m address byte place kept.memory (subst (λ t. IsRam t place) (sym kept.top) ram)
-          ∙ ap₂ (λ t held. if address == place && not (is_guarded t place) then byte else held) kept.top (kept.others place ram other beside)
-          ∙ sym (left_other top fill events address byte place);
-      stage = stage_same May items top w after w.stage kept.top lawful.1 kept.loading.apart kept.zoned stay kept.stage;
+      bios = λ place from below beside.
+          stay place (bios_ram top place from below) (bios_guarded top place from below) ∙ kept.bios place from below beside;
+      stage = stage_same May items top w after w.stage kept.top lawful.1 kept.loading.apart (zoned_files kept) stay kept.stage;
     }
+
+-- And over events.
+pub other_keeps : (May : Answers) (items : List Item) (top fill : ℕ) (events : List Event) (w : LoadState) (address byte : ℕ)
+    → IsKept May items top fill events w
+    → IsKept May items top fill (events ++ Other address byte ∷ []) (with_memory w (written_by_other address byte (memory_of w)))
+other_keeps May items top fill events w address byte kept = record {
+  now = other_keeps_now May items top fill w address byte kept.now;
+  others = λ place ram other beside told.
+      at_other (memory_of w) address byte place kept.now.memory (subst (λ t. IsRam t place) (sym kept.now.top) ram)
+      ∙ ap₂ (λ t held. if address == place && not (is_guarded t place) then byte else held) kept.now.top
+      (kept.others place ram other beside (told_before top events (Other address byte ∷ []) place refl told))
+      ∙ sym (left_more top fill events (Other address byte ∷ []) place);
+}

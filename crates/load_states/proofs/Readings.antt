@@ -1,20 +1,18 @@
 -- What the firmware takes of each reading once its read is over: what the load keeps is kept, and how the load goes on from there.
-use Rattle.std.proofs.Common.{List, [], ◌∷◌, ◌++◌, ℕ, None, ◌≡◌, suc, ◌+◌, ◌-◌, ◌*◌, ◌/◌, ◌<◌, ◌≤◌, ◌==◌, not, if◌then◌else◌, length, Option, Some}
+use Rattle.std.proofs.Common.{List, [], ◌++◌, ℕ, None, ◌≡◌, suc, ◌+◌, ◌-◌, ◌*◌, ◌/◌, ◌<◌, ◌≤◌, ◌==◌, not, if◌then◌else◌, length, Option, Some}
 use Rattle.std.proofs.Common.{arith, refl, sym, ap, subst, ◌∙◌}
 use Rattle.std.specs.Option.{option_map_or}
 use Rattle.std.proofs.lemmas.Bool.{eqb-false}
 use Rattle.cfg_directory.specs.declared.item.Item.{Item}
 use Rattle.cfg_dma.specs.Reads.{IsOver}
 use Rattle.command_acts.specs.Runs.{Answers}
-use Rattle.load_states.specs.declared.event.Event.{Event}
-use Rattle.load_states.specs.declared.event.Event.TheVariants.{Firmware}
 use Rattle.load_states.specs.declared.reading.Reading.{Reading}
 use Rattle.load_states.specs.declared.reading.Reading.TheVariants as read
 use Rattle.load_states.specs.declared.stage.Stage.TheVariants.{Awaits, Asks, AtCommand, AwaitsSkip, AsksWrite, AwaitsWrite, Done, Refused}
 use Rattle.load_states.specs.Guarded.{descriptor_at, buffer_size}
 use Rattle.load_states.specs.LoadState.{LoadState, items_now, listed_named}
 use Rattle.load_states.specs.Steps.{is_over, taken_of, firmware_step, asked, buffered, stage_for}
-use Rattle.load_states.specs.Kept.{IsKept, StageKeeps, Knows, LoadRead, read_by, HasEntries, HasCommands, with_entries, with_commands}
+use Rattle.load_states.specs.Kept.{KeepsNow, StageKeeps, Knows, LoadRead, read_by, HasEntries, HasCommands, with_entries, with_commands}
 use Rattle.vt_bytes.specs.Numbers.{be}
 use Rattle.cfg_directory.specs.declared.listed.Listed.{Listed}
 use Rattle.cfg_directory.specs.Items.{named}
@@ -37,39 +35,40 @@ use Rattle.load_states.proofs.FileRead.{file_is_there}
 use Rattle.load_states.proofs.Counting.{piece_below}
 use Rattle.load_states.proofs.CommandMoves.{script_long}
 use Rattle.load_states.proofs.PieceSizes.{another_piece}
+use Rattle.load_states.proofs.Frames.{KeepsOn}
 
 -- a load's read is over
 abbrev pub IsReadOver : LoadRead → LoadState → Type 0
 IsReadOver r w = IsOver (items_now w) r.before descriptor_at r.transfer w.attached
 
 -- what is taken of it
-taken_keeps : (May : Answers) (items : List Item) (top fill : ℕ) (events : List Event) (w : LoadState) (reading : Reading)
-    → IsKept May items top fill events w → (known : Knows May items w reading) → IsReadOver (read_by May items w reading known) w
-    → IsKept May items top fill (events ++ Firmware ∷ []) (taken_of reading w)
-taken_keeps May items top fill events w read.Count kept known over =
-    count_taken May items top fill events w kept known (subst (λ (is : List Item). IsOver is [] descriptor_at count_read w.attached) known.begun over)
-taken_keeps May items top fill events w (read.Entries size taken) kept known over =
-    entries_are_taken May items top fill events w size taken kept known
+taken_keeps : (May : Answers) (items : List Item) (top fill : ℕ) (w : LoadState) (reading : Reading)
+    → KeepsNow May items top fill w → (known : Knows May items w reading) → IsReadOver (read_by May items w reading known) w
+    → KeepsOn May items top fill w (taken_of reading w)
+taken_keeps May items top fill w read.Count kept known over =
+    count_taken May items top fill w kept known (subst (λ (is : List Item). IsOver is [] descriptor_at count_read w.attached) known.begun over)
+taken_keeps May items top fill w (read.Entries size taken) kept known over =
+    entries_are_taken May items top fill w size taken kept known
     (subst (λ (is : List Item). IsOver is (with_entries size known.pieces) descriptor_at (piece_read 0x19 4 size known.pieces) w.attached) known.begun
     over)
-taken_keeps May items top fill events w (read.Commands select size taken) kept known over =
-    commands_are_taken May items top fill events w select size taken kept known
+taken_keeps May items top fill w (read.Commands select size taken) kept known over =
+    commands_are_taken May items top fill w select size taken kept known
     (subst (λ (is : List Item). IsOver is (with_commands items select size known.pieces) descriptor_at (piece_read select 0 size known.pieces) w.attached)
     known.begun over)
-taken_keeps May items top fill events w (read.File index) kept known over = file_is_there May items top fill events w index kept known over
+taken_keeps May items top fill w (read.File index) kept known over = file_is_there May items top fill w index kept known over
 
 -- The firmware takes it where it is over, and else waits.
-pub awaits_keeps : (May : Answers) (items : List Item) (top fill : ℕ) (events : List Event) (w : LoadState) (reading : Reading)
-    → IsKept May items top fill events w → StageKeeps May items w (Awaits reading)
-    → IsKept May items top fill (events ++ Firmware ∷ []) (firmware_step (Awaits reading) None w)
-awaits_keeps May items top fill events w reading kept keeps =
+pub awaits_keeps : (May : Answers) (items : List Item) (top fill : ℕ) (w : LoadState) (reading : Reading)
+    → KeepsNow May items top fill w → StageKeeps May items w (Awaits reading)
+    → KeepsOn May items top fill w (firmware_step (Awaits reading) None w)
+awaits_keeps May items top fill w reading kept keeps =
     let known = keeps.0 in
     let r = read_by May items w reading known in
     let word = word_of May items w reading kept.lawful kept.device.items known in
-    by_test (IsKept May items top fill (events ++ Firmware ∷ [])) (is_over w) (taken_of reading w) w
-    (λ zero. taken_keeps May items top fill events w reading kept known
+    by_test (KeepsOn May items top fill w) (is_over w) (taken_of reading w) w
+    (λ zero. taken_keeps May items top fill w reading kept known
     (over_now (items_now w) r.before descriptor_at r.control r.transfer w.attached word.0 word.1 keeps.1 zero))
-    (λ still. kept_waiting May items top fill events w kept)
+    (λ still. kept_waiting May items top fill w kept)
 
 -- ---- the steps that are left
 

@@ -1,5 +1,5 @@
 -- The script is looked for, once the firmware knows all files.
-use Rattle.std.proofs.Common.{◌≡◌, ◌≢◌, ℕ, ◌/◌, ◌==◌, true, not, if◌then◌else◌, List, [], ◌∷◌, ◌++◌, length}
+use Rattle.std.proofs.Common.{◌≡◌, ◌≢◌, ℕ, ◌/◌, ◌==◌, true, not, if◌then◌else◌, List, [], ◌++◌, length}
 use Rattle.std.proofs.Common.{Option, Some, None, Ok, inl, arith, refl, sym, ap, ap₂, subst, ◌∙◌}
 use Rattle.std.specs.Option.{option_map, option_map_or}
 use Rattle.std.proofs.lemmas.Bool.{eqb-true, eqb-false, not-true, not-false, cond-true, cond-false}
@@ -17,19 +17,18 @@ use Rattle.command_acts.specs.FilesInMemory.{files_in, placed_ranges}
 use Rattle.loader_script.specs.Run.{Placed}
 use Rattle.command_acts.specs.Runs.{Answers, at_files}
 use Rattle.command_acts.specs.Script.{script_from, script_in}
-use Rattle.load_states.specs.declared.event.Event.{Event}
-use Rattle.load_states.specs.declared.event.Event.TheVariants.{Firmware}
 use Rattle.load_states.specs.declared.reading.Reading.TheVariants as read
 use Rattle.load_states.specs.declared.stage.Stage.TheVariants.{Asks, AtCommand, Refused}
 use Rattle.load_states.specs.LoadState.{LoadState, memory_of, items_now, progress_of, listed_named}
 use Rattle.load_states.specs.Steps.{stage_for}
 use Rattle.load_states.specs.Moves.{all_reads, directory_reads, script_reads}
-use Rattle.load_states.specs.Kept.{IsKept, IsIdle, HasCarriedOut, StageKeeps, moves_before}
+use Rattle.load_states.specs.Kept.{KeepsNow, IsIdle, HasCarriedOut, StageKeeps, moves_before}
 use Rattle.load_states.proofs.Fronts.{none_yet}
 use Rattle.load_states.proofs.CanReads.{file_select_small}
 use Rattle.load_states.proofs.Looks.{by_test, kept_with, ended_unread}
 use Rattle.load_states.proofs.NamedItems.{listing, listed_as_named}
 use Rattle.load_states.proofs.PartsDecoded.{decoding}
+use Rattle.load_states.proofs.Frames.{KeepsOn}
 
 -- where nothing is placed no command is carried out
 pub nothing_carried_out : (May : Answers) (items : List Item) (w : LoadState) → items_now w ≡ items → w.placed ≡ []
@@ -117,13 +116,13 @@ stage_found May items w (Some file) are is idle listed script placed begun =
     (λ some. script_asked May items w file are is lawful (eqb-false size 0 some) idle listed script placed begun))
 
 -- The firmware has taken the whole directory, and looks for the script.
-pub directory_taken : (May : Answers) (items : List Item) (top fill : ℕ) (events : List Event) (w : LoadState) → IsKept May items top fill events w
+pub directory_taken : (May : Answers) (items : List Item) (top fill : ℕ) (w : LoadState) → KeepsNow May items top fill w
     → w.attached.device.flight ≡ None → w.attached.device.finished ≡ directory_reads items → w.script ≡ [] → w.placed ≡ []
-    → items_now w ≡ items → IsKept May items top fill (events ++ Firmware ∷ [])
+    → items_now w ≡ items → KeepsOn May items top fill w
     (record w { listed = listed_of items; stage = stage_for (listed_named (listed_of items) loader_name) })
-directory_taken May items top fill events w kept idle finished script placed begun =
+directory_taken May items top fill w kept idle finished script placed begun =
     let after : Option Listed → LoadState = λ found. record w { listed = listed_of items; stage = stage_for found } in
     let found = option_map listing (named items loader_name) in
-    subst (λ (o : Option Listed). IsKept May items top fill (events ++ Firmware ∷ []) (after o)) (sym (listed_as_named items loader_name))
-    (kept_with May items top fill events w (listed_of items) w.script (stage_for found) kept
+    subst (λ (o : Option Listed). KeepsOn May items top fill w (after o)) (sym (listed_as_named items loader_name))
+    (kept_with May items top fill w (listed_of items) w.script (stage_for found) kept
     (stage_found May items (after found) (named items loader_name) kept.lawful refl (record { idle = idle; finished = finished }) refl script placed begun))

@@ -13,8 +13,6 @@ use Rattle.cfg_dma.specs.declared.transfer.Finished.{Finished}
 use Rattle.cfg_dma.specs.Reads.{IsOver, AsksFor, selected_read, next_read}
 use Rattle.command_acts.specs.Runs.{Answers}
 use Rattle.command_acts.specs.Script.{script_from}
-use Rattle.load_states.specs.declared.event.Event.{Event}
-use Rattle.load_states.specs.declared.event.Event.TheVariants.{Firmware}
 use Rattle.load_states.specs.declared.stage.Stage.{Stage}
 use Rattle.load_states.specs.declared.reading.Reading.TheVariants as read
 use Rattle.load_states.specs.declared.stage.Stage.TheVariants.{Asks, AtCommand}
@@ -22,13 +20,14 @@ use Rattle.load_states.specs.Guarded.{descriptor_at, buffer_at, buffer_size}
 use Rattle.load_states.specs.LoadState.{LoadState, memory_of}
 use Rattle.load_states.specs.Steps.{asked, buffered, commands_taken, script_control}
 use Rattle.load_states.specs.Moves.{piece_read, first_reads, all_reads, directory_reads, script_reads}
-use Rattle.load_states.specs.Kept.{IsKept, HasCommands, with_commands}
+use Rattle.load_states.specs.Kept.{KeepsNow, HasCommands, with_commands}
 use Rattle.load_states.proofs.CanReads.{file_select_small}
 use Rattle.load_states.proofs.Looks.{by_test, kept_with}
 use Rattle.load_states.proofs.NamedItems.{contents_named}
 use Rattle.load_states.proofs.PartsDecoded.{decoding, script_is, script_whole, decoded_more, all_decoded}
 use Rattle.load_states.proofs.PieceSizes.{commands_piece, last_piece, another_piece, offset_after}
 use Rattle.load_states.proofs.ScriptFound.{nothing_carried_out, moves_none, script_reads_of}
+use Rattle.load_states.proofs.Frames.{KeepsOn}
 
 -- The commands that were taken so far, and those in the buffer, are the first ones.
 commands_held : (bytes : List ℕ) (size taken pieces : ℕ) (m : Memory) → taken ≡ buffer_size * pieces → size ≡ length bytes → size % 128 ≡ 0
@@ -59,9 +58,9 @@ record IsLoader (items : List Item) (select size : ℕ) (whole : List Entry) : T
   reads : script_reads items ≡ all_reads select 0 size
 
 -- what it has says so
-its_loader : (May : Answers) (items : List Item) (top fill : ℕ) (events : List Event) (w : LoadState) (select size taken : ℕ)
-    → IsKept May items top fill events w → (has : HasCommands items select size taken w) → IsLoader items select size has.whole
-its_loader May items top fill events w select size taken kept has =
+its_loader : (May : Answers) (items : List Item) (top fill : ℕ) (w : LoadState) (select size taken : ℕ)
+    → KeepsNow May items top fill w → (has : HasCommands items select size taken w) → IsLoader items select size has.whole
+its_loader May items top fill w select size taken kept has =
     let bytes = has.loader.bytes in
     let is = script_is bytes has.whole (sym (ap script_from has.there) ∙ has.whole_is) in
     record {
@@ -91,13 +90,13 @@ script_asks d select size taken pieces small taken_is at_piece =
     ]
 
 -- The firmware takes commands: it asks for more, or comes to the first one.
-pub commands_are_taken : (May : Answers) (items : List Item) (top fill : ℕ) (events : List Event) (w : LoadState) (select size taken : ℕ)
-    → IsKept May items top fill events w → (has : HasCommands items select size taken w)
+pub commands_are_taken : (May : Answers) (items : List Item) (top fill : ℕ) (w : LoadState) (select size taken : ℕ)
+    → KeepsNow May items top fill w → (has : HasCommands items select size taken w)
     → IsOver items (with_commands items select size has.pieces) descriptor_at (piece_read select 0 size has.pieces) w.attached
-    → IsKept May items top fill (events ++ Firmware ∷ []) (commands_taken select size taken (asked (size - taken)) w)
-commands_are_taken May items top fill events w select size taken kept has over =
+    → KeepsOn May items top fill w (commands_taken select size taken (asked (size - taken)) w)
+commands_are_taken May items top fill w select size taken kept has over =
     let count = asked (size - taken) in
-    let its = its_loader May items top fill events w select size taken kept has in
+    let its = its_loader May items top fill w select size taken kept has in
     let now : List Entry = take ((taken + count) / 128) has.whole in
     let held = over.held ∙ ap (λ (b : List ℕ). part b (0 + buffer_size * has.pieces) (asked (size - buffer_size * has.pieces))) its.contents_are in
     let same : w.script ++ entries_of (count / 128) (buffered count w) ≡ now =
@@ -108,7 +107,7 @@ commands_are_taken May items top fill events w select size taken kept has over =
     let finished = over.finished
     ∙ append_assoc (directory_reads items) (first_reads select 0 size has.pieces) (piece_read select 0 size has.pieces ∷ []) in
     let after : List Entry → Stage → LoadState = λ script stage. record w { script = script; stage = stage } in
-    let Keeps : List Entry → Stage → Type 0 = λ script stage. IsKept May items top fill (events ++ Firmware ∷ []) (after script stage) in
+    let Keeps : List Entry → Stage → Type 0 = λ script stage. KeepsOn May items top fill w (after script stage) in
     subst (λ (s : List Entry). Keeps s (if taken + count == size then AtCommand 0 else Asks (read.Commands select size (taken + count)))) (sym same)
     (by_test (Keeps now) (taken + count == size) (AtCommand 0) (Asks (read.Commands select size (taken + count)))
     (λ done.
@@ -116,7 +115,7 @@ commands_are_taken May items top fill events w select size taken kept has over =
     let last = last_piece size taken has.pieces has.taken_is has.some_left all in
     let whole : now ≡ has.whole = ap (λ (n : ℕ). take (n / 128) has.whole) all
     ∙ subst (λ (s : List Entry). take (size / 128) s ≡ s) its.whole_is (all_decoded (size / 128) its.bytes) in
-    kept_with May items top fill events w w.listed now (AtCommand 0) kept (
+    kept_with May items top fill w w.listed now (AtCommand 0) kept (
       record { listed = has.listed; script = has.whole_is ∙ ap decoding (sym whole) },
       omega arith,
       record {
@@ -129,7 +128,7 @@ commands_are_taken May items top fill events w select size taken kept has over =
     (λ more.
     let small = file_select_small items loader_name has.loader kept.lawful has.there in
     let another = another_piece size taken has.pieces has.taken_is has.some_left (eqb-false (taken + count) size more) in
-    kept_with May items top fill events w w.listed now (Asks (read.Commands select size (taken + count))) kept (
+    kept_with May items top fill w w.listed now (Asks (read.Commands select size (taken + count))) kept (
       another.some_left,
       (
         record {

@@ -1,5 +1,5 @@
 -- A step of the firmware that asks for a read keeps what the load keeps.
-use Rattle.std.proofs.Common.{◌≡◌, ℕ, ◌<◌, List, [], ◌∷◌, ◌++◌, length, map, None, inl, false, arith, refl, sym, ap, subst, ◌∙◌}
+use Rattle.std.proofs.Common.{◌≡◌, ℕ, ◌<◌, List, length, map, None, inl, false, arith, refl, sym, ap, subst, ◌∙◌}
 use Rattle.vt_bytes.specs.Memory.{Memory, IsMemory, at}
 use Rattle.vt_bytes.proofs.Memories.{others_with}
 use Rattle.cfg_directory.specs.declared.item.Item.{Item}
@@ -8,19 +8,19 @@ use Rattle.cfg_dma.specs.Device.{IsDevice}
 use Rattle.cfg_dma.specs.declared.transfer.Finished.{Finished}
 use Rattle.cfg_dma.specs.Transfers.{Attached, room_of}
 use Rattle.cfg_dma.specs.Reads.{IsMoving, CanRead, GoesOn, AsksFor, started, descriptor_bytes}
+use Rattle.cfg_dma.proofs.Standing.{read_stands, started_address}
 use Rattle.cfg_dma.proofs.Started.{read_is_started}
 use Rattle.command_acts.specs.Runs.{Answers}
-use Rattle.load_states.specs.declared.event.Event.{Event}
-use Rattle.load_states.specs.declared.event.Event.TheVariants.{Firmware}
 use Rattle.load_states.specs.declared.reading.Reading.{Reading}
 use Rattle.load_states.specs.declared.stage.Stage.TheVariants.{Asks, Awaits}
 use Rattle.load_states.specs.Guarded.{descriptor_at, is_work}
 use Rattle.load_states.specs.LoadState.{LoadState}
 use Rattle.load_states.specs.Steps.{Asking, asking, firmware_step}
-use Rattle.load_states.specs.Kept.{IsKept, StageKeeps, LoadRead, IsAwaiting, read_by}
-use Rattle.load_states.proofs.Frames.{kept_from, left_firmware, beside_work}
+use Rattle.load_states.specs.Kept.{KeepsNow, StageKeeps, LoadRead, IsAwaiting, read_by}
+use Rattle.load_states.proofs.Frames.{KeepsOn, kept_from, beside_work}
 use Rattle.load_states.proofs.Known.{known_still, front_outside, can_read, some_read, few_before, asking_is}
 use Rattle.load_states.proofs.Taken.{going_on}
+use Rattle.load_states.proofs.Zoned.{zoned_files}
 
 -- What a read that is started leads to: it is awaited, the device and memory go on, and memory outside of the work range stays.
 abbrev pub StartsOn : LoadRead → Attached → Attached → Type 0
@@ -53,23 +53,25 @@ starts_on top r a its_top device memory idle finished room can asks =
     )
 
 -- What is asked for is awaited then.
-pub asks_keeps : (May : Answers) (items : List Item) (top fill : ℕ) (events : List Event) (w : LoadState) (reading : Reading)
-    → IsKept May items top fill events w → StageKeeps May items w (Asks reading)
-    → IsKept May items top fill (events ++ Firmware ∷ []) (firmware_step (Asks reading) None w)
-asks_keeps May items top fill events w reading kept keeps =
+pub asks_keeps : (May : Answers) (items : List Item) (top fill : ℕ) (w : LoadState) (reading : Reading)
+    → KeepsNow May items top fill w → StageKeeps May items w (Asks reading)
+    → KeepsOn May items top fill w (firmware_step (Asks reading) None w)
+asks_keeps May items top fill w reading kept keeps =
     let buffered = keeps.0 in
     let known = keeps.1.0 in
     let next = keeps.1.1 in
     let r = read_by May items w reading known in
     let few = few_before May items w reading buffered known in
     let starts = starts_on top r w.attached kept.top kept.device kept.memory next.idle.idle next.idle.finished
-    (omega (arith, few, kept.room)) (can_read May items top fill events w reading kept known (some_read May items w reading buffered known)) next.asks in
+    (omega (arith, few, kept.room)) (can_read May items top fill w reading kept known (some_read May items w reading buffered known)) next.asks in
     let after = started_by r w.attached in
     let still = known_still May items w after (Awaits reading) reading starts.2
-    (front_outside top w after.memory kept.top kept.loading.apart kept.zoned (λ address ram guarded other. starts.3 address other)) known in
+    (front_outside top w after.memory kept.top kept.loading.apart (zoned_files kept) (λ address ram guarded other. starts.3 address other)) known in
     let there : LoadState = going_on w after (Awaits reading) in
-    subst (λ (what : Asking). IsKept May items top fill (events ++ Firmware ∷ []) (asking reading what w))
+    subst (λ (what : Asking). KeepsOn May items top fill w (asking reading what w))
     (sym (asking_is May items w reading buffered known))
-    (kept_from May items top fill events (events ++ Firmware ∷ []) w there kept starts.1 (ap (map shape_of) starts.2) refl
+    (kept_from May items top fill w there kept starts.1 (ap (map shape_of) starts.2) refl
     (λ address ram other beside. starts.3 address other)
-    (λ address. left_firmware top fill events address) (still.known, subst (IsAwaiting there) (sym still.same) (inl starts.0)))
+    (read_stands after.device.items r.before descriptor_at r.control r.transfer after (inl starts.0)
+    (started_address descriptor_at r.control r.transfer.length r.transfer.address w.attached))
+    (still.known, subst (IsAwaiting there) (sym still.same) (inl starts.0)))

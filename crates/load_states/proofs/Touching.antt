@@ -20,8 +20,8 @@ use Rattle.load_states.specs.declared.reading.Reading.TheVariants as read
 use Rattle.load_states.specs.Guarded.{descriptor_at, buffer_at, buffer_size, is_work}
 use Rattle.load_states.specs.LoadState.{LoadState}
 use Rattle.load_states.specs.Steps.{asked}
-use Rattle.load_states.specs.Kept.{IsKept, StageKeeps, Knows, read_by}
-use Rattle.load_states.specs.Touching.{IsOwn, IsWrittenByOne, MayTouchOver}
+use Rattle.load_states.specs.Kept.{KeepsNow, StageKeeps, Knows, read_by}
+use Rattle.load_states.specs.Touching.{IsOwn, OneMayLeaveTouched, MayTouchOver}
 use Rattle.load_states.proofs.Frames.{descriptor_is_work, buffer_is_work}
 
 -- ---- the work range
@@ -96,29 +96,29 @@ stage_own May items w Done keeps = idle_own w (placed_ranges w.placed) keeps.0.i
 stage_own May items w (Refused why) keeps = idle_own w (placed_ranges w.placed) keeps.idle
 
 -- A load's transfer touches what is the load's own alone.
-pub transfer_own : (May : Answers) (items : List Item) (top fill : ℕ) (events : List Event) (w : LoadState) (address : ℕ)
-    → IsKept May items top fill events w → MayTouch w.attached.device.flight address → IsOwn (placed_ranges w.placed) address
-transfer_own May items top fill events w address kept touched = stage_own May items w w.stage kept.stage address touched
+pub transfer_own : (May : Answers) (items : List Item) (top fill : ℕ) (w : LoadState) (address : ℕ)
+    → KeepsNow May items top fill w → MayTouch w.attached.device.flight address → IsOwn (placed_ranges w.placed) address
+transfer_own May items top fill w address kept touched = stage_own May items w w.stage kept.stage address touched
 
 -- ---- events, one after the other
 
 -- what is written by one of these events is written by one of these and others
-pub by_first : (top : ℕ) (events more : List Event) (address : ℕ) → IsWrittenByOne top events address → IsWrittenByOne top (events ++ more) address
+pub by_first : (top : ℕ) (events more : List Event) (address : ℕ) → OneMayLeaveTouched top events address → OneMayLeaveTouched top (events ++ more) address
 by_first top [] more address by = absurd by
-by_first top (event ∷ events) more address by = elim by as (λ _. IsWrittenByOne top (event ∷ events ++ more) address) [
+by_first top (event ∷ events) more address by = elim by as (λ _. OneMayLeaveTouched top (event ∷ events ++ more) address) [
   | inl here ↦ inl here
   | inr later ↦ inr (by_first top events more address later)
 ]
 
-pub by_later : (top : ℕ) (before events : List Event) (address : ℕ) → IsWrittenByOne top events address → IsWrittenByOne top (before ++ events) address
+pub by_later : (top : ℕ) (before events : List Event) (address : ℕ) → OneMayLeaveTouched top events address → OneMayLeaveTouched top (before ++ events) address
 by_later top [] events address by = by
 by_later top (event ∷ before) events address by = inr (by_later top before events address by)
 
 -- what may be touched may be where more was handed out and written
 pub over_more : (top : ℕ) (events more : List Event) (handed handed_more : List Range) (address : ℕ)
-    → (IsInOne handed address → IsInOne handed_more address) → (IsWrittenByOne top events address → IsWrittenByOne top more address)
+    → (IsInOne handed address → MayTouchOver top more handed_more address) → (OneMayLeaveTouched top events address → OneMayLeaveTouched top more address)
     → MayTouchOver top events handed address → MayTouchOver top more handed_more address
 over_more top events more handed handed_more address wider later touched = elim touched as (λ _. MayTouchOver top more handed_more address) [
-  | inl own ↦ elim own as (λ _. MayTouchOver top more handed_more address) [ inl work ↦ inl (inl work) | inr file ↦ inl (inr (wider file)) ]
+  | inl own ↦ elim own as (λ _. MayTouchOver top more handed_more address) [ inl work ↦ inl (inl work) | inr file ↦ wider file ]
   | inr by ↦ inr (later by)
 ]

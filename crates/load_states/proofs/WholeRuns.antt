@@ -1,5 +1,5 @@
 -- What a load has left that has ended.
-use Rattle.std.proofs.Common.{◌≡◌, ℕ, suc, zero, ◌==◌, ◌&&◌, not, if◌then◌else◌, List, [], ◌∷◌, ◌++◌, Result, Ok, Err, refl, sym, ap, subst, ◌∙◌}
+use Rattle.std.proofs.Common.{◌≡◌, ℕ, suc, zero, false, List, ◌++◌, Result, Ok, Err, refl, sym, ap, subst, ◌∙◌}
 use Rattle.std.specs.Prelude.{IfOk, IfErr}
 use Rattle.vt_outside.specs.Placement.{Range}
 use Rattle.cfg_directory.specs.declared.item.Item.{Item}
@@ -11,10 +11,9 @@ use Rattle.command_acts.specs.Script.{script_in}
 use Rattle.command_acts.proofs.Allocations.{ranges_in}
 use Rattle.command_acts.proofs.PlainRuns.{is_run}
 use Rattle.load_states.specs.declared.event.Event.{Event}
-use Rattle.load_states.specs.declared.event.Event.TheVariants.{Device, Firmware, Other}
-use Rattle.load_states.specs.Guarded.{is_guarded}
 use Rattle.load_states.specs.LoadState.{LoadState, memory_of}
-use Rattle.load_states.specs.Runs.{closing_events, left_by_others}
+use Rattle.load_states.specs.Runs.{closing_events, has_reset, left_by_others}
+use Rattle.load_states.proofs.LeftByOthers.{left_more, told_behind}
 use Rattle.load_states.specs.Kept.{IsKept, StageKeeps, HasEnded, IsCleared}
 use Rattle.load_states.specs.Moves.{moves}
 use Rattle.load_states.specs.Loads.{IsLoadedOver, stage_after}
@@ -25,14 +24,11 @@ left_closing top held zero address = refl
 left_closing top held (suc zero) address = refl
 left_closing top held (suc (suc count)) address = left_closing top held count address
 
--- so they leave what the others have left
-left_before : (top held : ℕ) (events : List Event) (count address : ℕ)
-    → left_by_others top held (events ++ closing_events count) address ≡ left_by_others top held events address
-left_before top held [] count address = left_closing top held count address
-left_before top held (Device bytes ∷ events) count address = left_before top held events count address
-left_before top held (Firmware ∷ events) count address = left_before top held events count address
-left_before top held (Other written byte ∷ events) count address =
-    left_before top (if written == address && not (is_guarded top address) then byte else held) events count address
+-- nor resets
+no_reset : (count : ℕ) → has_reset (closing_events count) ≡ false
+no_reset zero = refl
+no_reset (suc zero) = refl
+no_reset (suc (suc count)) = no_reset count
 
 -- what holds of an answer leads to what follows from it
 ok_leads : {A B : Type 0} (P Q : A → Type 0) (r : Result A B) → ((x : A) → P x → Q x) → IfOk r P → IfOk r Q
@@ -63,7 +59,7 @@ pub loaded_over : (May : Answers) (items : List Item) (top fill : ℕ) (events :
     (answer : Result (Unit {0}) LoadFault) (w : LoadState) → IsKept May items top fill (events ++ closing_events closing) w
     → w.stage ≡ stage_after answer → handed ≡ placed_ranges w.placed → IsLoadedOver May items top fill events handed answer w
 loaded_over May items top fill events closing handed answer w kept is placed =
-    let at_end = stage_ended May items answer w (subst (StageKeeps May items w) is kept.stage) in
+    let at_end = stage_ended May items answer w (subst (StageKeeps May items w) is kept.now.stage) in
     record {
       unread = err_leads _ _ (script_in items) (λ why so. (so.0, placed ∙ ap placed_ranges so.1, so.2)) at_end.ended.unread;
       ran = ok_leads _ _ (script_in items) (λ script so. (
@@ -73,11 +69,15 @@ loaded_over May items top fill events closing handed answer w kept is placed =
       )) at_end.ended.ran;
       stage = is;
       placed = placed;
-      shape = kept.shape;
+      shape = kept.now.shape;
       idle = at_end.ended.idle;
-      top = kept.top;
-      fill = kept.fill;
-      others = λ address ram other beside. kept.others address ram other beside ∙ left_before top fill events closing address;
+      top = kept.now.top;
+      fill = kept.now.fill;
+      others = λ address ram other beside told.
+          kept.others address ram other beside (told_behind top events (closing_events closing) address (no_reset closing) told)
+          ∙ left_more top fill events (closing_events closing) address
+          ∙ left_closing top (left_by_others top fill events address) closing address;
+      bios = kept.now.bios;
       cleared = at_end.cleared;
       transfers = at_end.transfers;
     }

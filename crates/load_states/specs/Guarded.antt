@@ -22,6 +22,10 @@ abbrev pub is_guarded : ℕ → ℕ → Bool
 is_guarded top address =
     is_work address || (nat_le bios_start address && nat_lt address bios_end) || (nat_le (high_zone top).start address && nat_lt address top)
 
+-- high memory, in which files are placed; and the F segment
+abbrev pub is_high : ℕ → ℕ → Bool
+is_high top address = nat_le (high_zone top).start address && nat_lt address top
+
 -- another processor writes a byte: nothing happens where the address is no RAM, or is guarded
 abbrev pub written_by_other : ℕ → ℕ → Memory → Memory
 written_by_other address byte m =

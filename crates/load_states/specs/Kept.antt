@@ -1,9 +1,10 @@
 -- What a load keeps over every event: of its state, the items that it was begun with, and the events so far.
-use Rattle.std.specs.Prelude.{◌≡◌, ℕ, suc, ◌+◌, ◌*◌, ◌/◌, ◌<◌, ◌≤◌, true, false, List, [], ◌∷◌, ◌++◌, length, take, slice_get, Some, None, Result, Ok}
+use Rattle.std.specs.Prelude.{◌≡◌, ℕ, suc, ◌+◌, ◌*◌, ◌/◌, ◌<◌, ◌≤◌, ◌⊎◌, true, false, List, [], ◌∷◌, ◌++◌, length, take, slice_get, Some, None, Result, Ok}
 use Rattle.std.specs.Prelude.{Err, IfOk, IfErr}
 use Rattle.std.specs.List.{AllByRecursion}
 use Rattle.vt_outside.specs.Name.{IsName}
-use Rattle.vt_bytes.specs.Memory.{Memory, IsMemory, IsRam, at}
+use Rattle.vt_outside.specs.Placement.{Range, high_zone, f_segment}
+use Rattle.vt_bytes.specs.Memory.{Memory, IsMemory, IsRam, at, bios_start, bios_end}
 use Rattle.cfg_directory.specs.declared.item.Item.{Item}
 use Rattle.cfg_directory.specs.Items.{IsItems, named}
 use Rattle.cfg_directory.specs.Listing.{listed_of}
@@ -13,7 +14,7 @@ use Rattle.loader_script.specs.LoaderName.{loader_name}
 use Rattle.loader_script.specs.declared.entry.Entry.{Entry}
 use Rattle.loader_script.specs.declared.entry.Entry.TheVariants.{Allocate, WritePointer}
 use Rattle.loader_script.specs.Run.{Progress, End, infos_of, cause_of, opening, Done as AllDone}
-use Rattle.cfg_dma.specs.Device.{IsDevice}
+use Rattle.cfg_dma.specs.Device.{IsDevice, StandsWhereLeft}
 use Rattle.cfg_dma.specs.Transfers.{room_of}
 use Rattle.cfg_dma.specs.declared.transfer.Finished.{Finished}
 use Rattle.cfg_dma.specs.Reads.{IsAwaited, AsksFor, read_of, selected_read, next_read}
@@ -29,11 +30,11 @@ use Rattle.load_states.specs.declared.stage.Stage.{Stage}
 use Rattle.load_states.specs.declared.reading.Reading.{Reading}
 use Rattle.load_states.specs.declared.reading.Reading.TheVariants as read
 use Rattle.load_states.specs.declared.stage.Stage.TheVariants.{Asks, Awaits, AtCommand, AwaitsSkip, AsksWrite, AwaitsWrite, Done, Refused}
-use Rattle.load_states.specs.Guarded.{descriptor_at, buffer_at, buffer_size, is_work, is_guarded}
+use Rattle.load_states.specs.Guarded.{descriptor_at, buffer_at, buffer_size, is_work, is_high}
 use Rattle.load_states.specs.LoadState.{LoadState, memory_of, items_now, files_now, progress_of}
 use Rattle.load_states.specs.Steps.{script_control, number_for}
 use Rattle.load_states.specs.Moves.{count_read, piece_read, first_reads, directory_reads, moves, most_transfers}
-use Rattle.load_states.specs.Runs.{left_by_others}
+use Rattle.load_states.specs.Runs.{left_by_others, has_reset}
 
 -- no transfer is in flight, and these are over
 pub record IsIdle (w : LoadState) (before : List Finished) : Type 0 where
@@ -213,28 +214,47 @@ StageKeeps May items w Done =
     × IsCleared (memory_of w)
 StageKeeps May items w (Refused why) = HasEnded May items (Err why) w
 
--- a placed file lies in guarded places, and beside the work range
-abbrev pub IsZoned : ℕ → PlacedFile → Type 0
-IsZoned top p = (i : ℕ) → i < p.size → (is_guarded top (p.place + i) ≡ true) × (is_work (p.place + i) ≡ false)
+-- a placed file lies in one of the zones
+abbrev pub LiesIn : Range → PlacedFile → Type 0
+LiesIn range p = (range.start ≤ p.place) × (p.place + p.size ≤ range.end)
 
--- RAM outside of the work range and of the placed files is as the other processors left it
-abbrev pub IsLeftByOthers : ℕ → ℕ → List Event → LoadState → Type 0
-IsLeftByOthers top fill events w = (address : ℕ) → IsRam top address → is_work address ≡ false → AllByRecursion (IsBeside address) w.placed
-    → at (memory_of w) address ≡ left_by_others top fill events address
+abbrev pub IsInZone : ℕ → PlacedFile → Type 0
+IsInZone top p = LiesIn (high_zone top) p ⊎ LiesIn f_segment p
 
--- What a load keeps that was begun with these items, below this top and with this fill byte, over these events, where places are answered
--- as they may be. Of the items their bytes alone may change; which they are is said by the stage.
-pub record IsKept (May : Answers) (its_items : List Item) (its_top its_fill : ℕ) (events : List Event) (w : LoadState) : Type 0 where
+-- the BIOS area holds the fill byte, beside the files that are placed there
+abbrev pub IsFilledBios : ℕ → LoadState → Type 0
+IsFilledBios fill w = (address : ℕ) → bios_start ≤ address → address < bios_end → AllByRecursion (IsBeside address) w.placed
+    → at (memory_of w) address ≡ fill
+
+-- What a load keeps at each moment that was begun with these items, below this top and with this fill byte, where places are answered as they
+-- may be. Of the items their bytes alone may change; which they are is said by the stage.
+pub record KeepsNow (May : Answers) (its_items : List Item) (its_top its_fill : ℕ) (w : LoadState) : Type 0 where
   pub lawful : IsItems its_items
   pub names : AllByRecursion (λ (item : Item). IsName item.name) its_items
+  pub opening : w.attached.device.opening ≡ its_items
   pub shape : HaveOneShape its_items (items_now w)
   pub device : IsDevice w.attached.device
-  pub room : most_transfers its_items ≤ room_of w.attached.device
+  pub room : room_of w.attached.device ≡ most_transfers its_items
+  pub stands : StandsWhereLeft w.attached.device
   pub memory : IsMemory (memory_of w)
   pub top : (memory_of w).top ≡ its_top
   pub fill : (memory_of w).fill ≡ its_fill
   pub loading : IsLoading its_top (files_of (items_now w)) w.placed
-  pub zoned : AllByRecursion (IsZoned its_top) w.placed
+  pub zones : AllByRecursion (IsInZone its_top) w.placed
   pub count : length w.placed ≡ count_places (places_in w.placed (infos_of (files_of (items_now w))))
-  pub others : IsLeftByOthers its_top its_fill events w
+  pub bios : IsFilledBios its_fill w
   pub stage : StageKeeps May its_items w w.stage
+
+-- what is told of an address over events: of high memory nothing, where a reset is among them, since a load before it may have left a byte there
+abbrev pub IsTold : ℕ → List Event → ℕ → Type 0
+IsTold top events address = (has_reset events ≡ false) ⊎ (is_high top address ≡ false)
+
+-- RAM outside of the work range and of the placed files is as the other processors left it
+abbrev pub IsLeftByOthers : ℕ → ℕ → List Event → LoadState → Type 0
+IsLeftByOthers top fill events w = (address : ℕ) → IsRam top address → is_work address ≡ false → AllByRecursion (IsBeside address) w.placed
+    → IsTold top events address → at (memory_of w) address ≡ left_by_others top fill events address
+
+-- What it keeps over these events: that at each moment, and RAM as the other processors left it.
+pub record IsKept (May : Answers) (its_items : List Item) (its_top its_fill : ℕ) (events : List Event) (w : LoadState) : Type 0 where
+  pub now : KeepsNow May its_items its_top its_fill w
+  pub others : IsLeftByOthers its_top its_fill events w

@@ -17,9 +17,9 @@ use Rattle.command_acts.specs.Runs.{Answers, IsRun, result_of}
 use Rattle.command_acts.specs.Script.{script_in}
 use Rattle.load_states.specs.declared.event.Event.{Event}
 use Rattle.load_states.specs.declared.stage.Stage.{Stage}
-use Rattle.load_states.specs.declared.reading.Reading.TheVariants.{Count}
-use Rattle.load_states.specs.declared.stage.Stage.TheVariants.{Asks, Done, Refused}
-use Rattle.load_states.specs.Kept.{HasNothing, IsCleared, IsLeftByOthers}
+use Rattle.load_states.specs.declared.stage.Stage.TheVariants.{Done, Refused}
+use Rattle.load_states.specs.Kept.{HasNothing, IsCleared, IsFilledBios, IsLeftByOthers}
+use Rattle.load_states.specs.Steps.{opening_stage}
 use Rattle.load_states.specs.LoadState.{LoadState, memory_of, items_now, progress_of}
 use Rattle.load_states.specs.Moves.{pieces_of, moves, script_size, most_transfers}
 
@@ -32,6 +32,7 @@ IsBlank m = (address : ℕ) → IsRam m.top address → at m address ≡ m.fill
 abbrev pub begun_device : List Item → DeviceState
 begun_device its_items = record {
   items = its_items;
+  opening = its_items;
   select = 0x0000;
   offset = 0;
   address = 0;
@@ -39,10 +40,6 @@ begun_device its_items = record {
   finished = [];
   spare = most_transfers its_items;
 }
-
--- a firmware as it is begun asks for the number of files
-abbrev pub opening_stage : Stage
-opening_stage = Asks Count
 
 -- A load as it is begun: a device of the items, memory below a top in which every byte is the fill byte, and a firmware that has done
 -- nothing.
@@ -69,8 +66,8 @@ HasRun May items script handed answer w =
     (end : End) × IsRun May (files_of items) script handed end (progress_of w) × (answer ≡ result_of end)
 
 -- A load is over, with this answer. Nothing was handed out where there was no script, and no item changed; else the script was run, and of
--- the items their bytes alone may have changed. The rest of memory is as the other processors left it, over the events so far. Where the load
--- is done the work range holds the fill byte, and each transfer is told.
+-- the items their bytes alone may have changed. The rest of memory is as the other processors left it, over the events so far; the BIOS area,
+-- which they can't write, holds the fill byte. Where the load is done the work range holds it too, and each transfer is told.
 pub record IsLoadedOver (May : Answers) (its_items : List Item) (its_top its_fill : ℕ) (events : List Event) (handed : List Range)
     (answer : Result (Unit {0}) LoadFault) (w : LoadState) : Type 0 where
   pub unread : IfErr (script_in its_items) (λ why. (answer ≡ Err why) × (handed ≡ []) × (items_now w ≡ its_items))
@@ -82,6 +79,7 @@ pub record IsLoadedOver (May : Answers) (its_items : List Item) (its_top its_fil
   pub top : (memory_of w).top ≡ its_top
   pub fill : (memory_of w).fill ≡ its_fill
   pub others : IsLeftByOthers its_top its_fill events w
+  pub bios : IsFilledBios its_fill w
   pub cleared : answer ≡ Ok tt → IsCleared (memory_of w)
   pub transfers : answer ≡ Ok tt → IfOk (script_in its_items) (λ script. w.attached.device.finished ≡ moves its_items script w.placed)
 

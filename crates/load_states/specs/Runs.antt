@@ -11,7 +11,7 @@ use Rattle.cfg_directory.specs.Files.{files_of}
 use Rattle.command_acts.specs.FilesInMemory.{placed_ranges}
 use Rattle.command_acts.specs.Runs.{Answers, request_by}
 use Rattle.load_states.specs.declared.event.Event.{Event}
-use Rattle.load_states.specs.declared.event.Event.TheVariants.{Device, Firmware, Other}
+use Rattle.load_states.specs.declared.event.Event.TheVariants.{Device, Firmware, Other, Reset}
 use Rattle.load_states.specs.declared.stage.Stage.{Stage}
 use Rattle.load_states.specs.declared.stage.Stage.TheVariants.{Asks, Awaits, AtCommand, AwaitsSkip, AsksWrite, AwaitsWrite, Done, Refused}
 use Rattle.load_states.specs.Guarded.{is_guarded}
@@ -38,6 +38,7 @@ abbrev pub request_of : Event → LoadState → Option Request
 request_of Firmware w = request_at w.stage w
 request_of (Device bytes) w = None
 request_of (Other address byte) w = None
+request_of Reset w = None
 
 -- The load goes on from one state to the next by an event: the allocator's answer is one that it may give, where it is asked.
 abbrev pub StepsTo : Answers → Event → LoadState → LoadState → Type 0
@@ -86,3 +87,12 @@ left_by_others top held (Other written byte ∷ events) address =
     left_by_others top (if written == address && not (is_guarded top address) then byte else held) events address
 left_by_others top held (Device bytes ∷ events) address = left_by_others top held events address
 left_by_others top held (Firmware ∷ events) address = left_by_others top held events address
+left_by_others top held (Reset ∷ events) address = left_by_others top held events address
+
+-- whether a reset is among events
+abbrev pub has_reset : List Event → Bool
+has_reset [] = false
+has_reset (Reset ∷ events) = true
+has_reset (Other written byte ∷ events) = has_reset events
+has_reset (Device bytes ∷ events) = has_reset events
+has_reset (Firmware ∷ events) = has_reset events

@@ -12,6 +12,8 @@ use Rattle.loader_script.specs.declared.entry.Entry.TheVariants.{Allocate, AddPo
 use Rattle.loader_script.specs.declared.refusing.Cause.{Cause}
 use Rattle.loader_script.specs.Run.{cause_of}
 use Rattle.loader_script.specs.Spelling.{entries_of, is_script_length}
+use Rattle.cfg_dma.specs.Device.{reset_device}
+use Rattle.cfg_dma.specs.Transfers.{attached}
 use Rattle.cfg_dma.specs.Events.{happens, Piece}
 use Rattle.cfg_dma.specs.Reads.{selected_read, next_read, started}
 use Rattle.cfg_dma.specs.Writes.{selected_skip, next_write}
@@ -19,7 +21,7 @@ use Rattle.command_acts.specs.declared.fault.LoadFault.TheVariants as fault
 use Rattle.command_acts.specs.FilesInMemory.{place_of, pointed, summed}
 use Rattle.command_acts.specs.declared.placed.PlacedFile.{PlacedFile}
 use Rattle.load_states.specs.declared.event.Event.{Event}
-use Rattle.load_states.specs.declared.event.Event.TheVariants.{Device, Firmware, Other}
+use Rattle.load_states.specs.declared.event.Event.TheVariants.{Device, Firmware, Other, Reset}
 use Rattle.load_states.specs.declared.stage.Stage.{Stage}
 use Rattle.load_states.specs.declared.reading.Reading.{Reading}
 use Rattle.load_states.specs.declared.reading.Reading.TheVariants as read
@@ -191,8 +193,30 @@ firmware_step (AwaitsWrite index) answer w = if is_over w then passed index w el
 firmware_step Done answer w = w
 firmware_step (Refused why) answer w = w
 
--- One step of the load for one event: a piece of the device's transfer, a step of the firmware, or a byte of another processor.
+-- ---- a reset
+
+-- a firmware as it is begun asks for the number of files
+abbrev pub opening_stage : Stage
+opening_stage = Asks read.Count
+
+-- the memory behind a reset: the F segment holds the fill byte
+unfoldable pub refilled : Memory → Memory
+refilled m = with_bytes m 0xF0000 (replicate 0x10000 m.fill)
+
+-- the load behind a reset
+abbrev pub restarted : LoadState → LoadState
+restarted w = record w {
+  attached = attached (reset_device w.attached.device) (refilled (memory_of w));
+  stage = opening_stage;
+  listed = [];
+  script = [];
+  placed = [];
+}
+
+-- One step of the load for one event: a piece of the device's transfer, a step of the firmware, a byte of another processor,
+-- or a reset.
 abbrev pub step : Event → Option ℕ → LoadState → LoadState
 step (Device bytes) answer w = record w { attached = happens (Piece bytes) w.attached }
 step Firmware answer w = firmware_step w.stage answer w
 step (Other address byte) answer w = with_memory w (written_by_other address byte (memory_of w))
+step Reset answer w = restarted w

@@ -12,4 +12,6 @@ pub enum Event {
         /// What is written there.
         byte: u8,
     },
+    /// The guest is reset: the firmware begins again, and the places of files are given back.
+    Reset,
 }

@@ -6,7 +6,7 @@ ghost use Rattle.cfg_dma.specs.Touching.{MayTouch};
 ghost use Rattle.command_acts.specs.Allocators.{AreLawful};
 ghost use Rattle.command_acts.specs.FilesInMemory.{placed_ranges};
 ghost use Rattle.load_states.specs.declared.event.Event.{Event};
-ghost use Rattle.load_states.specs.Kept.{IsKept};
+ghost use Rattle.load_states.specs.Kept.{IsKept, KeepsNow};
 ghost use Rattle.load_states.specs.Loads.{IsBegun};
 ghost use Rattle.load_states.specs.LoadState.{LoadState};
 ghost use Rattle.load_states.specs.Runs.{NoAnswer, StepsTo};
@@ -41,6 +41,6 @@ pub fn a_step_keeps<A: Answering>()
 
 /// States that the transfer in flight, if there is one, touches no addresses but those of the work range and of placed files.
 pub fn a_transfer_touches_what_is_its_own<A: Answering>()
-    ensures { (items : List Item) (top fill : ℕ) (events : List Event) (w : LoadState) (address : ℕ) → IsKept A.may items top fill events w
+    ensures { (items : List Item) (top fill : ℕ) (w : LoadState) (address : ℕ) → KeepsNow A.may items top fill w
         → MayTouch w.attached.device.flight address → IsOwn (placed_ranges w.placed) address }
 {}

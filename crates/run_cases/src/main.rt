@@ -29,6 +29,7 @@
 //!   firmware             a step of the firmware
 //!   device N             a piece of N bytes
 //!   other ADDRESS BYTE   a byte that another processor writes
+//!   reset                the guest is reset
 //!   times N              the events of the plan so far, N times over
 //! input, output, says  begins a stream: standard input, standard output or standard error
 //!   room N               how many bytes a read gives at most, or for how many bytes there is room; where it isn't told, 65,536

@@ -17,6 +17,7 @@ pub(crate) fn take_event(
         ("firmware", None) => events.push(Event::Firmware)?,
         ("device", Some(count)) => events.push(Event::Device(number_of(count)?))?,
         ("other", Some(write)) => events.push(write_of(write)?)?,
+        ("reset", None) => events.push(Event::Reset)?,
         ("times", Some(count)) => repeat(alloc, events, count_of(count)?)?,
         _ => return Ok(false),
     }

@@ -5,7 +5,7 @@
 //! 18195738587432868099 that the tests of that crate have for seed 0.
 
 use crate::giving::{are_given, none_is_left};
-use firmware_load::Event::{Device, Firmware, Other};
+use firmware_load::Event::{Device, Firmware, Other, Reset};
 use firmware_load::{Event, Schedule, SeededSchedule};
 use std::process::Abort;
 use std::test::Fail;
@@ -93,6 +93,7 @@ struct Tally {
     steps: u64,
     pieces: u64,
     piece_bytes: u64,
+    resets: u32,
     writes: u64,
     addresses: u64,
     bytes: u64,
@@ -107,6 +108,7 @@ fn all_events(rt: HostRuntime) -> Result<(), Fail> {
         writes: 1015,
         addresses: 540_685_738,
         bytes: 132_182,
+        resets: 0,
     };
     let of_greatest = Tally {
         steps: 1048,
@@ -115,6 +117,7 @@ fn all_events(rt: HostRuntime) -> Result<(), Fail> {
         writes: 1005,
         addresses: 519_717_133,
         bytes: 131_215,
+        resets: 0,
     };
     has_in_all(&rt, 1, &of_one);
     has_in_all(&rt, 0xFFFF_FFFF_FFFF_FFFF, &of_greatest);
@@ -138,6 +141,7 @@ fn tally_of(schedule: &mut SeededSchedule, count: u32) -> Tally {
         writes: 0,
         addresses: 0,
         bytes: 0,
+        resets: 0,
     };
     for _ in 0..count {
         if let Some(event) = schedule.next() {
@@ -162,6 +166,10 @@ fn with_event(tally: Tally, event: Event) -> Tally {
             writes: tally.writes.saturating_add(1),
             addresses: tally.addresses.saturating_add(addr),
             bytes: tally.bytes.saturating_add(u64::from(byte)),
+            ..tally
+        },
+        Reset => Tally {
+            resets: tally.resets.saturating_add(1),
             ..tally
         },
     }

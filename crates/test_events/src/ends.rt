@@ -51,8 +51,8 @@ fn no_files(rt: HostRuntime) -> Result<(), Fail> {
 
 const BAD_ALIGN: Line = Allocate("etc/spare", 3, HIGH);
 
-// Adds 0x3000000 to a number of one byte.
-const TOO_FAR: Line = AddPointer("etc/tables", "etc/tables", 4, 1);
+/// Adds 0x3000000 to a number of one byte.
+pub(crate) const TOO_FAR: Line = AddPointer("etc/tables", "etc/tables", 4, 1);
 
 const PLACE_SPARE: Line = Allocate("etc/spare", 1, HIGH);
 
@@ -129,7 +129,8 @@ fn is_refused(rt: &impl Abort, alloc: Global, refusal: &Refusal) -> Result<(), F
     )
 }
 
-fn items_refused(alloc: Global, line: Line) -> Result<Items, Fail> {
+/// Makes the items of the small load with a command behind those that place its files, and without the others.
+pub(crate) fn items_refused(alloc: Global, line: Line) -> Result<Items, Fail> {
     let lines = [PLACE_ANCHOR, PLACE_TABLES, line, PADDING, PADDING];
     items_of(alloc, &SMALL_FILES, 0, &lines)
 }

@@ -36,6 +36,8 @@ mod plans;
 #[cfg(test)]
 mod reads;
 #[cfg(test)]
+mod resets;
+#[cfg(test)]
 mod rig;
 #[cfg(test)]
 mod rooms;

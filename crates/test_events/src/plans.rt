@@ -76,19 +76,19 @@ pub(crate) fn reads_to(anchor: u64, tables: u64) -> [Transfer; 5] {
     ]
 }
 
-// Places that no other processor writes: both ends of the descriptor, of the buffer, of the BIOS area and of high memory, which begins
-// with a placed file, and both ends of the other file.
-const GUARDED: [u64; 10] = [
+/// Places that no other processor writes: both ends of the descriptor, of the buffer, of the BIOS area and of high memory, which begins
+/// with a placed file, and both ends of the other file.
+pub(crate) const GUARDED: [u64; 10] = [
     0x7000, 0x700F, 0x8000, 0x8FFF, 0xE_0000, 0xF_FFFF, 0x300_0000, 0x3FF_FFFF, 0xF_0000, 0xF_0008,
 ];
 
-// Places beside these that they do write, and two that are no RAM.
-const WRITTEN: [u64; 7] = [
+/// Places beside these that they do write, and two that are no RAM.
+pub(crate) const WRITTEN: [u64; 7] = [
     0x1_2345, 0x6FFF, 0x7010, 0x9000, 0x2FF_FFFF, 0xA_0000, 0x400_0000,
 ];
 
-// The guarded places that hold no table keep the fill byte, and the others what was written last, in round 21.
-const UNWRITTEN: [Held<'static>; 5] = [
+/// The guarded places that hold no table keep the fill byte.
+pub(crate) const UNWRITTEN: [Held<'static>; 5] = [
     ANCHOR,
     TABLES,
     Held(0xE_0000, &[FILL]),
@@ -96,6 +96,7 @@ const UNWRITTEN: [Held<'static>; 5] = [
     Held(0x3FF_FFFF, &[FILL]),
 ];
 
+// The others hold what was written last, in round 21.
 const LEFT: [Held<'static>; 7] = [
     ANCHOR,
     TABLES,
@@ -209,7 +210,8 @@ pub(crate) fn plan_of(
     Ok(plan)
 }
 
-fn put_rounds(
+/// Adds so many rounds to events, as [`plan_of`] says.
+pub(crate) fn put_rounds(
     events: &mut List<Event>,
     count: u16,
     bytes: u32,

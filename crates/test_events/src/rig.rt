@@ -59,7 +59,20 @@ pub(crate) fn begin(alloc: Global, world: &mut World, items: Items) -> Result<()
     ensures fresh { OnOk result (IsSomeAnd world.new.load (λ w. IsBegun w.attached.device.items (memory_of w).top (memory_of w).fill w)) }
     ensures top { OnOk result (IfSome world.new.load (λ w. (memory_of w).top ≡ 0x4000000)) }
 {
-    world.begin(alloc, items, TOP, FILL)
+    begin_filled(alloc, world, items, FILL)
+}
+
+/// Begins one in which each byte of RAM is `fill`.
+pub(crate) fn begin_filled(
+    alloc: Global,
+    world: &mut World,
+    items: Items,
+    fill: u8,
+) -> Result<(), OutOfMemory>
+    ensures fresh { OnOk result (IsSomeAnd world.new.load (λ w. IsBegun w.attached.device.items (memory_of w).top (memory_of w).fill w)) }
+    ensures top { OnOk result (IfSome world.new.load (λ w. (memory_of w).top ≡ 0x4000000)) }
+{
+    world.begin(alloc, items, TOP, fill)
 }
 
 /// Begins an allocator with the zones below [`TOP`].
@@ -162,7 +175,8 @@ pub(crate) fn ends_placed<A: ZoneAlloc, C: Schedule>(
     Ok(())
 }
 
-fn failing_places(alloc: Global, fails: &[u32]) -> Result<FailingAlloc, OutOfMemory> {
+/// Makes an allocator that refuses these calls.
+pub(crate) fn failing_places(alloc: Global, fails: &[u32]) -> Result<FailingAlloc, OutOfMemory> {
     let mut list = List::new(alloc);
     list.extend(fails)?;
     Ok(FailingAlloc::new(list))

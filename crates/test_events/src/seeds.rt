@@ -15,16 +15,20 @@ use std::process::Abort;
 use std::test::Fail;
 use zone_alloc::{Policy, ShelfAlloc};
 
-// Both files are at the last multiples of their aligns. 5 + 0x3FFFFC0 is 0x3FFFFC5, and 0x41 + 0x42 + 0xC5 + 0xFF + 0xFF + 3 + 0x77 + 0x88
-// + 0xB8 is 0x500.
-static AT_TOP: [Held<'static>; 2] = [
+/// What the small load leaves at the greatest places.
+///
+/// Both files are at the last multiples of their aligns. 5 + 0x3FFFFC0 is 0x3FFFFC5, and 0x41 + 0x42 + 0xC5 + 0xFF + 0xFF + 3 + 0x77 + 0x88
+/// + 0xB8 is 0x500.
+pub(crate) const AT_TOP: [Held<'static>; 2] = [
     Held(0xF_FFF0, b"\x41\x42\xc5\xff\xff\x03\x77\x88\xb8"),
     Held(0x3FF_FFC0, b"\xc1\xc2\xc3\xc4\xc5"),
 ];
 
-// The words of seed 0 begin with 11cdd903 and fc843fd7, so that the goals are 0xFD903 and 0x3843FD7. 5 + 0x3844000 is 0x3844005, and
-// 0x41 + 0x42 + 5 + 0x40 + 0x84 + 3 + 0x77 + 0x88 + 0xB2 is 0x300.
-static SCATTERED: [Held<'static>; 2] = [
+/// What it leaves at the scattered places of seed 0.
+///
+/// The words of seed 0 begin with 11cdd903 and fc843fd7, so that the goals are 0xFD903 and 0x3843FD7. 5 + 0x3844000 is 0x3844005, and
+/// 0x41 + 0x42 + 5 + 0x40 + 0x84 + 3 + 0x77 + 0x88 + 0xB2 is 0x300.
+pub(crate) const SCATTERED: [Held<'static>; 2] = [
     Held(0xF_D910, b"\x41\x42\x05\x40\x84\x03\x77\x88\xb2"),
     Held(0x384_4000, b"\xc1\xc2\xc3\xc4\xc5"),
 ];

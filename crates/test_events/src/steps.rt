@@ -12,7 +12,7 @@ use crate::rig::{
 };
 use cfg_directory::Items;
 use cfg_dma::Device as CfgDevice;
-use firmware_load::Event::{Device, Firmware, Other};
+use firmware_load::Event::{Device, Firmware, Other, Reset};
 use firmware_load::{Event, State, World};
 use std::alloc::Global;
 use std::process::Abort;
@@ -72,9 +72,13 @@ const DONE: Seen = Seen {
 /// Events, how often they come in turn, and what is seen then.
 pub(crate) struct Turns(pub(crate) u8, pub(crate) &'static [Event], pub(crate) Seen);
 
-/// How a load goes on: all of its transfers, and what is seen from its beginning on.
+/// Events that come so often in turn.
+pub(crate) type Unseen = (u8, &'static [Event]);
+
+/// How a load goes on: events first behind which nothing is looked at, and then what is seen; and all of its transfers.
 #[derive(Clone, Copy)]
 pub(crate) struct Walk<'a> {
+    pub(crate) before: &'a [Unseen],
     pub(crate) transfers: &'a [Transfer],
     pub(crate) turns: &'a [Turns],
 }
@@ -109,8 +113,112 @@ static TURNS: [Turns; 7] = [
 fn steps(rt: HostRuntime) -> Result<(), Fail> {
     let items = small_items(rt.alloc())?;
     let walk = Walk {
+        before: &[],
         transfers: &READS,
         turns: &TURNS,
+    };
+    walks(&rt, rt.alloc(), items, &walk)
+}
+
+/// A step of the firmware and a piece as long as any transfer.
+pub(crate) const TURN: &[Event] = &[Firmware, WHOLE];
+
+// The small load takes 14 turns: one for each command behind the two that place files, one for the end, and two for each transfer.
+static WHOLE_LOAD: [Turns; 1] = [Turns(14, TURN, DONE)];
+
+const RESET: &[Event] = &[Reset];
+
+// Wherever its guest is reset, also where it is done, the load then goes as one that was just begun.
+#[test]
+fn reset_behind_each_turn(rt: HostRuntime) -> Result<(), Fail> {
+    for count in 0..=16 {
+        goes_again(&rt, rt.alloc(), &[(count, TURN), (1, RESET)])?;
+    }
+    Ok(())
+}
+
+// So it is within each transfer. Their bytes are 4, 256, 640, 9 and 5, and each ends with a step that sees it over.
+static WITHIN: [[Unseen; 4]; 5] = [
+    [
+        (0, TURN),
+        (1, &[Firmware]),
+        (3, &[Device(1)]),
+        (1, &[Reset]),
+    ],
+    [
+        (2, TURN),
+        (1, &[Firmware]),
+        (255, &[Device(1), Firmware]),
+        (2, &[Reset]),
+    ],
+    [
+        (4, TURN),
+        (1, &[Firmware]),
+        (250, &[Device(2)]),
+        (1, &[Reset]),
+    ],
+    [
+        (6, TURN),
+        (1, &[Firmware]),
+        (8, &[Firmware, Device(1)]),
+        (1, &[Reset, WHOLE]),
+    ],
+    [
+        (8, TURN),
+        (1, &[Firmware]),
+        (4, &[Device(1)]),
+        (3, &[Reset, WHOLE]),
+    ],
+];
+
+#[test]
+fn reset_within_each_transfer(rt: HostRuntime) -> Result<(), Fail> {
+    for before in &WITHIN {
+        goes_again(&rt, rt.alloc(), before)?;
+    }
+    Ok(())
+}
+
+fn goes_again(rt: &impl Abort, alloc: Global, before: &[Unseen]) -> Result<(), Fail> {
+    let items = small_items(alloc)?;
+    let walk = Walk {
+        before,
+        transfers: &READS,
+        turns: &WHOLE_LOAD,
+    };
+    walks(rt, alloc, items, &walk)
+}
+
+// A reset leaves the descriptor and the buffer as they are. The transfer that was in flight moves nothing more.
+const BROKEN_OFF: Seen = Seen {
+    busy: false,
+    ..PARTLY
+};
+
+// Of a load that is done it leaves what stands in high memory, and nothing in the F segment.
+const GIVEN_BACK: Seen = Seen {
+    held: &[TABLES],
+    ..BEGUN
+};
+
+static RESETS: [Turns; 8] = [
+    Turns(1, &[Reset], BEGUN),
+    Turns(1, &[Firmware, Device(3)], PARTLY),
+    Turns(1, &[Reset], BROKEN_OFF),
+    Turns(2, &[WHOLE, Reset], BROKEN_OFF),
+    Turns(14, TURN, DONE),
+    Turns(1, &[Reset], GIVEN_BACK),
+    Turns(2, &[Reset, WHOLE], GIVEN_BACK),
+    Turns(14, TURN, DONE),
+];
+
+#[test]
+fn what_a_reset_leaves(rt: HostRuntime) -> Result<(), Fail> {
+    let items = small_items(rt.alloc())?;
+    let walk = Walk {
+        before: &[],
+        transfers: &READS,
+        turns: &RESETS,
     };
     walks(&rt, rt.alloc(), items, &walk)
 }
@@ -173,14 +281,31 @@ fn goes<A: ZoneAlloc>(rt: &impl Abort, world: &mut World, place: &mut A, walk: &
     requires zones { AreZonesOf 0x4000000 (A.state place.old).begun.zones }
     requires handed { IfSome world.old.load (λ w. (A.state place.old).handed ≡ placed_ranges w.placed) }
 {
+    come_behind(rt, world, place, walk.before);
     for Turns(count, events, seen) in walk.turns {
         take_turns(rt, world, place, *count, events);
         is_seen(rt, world, walk.transfers, seen);
     }
 }
 
-// The world takes the steps of events, so often in turn.
-fn take_turns<A: ZoneAlloc>(
+// The world takes the steps of events behind which nothing is looked at.
+fn come_behind<A: ZoneAlloc>(rt: &impl Abort, world: &mut World, place: &mut A, before: &[Unseen])
+    requires some { IsSome world.old.load }
+    requires begun { (A.state place.old).begun.ready ≡ true }
+    requires zones { AreZonesOf 0x4000000 (A.state place.old).begun.zones }
+    requires handed { IfSome world.old.load (λ w. (A.state place.old).handed ≡ placed_ranges w.placed) }
+    ensures some { IsSome world.new.load }
+    ensures begun { (A.state place.new).begun.ready ≡ true }
+    ensures zones { AreZonesOf 0x4000000 (A.state place.new).begun.zones }
+    ensures handed { IfSome world.new.load (λ w. (A.state place.new).handed ≡ placed_ranges w.placed) }
+{
+    for (count, events) in before {
+        take_turns(rt, world, place, *count, events);
+    }
+}
+
+/// The world takes the steps of events, so often in turn.
+pub(crate) fn take_turns<A: ZoneAlloc>(
     rt: &impl Abort,
     world: &mut World,
     place: &mut A,

@@ -5,9 +5,11 @@ use crate::rig::Transfer::{self, Read, Skip, Write};
 use crate::rig::{Content, Held};
 use crate::scripts::HIGH;
 use crate::scripts::Line::{self, Allocate, WritePointer};
-use crate::steps::{Seen, Turns, WHOLE, Walk, walks};
-use firmware_load::Event::{Device, Firmware, Other};
+use crate::steps::{Seen, TURN, Turns, Unseen, WHOLE, Walk, walks};
+use firmware_load::Event::{Device, Firmware, Other, Reset};
 use firmware_load::{Event, State};
+use std::alloc::Global;
+use std::process::Abort;
 use std::test::Fail;
 
 // The number is 0x3000000 + 3.
@@ -151,8 +153,76 @@ static TURNS: [Turns; 10] = [
 fn steps_of_a_write(rt: HostRuntime) -> Result<(), Fail> {
     let items = items_of(rt.alloc(), &WRITTEN_FILES, 0, &SCRIPT)?;
     let walk = Walk {
+        before: &[],
         transfers: &TRANSFERS,
         turns: &TURNS,
     };
     walks(&rt, rt.alloc(), items, &walk)
+}
+
+// A reset takes back what was moved of the number, and leaves the rest. Behind it the write is over no more.
+const TAKEN_BACK: Seen = Seen {
+    busy: false,
+    count: 0,
+    ..ASKED
+};
+
+static RESETS: [Turns; 7] = [
+    Turns(8, TURN, PLACED),
+    Turns(3, &[Firmware], ASKED),
+    Turns(3, &[Device(1)], IN_PIECES),
+    Turns(1, &[Reset], TAKEN_BACK),
+    Turns(2, &[WHOLE, Reset], TAKEN_BACK),
+    Turns(13, TURN, DONE),
+    Turns(1, &[Reset], GIVEN_BACK),
+];
+
+// So it does of a load that is done, whose work range holds the fill byte.
+const GIVEN_BACK: Seen = Seen {
+    state: State::Running,
+    count: 0,
+    contents: &[UNWRITTEN],
+    ..DONE
+};
+
+#[test]
+fn reset_within_a_write(rt: HostRuntime) -> Result<(), Fail> {
+    let items = items_of(rt.alloc(), &WRITTEN_FILES, 0, &SCRIPT)?;
+    let walk = Walk {
+        before: &[],
+        transfers: &TRANSFERS,
+        turns: &RESETS,
+    };
+    walks(&rt, rt.alloc(), items, &walk)
+}
+
+static WHOLE_LOAD: [Turns; 1] = [Turns(13, TURN, DONE)];
+
+// Each byte of the number, and each turn: with all that was before it forgotten, the number is written once more.
+static BEFORE: [[Unseen; 3]; 7] = [
+    [(9, TURN), (1, &[Firmware]), (1, &[Reset])],
+    [(10, TURN), (1, &[Firmware]), (1, &[Reset])],
+    [(10, TURN), (1, &[Firmware, Device(1)]), (1, &[Reset])],
+    [(10, TURN), (1, &[Firmware, Device(2)]), (1, &[Reset])],
+    [(10, TURN), (1, &[Firmware, Device(3)]), (1, &[Reset])],
+    [(11, TURN), (1, &[Firmware]), (1, &[Reset])],
+    [(12, TURN), (1, &[Firmware]), (2, &[Reset])],
+];
+
+#[test]
+fn number_written_again(rt: HostRuntime) -> Result<(), Fail> {
+    for before in &BEFORE {
+        is_written_again(&rt, rt.alloc(), before)?;
+    }
+    Ok(())
+}
+
+fn is_written_again(rt: &impl Abort, alloc: Global, before: &[Unseen]) -> Result<(), Fail> {
+    let items = items_of(alloc, &WRITTEN_FILES, 0, &SCRIPT)?;
+    let walk = Walk {
+        before,
+        transfers: &TRANSFERS,
+        turns: &WHOLE_LOAD,
+    };
+    walks(rt, alloc, items, &walk)
 }

@@ -7,6 +7,8 @@ mod reads;
 #[cfg(test)]
 mod refusals;
 #[cfg(test)]
+mod resets;
+#[cfg(test)]
 mod rig;
 #[cfg(test)]
 mod writes;

@@ -9,6 +9,8 @@ mod places;
 #[cfg(test)]
 mod refusals;
 #[cfg(test)]
+mod resets;
+#[cfg(test)]
 mod rows;
 #[cfg(test)]
 mod scatters;

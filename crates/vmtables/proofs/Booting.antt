@@ -46,7 +46,7 @@ use Rattle.vmtables.specs.Loading.{IsImageLoaded, IsRefusedFree, FailsToLoad, en
 use Rattle.vmtables.specs.declared.fault.Fault.{Fault}
 use Rattle.vmtables.specs.declared.fault.Fault.TheVariants as fault
 use Rattle.vmtables.proofs.ImageRuns.{Extends, GivesFree, IsStuck, later_commands, later_place_none, extends}
-use Rattle.vmtables.proofs.LeftByOthers.{guarded_stays, bios_guarded, bios_no_work, holds_now, beside_each}
+use Rattle.vmtables.proofs.PlacedFiles.{holds_now, beside_each}
 use Rattle.vmtables.proofs.PlacesMore.{room_from}
 use Rattle.vmtables.proofs.ScriptRead.{script_read}
 
@@ -148,8 +148,7 @@ holds_files : (May : Answers) (items : List Item) (top fill : ℕ) (events : Lis
 holds_files May items top fill events handed answer world leaves bytes = record {
   files = holds_now (memory_of world) world.placed;
   bios = λ address from below outside.
-      leaves.others address (inr (inl (from, below))) (bios_no_work address from) (beside_each (memory_of world) world.placed address outside)
-      ∙ guarded_stays top fill events address (bios_guarded top address from below) ∙ sym leaves.fill;
+      leaves.bios address from below (beside_each (memory_of world) world.placed address outside) ∙ sym leaves.fill;
   alone = shows_bytes (memory_of world) bytes;
 }
 
@@ -189,8 +188,8 @@ booted Gives setting m items script before after free built small script_read lo
       files = is.files;
       lawful = is.lawful;
       holds = holds;
-      others = λ address ram no_work outside.
-          leaves.others address ram no_work (beside_each (memory_of world) world.placed address outside);
+      others = λ address ram no_work outside told.
+          leaves.others address ram no_work (beside_each (memory_of world) world.placed address outside) told;
       cleared = leaves.cleared refl;
       shown = built.shown (map (λ (r : Range). r.start) after.place.handed) (files_now world) (memory_of world) is.lawful is.linked leaves.top holds;
     }

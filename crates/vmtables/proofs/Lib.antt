@@ -8,7 +8,7 @@ pub mod Ends
 pub mod Given
 pub mod ImageRuns
 pub mod ItemsLoaded
-pub mod LeftByOthers
+pub mod PlacedFiles
 pub mod Listed
 pub mod NeverRefused
 pub mod PlacesMore

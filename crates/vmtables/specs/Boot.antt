@@ -18,7 +18,7 @@ use Rattle.command_acts.specs.Script.{script_in}
 use Rattle.command_acts.specs.declared.fault.LoadFault.TheVariants.{NoRoom}
 use Rattle.vt_words.specs.declared.setting.Setting.{Setting}
 use Rattle.load_states.specs.Guarded.{is_work}
-use Rattle.load_states.specs.Kept.{IsCleared}
+use Rattle.load_states.specs.Kept.{IsCleared, IsTold}
 use Rattle.load_states.specs.LoadState.{memory_of, items_now, files_now, progress_of}
 use Rattle.load_states.specs.Runs.{left_by_others}
 use Rattle.vmtables.specs.Calls.{Answering, Made, Seen}
@@ -31,8 +31,8 @@ use Rattle.vmtables.specs.declared.fault.Fault.TheVariants as fault
 -- A machine is booted, with this setting: the items of its image, which have few bytes, are loaded over the plan's events of its seed, their
 -- script is its script, which is carried out whole with the files at lawful places, and memory holds them. Of the files of fw_cfg it writes
 -- only the one that tells the host where the id of the generation is, where there is an id. The rest is as the other processors left it over the
--- events that were taken, but for the firmware's work range, which holds the fill byte. Memory shows, from its RSDP and its anchor, exactly the
--- machine's inventory.
+-- events that were taken, but for the firmware's work range, which holds the fill byte; of high memory that is said where no reset is among them.
+-- Memory shows, from its RSDP and its anchor, exactly the machine's inventory.
 pub record IsMachineBooted (Gives : Answering) (setting : Setting) (machine : Machine) (before after : Seen) : Type 0 where
   pub small : total_size (image_items machine) ≤ image_limit
   pub loaded : IsImageLoaded Gives (image_items machine) (top_of machine) setting (Ok tt) before after
@@ -42,7 +42,7 @@ pub record IsMachineBooted (Gives : Answering) (setting : Setting) (machine : Ma
   pub lawful : ArePlaces (top_of machine) [] (image_files machine) (map (λ (r : Range). r.start) after.place.handed)
   pub holds : HoldsFiles (memory_of loaded.world) (files_now loaded.world)
   pub others : (address : ℕ) → IsRam (top_of machine) address → is_work address ≡ false
-      → IsOutside (files_now loaded.world) address
+      → IsOutside (files_now loaded.world) address → IsTold (top_of machine) loaded.load.taken address
       → at (memory_of loaded.world) address ≡ left_by_others (top_of machine) setting.fill loaded.load.taken address
   pub cleared : IsCleared (memory_of loaded.world)
   pub shown : Shows (memory_of loaded.world).top (seen (memory_of loaded.world)) (inventory_of machine)

@@ -44,6 +44,11 @@ begun_as zones policy ready s = record s {
   refused = None;
 }
 
+-- the allocator as a `reset` leaves it: nothing is handed out any more, and no request was refused since; what it was begun with, and the count
+-- stay
+abbrev pub reset_as : AllocState → AllocState
+reset_as s = record s { handed = []; refused = None }
+
 -- the allocator behind a request for which it gave a place: the range there is handed out, behind the others
 abbrev pub with_range : Request → ℕ → AllocState → AllocState
 with_range request place s = record s {

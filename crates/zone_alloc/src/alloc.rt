@@ -2,7 +2,7 @@ ghost use Rattle.std.specs.Prelude.{◌≡◌, ℕ, true, ◌<◌, ◌≤◌, le
 ghost use Rattle.std.specs.Int.{is_power_of_two};
 ghost use Rattle.std.specs.Result.{result_ok};
 ghost use Rattle.vt_outside.specs.Placement.{IsFree};
-ghost use Rattle.zone_alloc.specs.Allocators.{begun_as, with_range, with_refusal};
+ghost use Rattle.zone_alloc.specs.Allocators.{begun_as, reset_as, with_range, with_refusal};
 ghost use Rattle.zone_alloc.specs.Places.{range_in, HaveAddresses};
 
 use crate::policy::Policy;
@@ -52,6 +52,12 @@ pub trait ZoneAlloc {
     fn begin(&mut self, alloc: Global, within: Zones, by: Policy) -> Result<(), OutOfMemory>
         requires { HaveAddresses within }
         ensures { state self.new ≡ begun_as within by (is_ok result) (state self.old) };
+
+    /// Hands nothing out any more, as a `begin` with the same zones and the same policy would, and forgets the request that was refused last.
+    /// The count of refusals stays. It takes no memory. Before it, `begin` must have had memory.
+    fn reset(&mut self)
+        requires { (state self.old).begun.ready ≡ true }
+        ensures { state self.new ≡ reset_as (state self.old) };
 
     /// Returns a place in `zone` for a file of `size` bytes, at least 1: a multiple of `align`, a power of two, from which the
     /// file lies in the zone and apart from each range that was handed out. The file's range is handed out then. Before it,

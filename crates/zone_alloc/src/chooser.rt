@@ -63,6 +63,16 @@ impl Chooser {
         }
     }
 
+    /// Goes back to where it began: of a scatter the seed's first word is the next one.
+    pub(crate) fn restart(&mut self)
+        ensures policy { policy_of self.new ≡ policy_of self.old }
+        ensures word { IsAtWord 0 self.new }
+    {
+        if let Chooser::Scatter { seed, words } = self {
+            *words = Words::of_seed(*seed);
+        }
+    }
+
     /// Takes a word, for a range that is handed out.
     pub(crate) fn take_word(&mut self)
         ensures policy { policy_of self.new ≡ policy_of self.old }

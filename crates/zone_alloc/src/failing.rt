@@ -4,7 +4,7 @@ ghost use Rattle.std.specs.Result.{result_ok};
 ghost use Rattle.vt_outside.specs.Placement.{IsFree};
 ghost use Rattle.vt_outside.specs.Stream.{next_count};
 ghost use Rattle.zone_alloc.specs.Places.{range_in, HaveAddresses};
-ghost use Rattle.zone_alloc.specs.Allocators.{before_begin, begun_as, with_range, with_refusal, failing_gives};
+ghost use Rattle.zone_alloc.specs.Allocators.{before_begin, begun_as, reset_as, with_range, with_refusal, failing_gives};
 
 use crate::alloc::{NoRoom, Request, ZoneAlloc};
 use crate::policy::Policy;
@@ -55,6 +55,14 @@ impl ZoneAlloc for FailingAlloc {
         ensures { self.new ≡ record self.old { shelf = begun_as within by (is_ok result) self.old.shelf } }
     {
         self.shelf.begin(alloc, within, by)
+    }
+
+    fn reset(&mut self)
+        requires { self.old.shelf.begun.ready ≡ true }
+        // The calls are counted on.
+        ensures { self.new ≡ record self.old { shelf = reset_as self.old.shelf } }
+    {
+        self.shelf.reset();
     }
 
     fn place(&mut self, zone: Zone, size: u32, align: u32) -> Result<u64, NoRoom>

@@ -44,6 +44,14 @@ impl HandedRanges {
         })
     }
 
+    /// Hands nothing out any more.
+    pub(crate) fn clear(&mut self)
+        ensures { self.new ≡ [] }
+    {
+        self.in_turn.clear();
+        self.by_address.clear();
+    }
+
     /// Returns the least multiple of `align` at or above `goal` from which `size` bytes lie in `zone` and apart from these ranges, or
     /// `None` where there is none. `goal` is no lower than the zone, and `align` and `size` are at least 1.
     pub(crate) fn least_from(

@@ -125,6 +125,14 @@ impl ZoneAlloc for ShelfAlloc {
         Ok(())
     }
 
+    fn reset(&mut self) {
+        self.refused = None;
+        self.chooser.restart();
+        if let Some(handed) = &mut self.handed {
+            handed.clear();
+        }
+    }
+
     fn place(&mut self, zone: Zone, size: u32, align: u32) -> Result<u64, NoRoom> {
         let asked = Request { zone, size, align };
         match self.choose(asked) {

@@ -39,7 +39,8 @@ fn is_read(rt: &impl Abort, device: &mut Device, select: u16, bytes: &[u8; 6]) {
     }
 }
 
-fn next_is(rt: &impl Abort, device: &mut Device, byte: u8) {
+/// The next byte of the selected item is this one.
+pub(crate) fn next_is(rt: &impl Abort, device: &mut Device, byte: u8) {
     assert!(rt; !device.busy());
     assert_eq!(rt; device.read_byte(), byte);
 }
@@ -80,7 +81,9 @@ static SEEN: [(u16, bool); 6] = [
     (0x0022, false),
 ];
 
-fn is_new(rt: &impl Abort, device: &mut Device) {
+/// The device is as it is when it begins: item 0x0000 is selected at its start, the address register reads as it does while it is 0, and no
+/// transfer is over.
+pub(crate) fn is_new(rt: &impl Abort, device: &mut Device) {
     assert_eq!(rt; device.read_address(), 0x5145_4D55_2043_4647);
     next_is(rt, device, 0x51);
     are_seen(rt, device);

@@ -132,17 +132,17 @@ pub(crate) fn finish(rt: &impl Abort, device: &mut Device, memory: &mut GuestMem
     requires room { room_of device.old ≡ 8 }
     ensures { room_of device.new ≡ 8 }
 {
-    move_pieces(device, memory, bytes);
+    move_pieces(device, memory, 16, bytes);
     assert!(rt; !device.busy());
 }
 
-// Moves some pieces.
-fn move_pieces(device: &mut Device, memory: &mut GuestMemory, bytes: u32)
+/// Moves so many pieces of `bytes` bytes.
+pub(crate) fn move_pieces(device: &mut Device, memory: &mut GuestMemory, count: u8, bytes: u32)
     requires can_move { CanMove (attached device.old memory.old.memory) }
     requires room { room_of device.old ≡ 8 }
     ensures { room_of device.new ≡ 8 }
 {
-    for _piece in 0..16 {
+    for _piece in 0..count {
         device.piece(memory, bytes);
     }
 }

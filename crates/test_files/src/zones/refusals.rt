@@ -30,6 +30,7 @@ fn refuses_and_begins_again(
 {
     shelf.begin(alloc, zones_of(0x400_0000), Policy::Low)?;
     two_refusals(rt, shelf);
+    is_reset(shelf);
     a_place(rt, shelf);
     shelf.begin(alloc, zones_of(0x400_0000), Policy::Low)?;
     a_place(rt, shelf);
@@ -57,6 +58,17 @@ fn two_refusals(rt: &impl Abort, shelf: &mut ShelfAlloc)
     };
     is_refused(rt, shelf, first);
     is_refused(rt, shelf, second);
+}
+
+// A reset leaves the count and what the shelf was begun with; no request that was refused is kept, and nothing is handed out.
+fn is_reset(shelf: &mut ShelfAlloc)
+    requires { shelf.old.begun.ready ≡ true }
+    ensures count { shelf.new.refusals ≡ shelf.old.refusals }
+    ensures begun { shelf.new.begun ≡ shelf.old.begun }
+    ensures clear { shelf.new.refused ≡ None }
+    ensures none { shelf.new.handed ≡ [] }
+{
+    shelf.reset();
 }
 
 // A request is refused: it is counted and kept, and all else is what it was.

@@ -1,6 +1,6 @@
 //! Requests, one after the other, and the places that are to be given.
 
-ghost use Rattle.std.specs.Prelude.{◌≡◌, true, ◌+◌, ◌<◌, ◌≤◌, length};
+ghost use Rattle.std.specs.Prelude.{◌≡◌, true, ◌+◌, ◌<◌, ◌≤◌, length, OnOk};
 ghost use Rattle.zone_alloc.specs.Places.{HaveAddresses};
 
 use std::alloc::Global;
@@ -17,6 +17,7 @@ pub(crate) const WIDE: Zones = Zones {
 };
 
 /// A request, and the place that is to be given, or `None` for a refusal.
+#[derive(Clone, Copy)]
 pub(crate) struct Row(
     pub(crate) Zone,
     pub(crate) u32,
@@ -24,7 +25,7 @@ pub(crate) struct Row(
     pub(crate) Option<u64>,
 );
 
-/// A shelf that begins with these zones and this policy answers each row as it says, and again once it has begun again.
+/// A shelf that begins with these zones and this policy answers each row as it says, again once it is reset, and again once it has begun again.
 pub(crate) fn are_places(
     rt: &impl Abort,
     alloc: Global,
@@ -36,12 +37,12 @@ pub(crate) fn are_places(
     requires room { length rows.now ≤ 1024 }
 {
     let mut shelf = ShelfAlloc::new();
-    let done = are_placed_twice(rt, alloc, &mut shelf, zones, by, rows);
+    let done = are_placed_each_time(rt, alloc, &mut shelf, zones, by, rows);
     drop(shelf);
     done
 }
 
-fn are_placed_twice(
+fn are_placed_each_time(
     rt: &impl Abort,
     alloc: Global,
     shelf: &mut ShelfAlloc,
@@ -53,6 +54,7 @@ fn are_placed_twice(
     requires room { length rows.now ≤ 1024 }
 {
     are_placed_from_begin(rt, alloc, shelf, zones, by, rows)?;
+    are_placed_from_reset(rt, shelf, rows);
     are_placed_from_begin(rt, alloc, shelf, zones, by, rows)
 }
 
@@ -67,10 +69,21 @@ pub(crate) fn are_placed_from_begin<A: ZoneAlloc>(
 ) -> Result<(), OutOfMemory>
     requires addresses { HaveAddresses zones }
     requires room { length rows.now ≤ 1024 }
+    ensures { OnOk result ((A.state place.new).begun.ready ≡ true) }
 {
     place.begin(alloc, zones, by)?;
     are_placed(rt, place, rows);
     Ok(())
+}
+
+/// Once an allocator is reset, it answers each row as it says.
+pub(crate) fn are_placed_from_reset<A: ZoneAlloc>(rt: &impl Abort, place: &mut A, rows: &[Row])
+    requires begun { (A.state place.old).begun.ready ≡ true }
+    requires room { length rows.now ≤ 1024 }
+    ensures { (A.state place.new).begun.ready ≡ true }
+{
+    place.reset();
+    are_placed(rt, place, rows);
 }
 
 // Each row is answered as it says, in turn.

@@ -11,11 +11,11 @@ returns-in-1-clause-value c = contents-features c.args.self.now.items c.args.sel
 
 pub returns-in-25-clause-value : goal.returns-in-25-clause-value
 returns-in-25-clause-value c =
-    c.as_slice.ensures ∙ c.self.invariant.0.is ∙ contents-directory c.self.inside.items c.args.select c.in-25.is
+    c.as_slice.ensures ∙ c.self.invariant.0.0.is ∙ contents-directory c.self.inside.items c.args.select c.in-25.is
     ∙ ap (λ (d : DeviceState). contents d.items c.args.select) c.self.view_is
 
 pub returns-in-25-clause-small : goal.returns-in-25-clause-small
-returns-in-25-clause-small c = omega (arith, ap length c.as_slice.ensures, c.self.invariant.0.small)
+returns-in-25-clause-small c = omega (arith, ap length c.as_slice.ensures, c.self.invariant.0.0.small)
 
 pub returns-in_default-clause-value : goal.returns-in_default-clause-value
 returns-in_default-clause-value c =

@@ -6,7 +6,8 @@ use Rattle.cfg_directory.specs.Files.{files_of}
 use Rattle.loader_script.specs.Run.{infos_of}
 use Rattle.command_acts.specs.Script.{script_in}
 use Rattle.firmware_load.specs.declared.loading.Loading.{Loading}
-use Rattle.load_states.specs.Loads.{begun_device, opening_stage}
+use Rattle.load_states.specs.Loads.{begun_device}
+use Rattle.load_states.specs.Steps.{opening_stage}
 use Rattle.load_states.specs.Runs.{NoAnswer}
 use Rattle.load_states.proofs.Opening.{begun_keeps}
 use Rattle.firmware_load.specs.Inside.{load_of}

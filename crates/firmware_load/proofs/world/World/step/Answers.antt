@@ -1,7 +1,9 @@
 use Rattle.std.proofs.Common.{List, [], ◌∷◌, Bool}
 use Rattle.guest_memory.specs.Touched.{TouchesOnly}
+use Rattle.command_acts.specs.Allocators.{MayAnswer}
 use Rattle.command_acts.specs.FilesInMemory.{placed_ranges}
 use Rattle.load_states.specs.LoadState.{LoadState, memory_of}
+use Rattle.load_states.specs.Runs.{NoAnswer}
 use Rattle.load_states.specs.Touching.{MayTouchOver}
 use Rattle.firmware_load.proofs.LoadStates.{of_world}
 use Rattle.firmware_load.proofs.StepInside.{kept_after}
@@ -11,8 +13,16 @@ pub returns-clause-kept : goal.returns-clause-kept
 returns-clause-kept g c =
     let A = g.A.ZoneAlloc in
     let place = c.args.place.now in
-    kept_after {A = g.row.A.Denot} A.state A.gives (A.state place).begun c.args.self.now c.self.inside.loading
+    kept_after {A = g.row.A.Denot} A.state A.gives (A.state place).begun (MayAnswer A.state A.gives (A.state place).begun)
+    (λ handed request answer may. may) c.args.self.now c.self.inside.loading
     c.in-Some.loading c.step.new.self c.args.event c.in-Some.is c.self.view_is c.requires.zones c.step.ensures.steps
+
+pub returns-clause-first : goal.returns-clause-first
+returns-clause-first g c =
+    let A = g.A.ZoneAlloc in
+    let place = c.args.place.now in
+    kept_after {A = g.row.A.Denot} A.state A.gives (A.state place).begun NoAnswer (λ handed request answer none. absurd none) c.args.self.now
+    c.self.inside.loading c.in-Some.loading c.step.new.self c.args.event c.in-Some.is c.self.view_is c.requires.zones c.step.ensures.steps
 
 pub returns-clause-touches : goal.returns-clause-touches
 returns-clause-touches g c =
