@@ -18,7 +18,8 @@ use Rattle.loader_script.specs.declared.entry.Entry.{Entry}
 use Rattle.loader_script.specs.declared.entry.Entry.TheVariants.{Allocate, AddPointer, AddChecksum, WritePointer, Misnamed, Skipped}
 use Rattle.loader_script.specs.Run.{Placed}
 use Rattle.cfg_dma.specs.Writes.{skip_of}
-use Rattle.command_acts.specs.FilesInMemory.{placed_named, place_of}
+use Rattle.command_acts.specs.FilesInMemory.{IsLoading, placed_named, place_of}
+use Rattle.cfg_directory.specs.Files.{files_of}
 use Rattle.command_acts.proofs.Decoded.{script_short}
 use Rattle.command_acts.proofs.NamedInMemory.{some_named}
 use Rattle.load_states.specs.Runs.{AnyLawful}
@@ -36,7 +37,7 @@ use Rattle.load_states.specs.declared.stage.Stage.{Stage}
 use Rattle.load_states.specs.declared.reading.Reading.{Reading}
 use Rattle.load_states.specs.declared.stage.Stage.TheVariants.{Asks, Awaits, AtCommand, AsksWrite, AwaitsWrite}
 use Rattle.load_states.specs.Guarded.{descriptor_at, buffer_at}
-use Rattle.load_states.specs.LoadState.{LoadState, memory_of, items_now}
+use Rattle.load_states.specs.LoadState.{LoadState, Opening, memory_of, items_now}
 use Rattle.load_states.specs.Steps.{asked, buffered, is_over}
 use Rattle.load_states.specs.Moves.{most_transfers, count_read}
 use Rattle.load_states.specs.Kept.{KeepsNow, IsIdle, StageKeeps, HasScript, HasCommands, IsComing, Knows, read_by, moves_before}
@@ -53,38 +54,38 @@ use Rattle.loader_script.specs.Refusal.{AreDistinct}
 use Rattle.firmware_load.proofs.Allocating.{distinct_placements}
 
 -- what holds at the stage that a load is at
-abbrev at_stage : {May : Answers} {items : List Item} {top fill : ℕ} {w : LoadState} {stage : Stage}
-    → KeepsNow May items top fill w → w.stage ≡ stage → StageKeeps May items w stage
-at_stage {May} {items} {top} {fill} {w} kept is = subst (StageKeeps May items w) is kept.stage
+abbrev at_stage : {May : Answers} {its : Opening} {w : LoadState} {stage : Stage}
+    → KeepsNow May its w → w.stage ≡ stage → StageKeeps May its.items w stage
+at_stage {May} {its} {w} kept is = subst (StageKeeps May its.items w) is kept.stage
 
 -- ---- stages that ask
 
 -- there is room for one more transfer where fewer are over than a load makes at most
-room_left : {May : Answers} {items : List Item} {top fill : ℕ} {w : LoadState} {before : List Finished}
-    → KeepsNow May items top fill w → IsIdle w before → length before < most_transfers items → 0 < w.attached.device.spare
+room_left : {May : Answers} {its : Opening} {w : LoadState} {before : List Finished}
+    → KeepsNow May its w → IsIdle w before → length before < most_transfers its.items → 0 < w.attached.device.spare
 room_left kept idle few = omega (arith, kept.room, few, ap length idle.finished)
 
 -- so there is for a read that is asked for
-pub reading_starts : {May : Answers} {items : List Item} {top fill : ℕ} {w : LoadState} {reading : Reading}
-    → KeepsNow May items top fill w → w.stage ≡ Asks reading → 0 < w.attached.device.spare
-reading_starts {May} {items} {top} {fill} {w} {reading} kept is =
-    let keeps = at_stage kept is in room_left kept keeps.1.1.idle (few_before May items w reading keeps.0 keeps.1.0)
+pub reading_starts : {May : Answers} {its : Opening} {w : LoadState} {reading : Reading}
+    → KeepsNow May its w → w.stage ≡ Asks reading → 0 < w.attached.device.spare
+reading_starts {May} {its} {w} {reading} kept is =
+    let keeps = at_stage kept is in room_left kept keeps.1.1.idle (few_before May its.items w reading keeps.0 keeps.1.0)
 
 -- ---- stages that await
 
 -- what is known while a read is awaited
-abbrev pub known_at : {May : Answers} {items : List Item} {top fill : ℕ} {w : LoadState} {reading : Reading}
-    → KeepsNow May items top fill w → w.stage ≡ Awaits reading → Knows May items w reading
+abbrev pub known_at : {May : Answers} {its : Opening} {w : LoadState} {reading : Reading}
+    → KeepsNow May its w → w.stage ≡ Awaits reading → Knows May its.items w reading
 known_at kept is = (at_stage kept is).0
 
 -- and the read is over, once a look at the control word has found it zero
-pub over_at : {May : Answers} {items : List Item} {top fill : ℕ} {w : LoadState} {reading : Reading}
-    → (kept : KeepsNow May items top fill w) → (is : w.stage ≡ Awaits reading) → is_over w ≡ true
-    → IsReadOver (read_by May items w reading (known_at kept is)) w
-over_at {May} {items} {top} {fill} {w} {reading} kept is cleared =
+pub over_at : {May : Answers} {its : Opening} {w : LoadState} {reading : Reading}
+    → (kept : KeepsNow May its w) → (is : w.stage ≡ Awaits reading) → is_over w ≡ true
+    → IsReadOver (read_by May its.items w reading (known_at kept is)) w
+over_at {May} {its} {w} {reading} kept is cleared =
     let keeps = at_stage kept is in
-    let r = read_by May items w reading keeps.0 in
-    let word = word_of May items w reading kept.lawful kept.device.items keeps.0 in
+    let r = read_by May its.items w reading keeps.0 in
+    let word = word_of May its.items w reading kept.lawful kept.device.items keeps.0 in
     over_now (items_now w) r.before descriptor_at r.control r.transfer w.attached word.0 word.1 keeps.1 cleared
 
 -- the number of files is at most 1,024
@@ -147,10 +148,10 @@ commands_fit {items} {w} {select} {size} {taken} {room} has rooms =
 -- ---- stages of the script's run
 
 -- the index of a command is small
-pub command_small : {May : Answers} {items : List Item} {top fill : ℕ} {w : LoadState} {index : ℕ}
-    → KeepsNow May items top fill w → w.stage ≡ AtCommand index → index ≤ 8192
-command_small {May} {items} {top} {fill} {w} {index} kept is =
-    let keeps = at_stage kept is in omega (arith, script_short items w.script keeps.0.script, keeps.1)
+pub command_small : {May : Answers} {its : Opening} {w : LoadState} {index : ℕ}
+    → KeepsNow May its w → w.stage ≡ AtCommand index → index ≤ 8192
+command_small {May} {its} {w} {index} kept is =
+    let keeps = at_stage kept is in omega (arith, script_short its.items w.script keeps.0.script, keeps.1)
 
 -- so is that of one that is there
 there_small : (items : List Item) (w : LoadState) (index : ℕ) (entry : Entry) → HasScript items w → slice_get w.script index ≡ Some entry → index < 8192
@@ -162,24 +163,24 @@ pub file_small : {May : Answers} {items : List Item} {w : LoadState} {index : �
 file_small {May} {items} {w} {index} coming =
     there_small items w index (Allocate coming.last.name coming.align coming.zone) coming.script coming.command
 
-pub write_small : {May : Answers} {items : List Item} {top fill : ℕ} {w : LoadState} {index : ℕ}
-    → KeepsNow May items top fill w → w.stage ≡ AwaitsWrite index → index < 8192
-write_small {May} {items} {top} {fill} {w} {index} kept is =
+pub write_small : {May : Answers} {its : Opening} {w : LoadState} {index : ℕ}
+    → KeepsNow May its w → w.stage ≡ AwaitsWrite index → index < 8192
+write_small {May} {its} {w} {index} kept is =
     let known = (at_stage kept is).1 in
-    there_small items w index (WritePointer known.dest known.src known.dst_offset known.src_offset known.size) known.script known.command
+    there_small its.items w index (WritePointer known.dest known.src known.dst_offset known.src_offset known.size) known.script known.command
 
 -- there is room for a transfer more, and for another one
-spare_left : {May : Answers} {items : List Item} {top fill : ℕ} {w : LoadState} (index : ℕ) (entry : Entry)
-    → KeepsNow May items top fill w → HasScript items w → slice_get w.script index ≡ Some entry
-    → length w.attached.device.finished ≤ length (moves_before items index w w.placed) + 1 → 0 < w.attached.device.spare
-spare_left {May} {items} {top} {fill} {w} index entry kept has there few =
-    omega (arith, kept.room, few, room_at items w.script index w.placed has.script (slice_get_within w.script index entry there))
+spare_left : {May : Answers} {its : Opening} {w : LoadState} (index : ℕ) (entry : Entry)
+    → KeepsNow May its w → HasScript its.items w → slice_get w.script index ≡ Some entry
+    → length w.attached.device.finished ≤ length (moves_before its.items index w w.placed) + 1 → 0 < w.attached.device.spare
+spare_left {May} {its} {w} index entry kept has there few =
+    omega (arith, kept.room, few, room_at its.items w.script index w.placed has.script (slice_get_within w.script index entry there))
 
 -- A guest is ready for the command that its firmware is at.
 pub is_ready : (l : Loading) (index : ℕ) (entry : Entry) → KeepsInside l → l.stage ≡ AtCommand index → slice_get l.script.items index ≡ Some entry
     → IsReady l.guest l.listed.items
 is_ready l index entry inside is found =
-    let items : List Item = inside.0 in
+    let items : List Item = inside.0.items in
     let kept = inside.1.kept in
     let keeps = at_stage kept is in
     record {
@@ -188,7 +189,7 @@ is_ready l index entry inside is found =
       listed_are = keeps.0.listed ∙ sym (same_listed items l.guest.device.items kept.shape);
       infos = inside.1.rooms.infos ∙ sym (same_infos items l.guest.device.items kept.shape);
       placements = inside.1.rooms.placements;
-      loading = kept.loading;
+      loading = subst (λ top. IsLoading top (files_of l.guest.device.items) l.guest.placements.placed.items) (sym kept.top) kept.loading;
       idle = keeps.2.idle;
       room = spare_left index entry kept keeps.0 found (omega (arith, ap length keeps.2.finished));
     }
@@ -244,8 +245,8 @@ asks_some l index inside is none = let known = (at_stage inside.1.kept is).0 in 
 pub can_write_number : (l : Loading) (index : ℕ) (dest src : List ℕ) (dst_offset src_offset size : ℕ) → KeepsInside l → l.stage ≡ AsksWrite index
     → slice_get l.script.items index ≡ Some (WritePointer dest src dst_offset src_offset size) → CanWriteNumber l src src_offset size
 can_write_number l index dest src dst_offset src_offset size inside is found =
-    let items : List Item = inside.0 in
-    let May = AnyLawful l.guest.memory.memory.top in
+    let items : List Item = inside.0.items in
+    let May = AnyLawful inside.0.top in
     let w = load_of l in
     let placed = l.guest.placements.placed.items in
     let keeps = at_stage inside.1.kept is in
@@ -268,7 +269,7 @@ can_write_number l index dest src dst_offset src_offset size inside is found =
             length-append (moves_before items index w w.placed) (skip_of known.file.select known.dst_offset ∷ []),
           ));
       are = inside.1.rooms.placements;
-      distinct = distinct_placements l.guest.placements inside.0 inside.1.kept.lawful inside.1.rooms.infos;
+      distinct = distinct_placements l.guest.placements inside.0.items inside.1.kept.lawful inside.1.rooms.infos;
       placed = subst (λ (name : List ℕ). IsSome (placed_named placed name)) same.0 stands;
       size_is = subst IsPointerSize same.2 can.sized;
       fits = rw (same.0, same.1, same.2) at fits;

@@ -12,7 +12,7 @@ use Rattle.command_acts.specs.Runs.{Answers}
 use Rattle.load_states.specs.declared.stage.Stage.{Stage}
 use Rattle.load_states.specs.declared.stage.Stage.TheVariants.{Asks, Awaits, AtCommand, AwaitsSkip, AsksWrite, AwaitsWrite, Done, Refused}
 use Rattle.load_states.specs.Guarded.{descriptor_at, buffer_at}
-use Rattle.load_states.specs.LoadState.{LoadState, memory_of}
+use Rattle.load_states.specs.LoadState.{LoadState, Opening, memory_of}
 use Rattle.load_states.specs.Kept.{KeepsNow, StageKeeps, LoadRead, IsAwaiting, read_by}
 use Rattle.load_states.proofs.Known.{read_guarded}
 use Rattle.load_states.proofs.Pointing.{pointer_fits}
@@ -68,8 +68,8 @@ stage_moves May items w Done placed zoned keeps = idle_moves w.attached keeps.0.
 stage_moves May items w (Refused why) placed zoned keeps = idle_moves w.attached keeps.idle
 
 -- A load's transfer can move.
-pub kept_moves : {May : Answers} {items : List Item} {top fill : ℕ} {w : LoadState} → KeepsNow May items top fill w
+pub kept_moves : {May : Answers} {its : Opening} {w : LoadState} → KeepsNow May its w
     → CanMove w.attached
-kept_moves {May} {items} {top} {fill} {w} kept =
-    stage_moves May items w w.stage (subst (λ t. ArePlaced t w.placed) (sym kept.top) kept.loading.apart)
+kept_moves {May} {its} {w} kept =
+    stage_moves May its.items w w.stage (subst (λ t. ArePlaced t w.placed) (sym kept.top) kept.loading.apart)
     (subst (λ t. AllByRecursion (IsZoned t) w.placed) (sym kept.top) (zoned_files kept)) kept.stage

@@ -16,7 +16,7 @@ use Rattle.load_states.specs.declared.stage.Stage.{Stage}
 use Rattle.load_states.specs.declared.stage.Stage.TheVariants.{Asks, Awaits, AtCommand, AwaitsSkip, AsksWrite, AwaitsWrite, Done, Refused}
 use Rattle.load_states.specs.Loads.{most_closing, stage_after}
 use Rattle.load_states.specs.Steps.{opening_stage}
-use Rattle.load_states.specs.LoadState.{LoadState, memory_of}
+use Rattle.load_states.specs.LoadState.{LoadState, opening_of}
 use Rattle.load_states.specs.Runs.{EndsAfter, closing_events, has_ended}
 use Rattle.load_states.proofs.WholeRuns.{loaded_over}
 use Rattle.firmware_load.specs.World.{IsLoadOver}
@@ -28,7 +28,7 @@ use Rattle.firmware_load.proofs.OnRun.{Follows, asks_through, asks_no_more}
 abbrev pub IsClosed : Answers → LoadState → LoadState → Type 0
 IsClosed May between last =
     (begun : LoadState) (before : List Event) → IsOnRun May begun before between
-    → (closing : ℕ) × (closing ≤ most_closing begun.attached.device.items) × (has_ended between.stage ≡ true → closing ≡ 0)
+    → (closing : ℕ) × (closing ≤ most_closing (opening_of begun).items) × (has_ended between.stage ≡ true → closing ≡ 0)
     × IsOnRun May begun (before ++ closing_events closing) last
 
 -- A load that was begun, has followed its plan and was closed, is over.
@@ -51,7 +51,7 @@ load_over May first between last left_first left handed answer on follows ends c
         | inr none ↦ none
       ];
       ran = subst (λ (es : List Event). EndsAfter May es first last) (append-nil (taken ++ closing_events closing)) (closed.3.goes_on [] last (refl, over));
-      leaves = loaded_over May first.attached.device.items (memory_of first).top (memory_of first).fill taken closing handed answer last closed.3.kept
+      leaves = loaded_over May (opening_of first) taken closing handed answer last closed.3.kept
           stage placed;
     }
 

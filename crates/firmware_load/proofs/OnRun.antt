@@ -14,7 +14,7 @@ use Rattle.command_acts.specs.Runs.{Answers}
 use Rattle.load_states.specs.declared.event.Event.{Event}
 use Rattle.load_states.specs.declared.stage.Stage.{Stage}
 use Rattle.load_states.specs.declared.stage.Stage.TheVariants.{Asks, Awaits, AtCommand, AwaitsSkip, AsksWrite, AwaitsWrite, Done, Refused}
-use Rattle.load_states.specs.LoadState.{LoadState, memory_of}
+use Rattle.load_states.specs.LoadState.{LoadState, Opening, memory_of, opening_of}
 use Rattle.load_states.specs.Runs.{AnyLawful, EndsAfter, StepsTo, has_ended, request_of}
 use Rattle.load_states.proofs.NoRoomAsked.{no_room_asks}
 use Rattle.load_states.proofs.Readings.{no_room_of}
@@ -31,7 +31,7 @@ run_more May begun events event w next lawful on running steps = record {
   goes_on = λ rest last ends.
       subst (λ (es : List Event). EndsAfter May es begun last) (sym (append_assoc events (event ∷ []) rest))
       (on.goes_on (event ∷ rest) last (running, (next, steps, ends)));
-  kept = step_keeps May begun.attached.device.items (memory_of begun).top (memory_of begun).fill events event w next lawful on.kept steps;
+  kept = step_keeps May (opening_of begun) events event w next lawful on.kept steps;
 }
 
 -- What a load follows: from wherever it is on its run, the events that a schedule has given.
@@ -86,33 +86,32 @@ pub asks_nothing : (items : List Item) (l : Loading) (alloc : AllocState) → As
 asks_nothing items l alloc = record { no_room = λ index is. inl is; sound = λ same. refl; ended = λ over. (refl, refl); top = refl }
 
 -- What a step of a load asks that hasn't ended, as its code says it.
-pub step_asks : (May : Answers) (items : List Item) (event : Event) (before after : Loading) (alloc_before alloc_after : AllocState)
-    → AreLawful May before.guest.memory.memory.top → IsInside items before → has_ended before.stage ≡ false
+pub step_asks : (May : Answers) (its : Opening) (event : Event) (before after : Loading) (alloc_before alloc_after : AllocState)
+    → AreLawful May before.guest.memory.memory.top → IsInside its before → has_ended before.stage ≡ false
     → StepsTo May event (load_of before) (load_of after)
     → IsWithoutRoom event (load_of before) (load_of after) alloc_before alloc_after
-    → IsSound (load_of before) (load_of after) alloc_before alloc_after → AsksOnTheWay items before after alloc_before alloc_after
-step_asks May items event before after alloc_before alloc_after lawful inside running steps without sound =
-    let top = before.guest.memory.memory.top in
-    let fill = before.guest.memory.memory.fill in
-    let kept = step_keeps_now (AnyLawful top) items top fill event (load_of before) (load_of after) (λ handed request place free. free)
-    inside.kept (lawful_steps May top event (load_of before) (load_of after) lawful steps) in
+    → IsSound (load_of before) (load_of after) alloc_before alloc_after → AsksOnTheWay its.items before after alloc_before alloc_after
+step_asks May its event before after alloc_before alloc_after lawful inside running steps without sound =
+    let own = subst (AreLawful May) inside.kept.top lawful in
+    let kept = step_keeps_now (AnyLawful its.top) its event (load_of before) (load_of after) (λ handed request place free. free)
+    inside.kept (lawful_steps May its.top event (load_of before) (load_of after) own steps) in
     record {
       no_room = λ index is.
           elim (without index is) as (λ _. (before.stage ≡ Refused (NoRoom index))
-          ⊎ ((alloc_after.refusals ≡ next_count alloc_before.refusals) × IsAsked items index alloc_after.refused)) [
+          ⊎ ((alloc_after.refusals ≡ next_count alloc_before.refusals) × IsAsked its.items index alloc_after.refused)) [
             | inl there ↦ inl there
             | inr refuses ↦ inr (
               refuses.0,
-              elim (no_room_asks May (AnyLawful top) items top fill event (load_of before) (load_of after) index inside.kept steps is)
-                  as (λ _. IsAsked items index alloc_after.refused) [
+              elim (no_room_asks May (AnyLawful its.top) its event (load_of before) (load_of after) index inside.kept steps is)
+                  as (λ _. IsAsked its.items index alloc_after.refused) [
                     | inl there ↦ absurd (true≢false (sym (no_room_ended before.stage index there) ∙ running))
-                    | inr asked ↦ subst (IsAsked items index) (sym refuses.1) asked
+                    | inr asked ↦ subst (IsAsked its.items index) (sym refuses.1) asked
                   ],
             )
           ];
       sound = sound;
       ended = λ over. absurd (true≢false (sym over ∙ running));
-      top = kept.top;
+      top = kept.top ∙ sym inside.kept.top;
     }
 
 -- a running load isn't where it has ended

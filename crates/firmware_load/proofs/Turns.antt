@@ -23,7 +23,7 @@ use Rattle.load_states.specs.declared.stage.Stage.TheVariants.{Asks, Awaits, AtC
 use Rattle.load_states.specs.Moves.{script_size}
 use Rattle.load_states.specs.Kept.{KeepsNow}
 use Rattle.load_states.specs.Loads.{most_steps, most_closing}
-use Rattle.load_states.specs.LoadState.{LoadState, memory_of, items_now, listed_named}
+use Rattle.load_states.specs.LoadState.{LoadState, Opening, memory_of, opening_of, items_now, listed_named}
 use Rattle.load_states.specs.Runs.{AnyLawful, StepsTo, closing_events, has_ended, whole_piece}
 use Rattle.load_states.proofs.Ending.{step_goes, step_not_back, whole_piece_idle, steps_left_most}
 use Rattle.load_states.proofs.NamedItems.{listing, listed_as_named}
@@ -84,21 +84,21 @@ idle_flight None is = refl
 idle_flight (Some flight) is = absurd (omega (arith, is))
 
 -- by a step of the firmware
-step_taken : (May : Answers) (items : List Item) (top fill : ℕ) (w next : LoadState) → KeepsNow May items top fill w
-    → StepsTo May Firmware w next → has_ended w.stage ≡ false → IsTaken items w next
-step_taken May items top fill w next kept steps running = record {
-  fewer = λ idle. step_goes May items top fill w next kept steps (idle_flight w.attached.device.flight idle) running;
-  no_more = step_not_back May items top fill w next kept steps;
+step_taken : (May : Answers) (its : Opening) (w next : LoadState) → KeepsNow May its w → StepsTo May Firmware w next → has_ended w.stage ≡ false
+    → IsTaken its.items w next
+step_taken May its w next kept steps running = record {
+  fewer = λ idle. step_goes May its w next kept steps (idle_flight w.attached.device.flight idle) running;
+  no_more = step_not_back May its w next kept steps;
 }
 
 -- a step and a piece
-piece_taken : (May : Answers) (items : List Item) (top fill : ℕ) (w middle next : LoadState) → KeepsNow May items top fill middle
-    → StepsTo May whole_piece middle next → IsTaken items w middle → IsTaken items w next × (next.attached.device.flight ≡ None) × (next.stage ≡ middle.stage)
-piece_taken May items top fill w middle next kept steps taken =
-    let idle = whole_piece_idle May items top fill middle next kept steps in (
+piece_taken : (May : Answers) (its : Opening) (w middle next : LoadState) → KeepsNow May its middle → StepsTo May whole_piece middle next
+    → IsTaken its.items w middle → IsTaken its.items w next × (next.attached.device.flight ≡ None) × (next.stage ≡ middle.stage)
+piece_taken May its w middle next kept steps taken =
+    let idle = whole_piece_idle May its middle next kept steps in (
       record {
-        fewer = λ was. subst (λ (s : Stage). steps_left items s + 1 ≤ steps_left items w.stage) (sym idle.1) (taken.fewer was);
-        no_more = subst (λ (s : Stage). steps_left items s ≤ steps_left items w.stage) (sym idle.1) taken.no_more;
+        fewer = λ was. subst (λ (s : Stage). steps_left its.items s + 1 ≤ steps_left its.items w.stage) (sym idle.1) (taken.fewer was);
+        no_more = subst (λ (s : Stage). steps_left its.items s ≤ steps_left its.items w.stage) (sym idle.1) taken.no_more;
       },
       idle.0,
       idle.1,
@@ -118,24 +118,24 @@ left_running : (w : LoadState) → has_ended w.stage ≡ false
 left_running w is = cond-false (has_ended w.stage) _ _ is
 
 -- Each turn leaves less.
-pub turn_less : (May : Answers) (items : List Item) (top fill : ℕ) (w next : LoadState) → AreLawful May top
-    → KeepsNow May items top fill w → has_ended w.stage ≡ false → IsTurn May w next → turns_left next < turns_left w
-turn_less May items top fill w next lawful kept running turn =
+pub turn_less : (May : Answers) (its : Opening) (w next : LoadState) → AreLawful May its.top → KeepsNow May its w → has_ended w.stage ≡ false
+    → IsTurn May w next → turns_left next < turns_left w
+turn_less May its w next lawful kept running turn =
     let was = left_running w running in
     elim turn.second as (λ _. turns_left next < turns_left w) [
       | inl over ↦
           let now = left_ended next (ap (λ (m : LoadState). has_ended m.stage) over.1 ∙ over.0) in
           omega (arith, was, now)
       | inr more ↦
-          let middle_kept = step_keeps_now May items top fill Firmware w turn.middle lawful kept turn.first in
-          let taken = step_taken May items top fill w turn.middle kept turn.first running in
-          let so = piece_taken May items top fill w turn.middle next middle_kept more.1 taken in
-          let kept_next = step_keeps_now May items top fill whole_piece turn.middle next lawful middle_kept more.1 in
+          let middle_kept = step_keeps_now May its Firmware w turn.middle lawful kept turn.first in
+          let taken = step_taken May its w turn.middle kept turn.first running in
+          let so = piece_taken May its w turn.middle next middle_kept more.1 taken in
+          let kept_next = step_keeps_now May its whole_piece turn.middle next lawful middle_kept more.1 in
           let now = left_running next (ap has_ended so.2 ∙ more.0) in
           let flight : in_flight next.attached.device.flight ≡ 0 = ap in_flight so.1 in
-          let here : steps_left w.attached.device.items w.stage ≡ steps_left items w.stage = steps_same items (items_now w) w.stage kept.shape in
-          let there : steps_left next.attached.device.items next.stage ≡ steps_left items next.stage =
-          steps_same items (items_now next) next.stage kept_next.shape in
+          let here : steps_left w.attached.device.items w.stage ≡ steps_left its.items w.stage = steps_same its.items (items_now w) w.stage kept.shape in
+          let there : steps_left next.attached.device.items next.stage ≡ steps_left its.items next.stage =
+          steps_same its.items (items_now next) next.stage kept_next.shape in
           let no_more = so.0.no_more in
           elim (flight_few w.attached.device.flight) as (λ _. turns_left next < turns_left w) [
             | inl idle ↦ let fewer = so.0.fewer idle in omega (arith, was, now, flight, here, there, idle, fewer)
@@ -147,11 +147,10 @@ turn_less May items top fill w next lawful kept running turn =
 pub turn_less_inside : (May : Answers) (l next : Loading) → AreLawful May l.guest.memory.memory.top → KeepsInside l → has_ended l.stage ≡ false
     → IsTurn May (load_of l) (load_of next) → turns_left (load_of next) < turns_left (load_of l)
 turn_less_inside May l next lawful inside running turn =
-    let top = l.guest.memory.memory.top in
-    turn_less (AnyLawful top) inside.0 top l.guest.memory.memory.fill (load_of l) (load_of next) (λ handed request place free. free)
-    inside.1.kept running (record {
+    let top = inside.0.top in
+    turn_less (AnyLawful top) inside.0 (load_of l) (load_of next) (λ handed request place free. free) inside.1.kept running (record {
       middle = turn.middle;
-      first = lawful_steps May top Firmware (load_of l) turn.middle lawful turn.first;
+      first = lawful_steps May top Firmware (load_of l) turn.middle (subst (AreLawful May) inside.1.kept.top lawful) turn.first;
       second = turn.second;
     })
 
@@ -199,12 +198,12 @@ two_closing (suc k) =
 abbrev pub Closes : Answers → LoadState → LoadState → Type 0
 Closes May first w =
     (begun : LoadState) (before : List Event) → IsOnRun May begun before first
-    → (closing : ℕ) × IsCount begun.attached.device.items first.stage closing w × IsOnRun May begun (before ++ closing_events closing) w
+    → (closing : ℕ) × IsCount (opening_of begun).items first.stage closing w × IsOnRun May begun (before ++ closing_events closing) w
 
 pub closes_none : (May : Answers) (first : LoadState) → Closes May first first
 closes_none May first = λ begun before on. (
   0,
-  counts_none begun.attached.device.items first,
+  counts_none (opening_of begun).items first,
   subst (λ (es : List Event). IsOnRun May begun es first) (sym (append-nil before)) on,
 )
 
@@ -224,17 +223,16 @@ few_after items w next k taken bound = let after = bound_after items w next k ta
 
 -- A turn of a load on its run, whose closing events were counted.
 turn_on : (May : Answers) (begun first w next : LoadState) (before : List Event) (closing : ℕ) → AreLawful May (memory_of begun).top
-    → (has_ended first.stage ≡ true → ⊥) → IsCount begun.attached.device.items first.stage closing w
+    → (has_ended first.stage ≡ true → ⊥) → IsCount (opening_of begun).items first.stage closing w
     → IsOnRun May begun (before ++ closing_events closing) w → has_ended w.stage ≡ false → IsTurn May w next
-    → (more : ℕ) × IsCount begun.attached.device.items first.stage more next × IsOnRun May begun (before ++ closing_events more) next
+    → (more : ℕ) × IsCount (opening_of begun).items first.stage more next × IsOnRun May begun (before ++ closing_events more) next
 turn_on May begun first w next before closing lawful running_first count on running turn =
-    let top = (memory_of begun).top in
-    let fill = (memory_of begun).fill in
-    let items = begun.attached.device.items in
+    let its = opening_of begun in
+    let items = its.items in
     let so = count.turns running in
     let k = so.0 in
     let even : closing_events closing ≡ closing_events (2 * k) = ap closing_events so.1 in
-    let taken = step_taken May items top fill w turn.middle on.kept.now turn.first running in
+    let taken = step_taken May its w turn.middle on.kept.now turn.first running in
     let first_on = run_more May begun (before ++ closing_events closing) Firmware w turn.middle lawful on running turn.first in
     elim turn.second as (λ _. (more : ℕ) × IsCount items first.stage more next × IsOnRun May begun (before ++ closing_events more) next) [
       | inl over ↦ (
@@ -250,7 +248,7 @@ turn_on May begun first w next before closing lawful running_first count on runn
             ∙ ap (λ es. before ++ es) (ap (λ es. es ++ Firmware ∷ []) even ∙ one_closing k)) first_on),
       )
       | inr more ↦
-          let piece = piece_taken May items top fill w turn.middle next first_on.kept.now more.1 taken in
+          let piece = piece_taken May its w turn.middle next first_on.kept.now more.1 taken in
           let flight : in_flight next.attached.device.flight ≡ 0 = ap in_flight piece.1 in
           let bound : k + 1 + steps_left items next.stage ≤ most_steps items + 1 = bound_after items w next k piece.0 so.2 in (
             2 * (k + 1),

@@ -23,7 +23,7 @@ use Rattle.load_states.specs.declared.event.Event.{Event}
 use Rattle.load_states.specs.declared.event.Event.TheVariants.{Firmware}
 use Rattle.load_states.specs.declared.stage.Stage.{Stage}
 use Rattle.load_states.specs.declared.stage.Stage.TheVariants.{Refused}
-use Rattle.load_states.specs.LoadState.{LoadState, memory_of}
+use Rattle.load_states.specs.LoadState.{LoadState, Opening, opening_of}
 use Rattle.load_states.specs.Steps.{at_command}
 use Rattle.load_states.specs.Runs.{AnyLawful, EndsAfter, StepsTo, request_for, has_ended, whole_piece}
 use Rattle.load_states.specs.Kept.{IsKept, KeepsNow}
@@ -63,18 +63,18 @@ pub record HasRooms (items : List Item) (l : Loading) : Type 0 where
   pub infos : l.guest.placements.infos.items ≡ infos_of (files_of items)
   pub placements : ArePlacements l.guest.placements
 
--- A load that was begun with these items keeps what a load keeps.
-pub record IsInside (its_items : List Item) (l : Loading) : Type 0 where
-  pub kept : KeepsNow (AnyLawful l.guest.memory.memory.top) its_items l.guest.memory.memory.top l.guest.memory.memory.fill (load_of l)
-  pub rooms : HasRooms its_items l
+-- A load that was begun with this keeps what a load keeps.
+pub record IsInside (its : Opening) (l : Loading) : Type 0 where
+  pub kept : KeepsNow (AnyLawful its.top) its (load_of l)
+  pub rooms : HasRooms its.items l
 
--- It was begun with some items.
+-- It was begun with something.
 abbrev pub KeepsInside : Loading → Type 0
-KeepsInside l = (its_items : List Item) × IsInside its_items l
+KeepsInside l = (its : Opening) × IsInside its l
 
 -- What was begun stays what it was.
 abbrev pub StaysBegun : Loading → Loading → Type 0
-StaysBegun before after = (its_items : List Item) → IsInside its_items before → IsInside its_items after
+StaysBegun before after = (its : Opening) → IsInside its before → IsInside its after
 
 -- What a step leaves of the rooms: capacities, and the files that may be placed.
 pub record SameRooms (before after : Loading) : Type 0 where
@@ -125,7 +125,7 @@ GoesByCommand May index entry w next =
 -- on, it ends from there on; and it keeps what a load keeps.
 pub record IsOnRun (May : Answers) (begun : LoadState) (events : List Event) (w : LoadState) : Type 0 where
   pub goes_on : (rest : List Event) (last : LoadState) → EndsAfter May rest w last → EndsAfter May (events ++ rest) begun last
-  pub kept : IsKept May begun.attached.device.items (memory_of begun).top (memory_of begun).fill events w
+  pub kept : IsKept May (opening_of begun) events w
 
 -- A turn: a step of the firmware and then, unless the load has ended, a piece as long as any transfer.
 pub record IsTurn (May : Answers) (before after : LoadState) : Type 0 where

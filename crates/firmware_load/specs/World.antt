@@ -12,7 +12,7 @@ use Rattle.load_states.specs.declared.stage.Stage.{Stage}
 use Rattle.load_states.specs.declared.stage.Stage.TheVariants.{Asks, Awaits, AtCommand, AwaitsSkip, AsksWrite, AwaitsWrite, Done, Refused}
 use Rattle.command_acts.specs.Runs.{Answers}
 use Rattle.load_states.specs.Loads.{IsLoadedOver, most_closing}
-use Rattle.load_states.specs.LoadState.{LoadState, memory_of}
+use Rattle.load_states.specs.LoadState.{LoadState, opening_of}
 use Rattle.load_states.specs.Runs.{EndsAfter, closing_events, request_of}
 use Rattle.load_states.specs.Touching.{MayTouchOver}
 use Rattle.guest_memory.specs.Touched.{TouchesOnly}
@@ -61,10 +61,10 @@ pub record IsLoadOver (May : Answers) (begun : LoadState) (left_before left : Li
   pub taken : List Event
   pub closing : ℕ
   pub plan : left_before ≡ taken ++ left
-  pub few : closing ≤ most_closing begun.attached.device.items
+  pub few : closing ≤ most_closing (opening_of begun).items
   pub after_plan : 0 < closing → left ≡ []
   pub ran : EndsAfter May (taken ++ closing_events closing) begun w
-  pub leaves : IsLoadedOver May begun.attached.device.items (memory_of begun).top (memory_of begun).fill taken handed answer w
+  pub leaves : IsLoadedOver May (opening_of begun) taken handed answer w
 
 -- Of the frames of a memory below a top those alone were touched that the events which were taken of a plan let a load touch, where these
 -- ranges were handed out for its files.

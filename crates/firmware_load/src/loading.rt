@@ -6,6 +6,7 @@ ghost use Rattle.load_states.specs.declared.event.Event.TheVariants.{Device as M
 ghost use Rattle.load_states.specs.Guarded.{is_guarded, written_by_other};
 ghost use Rattle.load_states.specs.Kept.{IsKept};
 ghost use Rattle.load_states.specs.Loads.{IsBegun};
+ghost use Rattle.load_states.specs.LoadState.{begun_with};
 ghost use Rattle.load_states.specs.Runs.{NoAnswer, StepsTo, request_of};
 ghost use Rattle.load_states.specs.Steps.{restarted, step};
 ghost use Rattle.firmware_load.specs.Inside.{Nowhere};
@@ -46,8 +47,8 @@ impl Loading {
         fill: u8,
     ) -> Result<Loading, OutOfMemory>
         requires { IsTop top }
-        ensures begun { IfOk result (λ l. IsBegun items top fill (load_of l)) }
-        ensures kept { IfOk result (λ l. IsKept NoAnswer items top fill [] (load_of l)) }
+        ensures begun { IfOk result (λ l. IsBegun (begun_with items top fill) (load_of l)) }
+        ensures kept { IfOk result (λ l. IsKept NoAnswer (begun_with items top fill) [] (load_of l)) }
         ensures inside { IfOk result KeepsInside }
         ensures untouched { IfOk result (λ l. (frame : ℕ) → is_touched l.guest.memory.touched frame ≡ false) }
     {

@@ -4,11 +4,10 @@ ghost use Rattle.command_acts.specs.Allocators.{AreZonesOf, MayAnswer};
 ghost use Rattle.command_acts.specs.Script.{IsAsked};
 ghost use Rattle.load_states.specs.Loads.{IsBegun, stage_after, most_closing};
 ghost use Rattle.load_states.specs.Runs.{has_ended, closing_events};
-ghost use Rattle.load_states.specs.LoadState.{LoadState};
+ghost use Rattle.load_states.specs.LoadState.{LoadState, Opening, opening_of};
 ghost use Rattle.load_states.specs.declared.event.Event.{Event as EventOf};
 ghost use Rattle.firmware_load.specs.World.{state_at, IsLoadOver, TouchesByPlan};
 ghost use Rattle.firmware_load.specs.Inside.{load_of, IsInside, KeepsInside, StaysBegun, IsOnRun, IsTurn, AsksOnTheWay, TouchesOver, TouchesTaken};
-ghost use Rattle.cfg_directory.specs.declared.item.Item.{Item};
 ghost use Rattle.command_acts.specs.FilesInMemory.{placed_ranges};
 
 use crate::loading::Loading;
@@ -26,7 +25,7 @@ impl Loading {
         plan: &mut C,
     ) -> Result<(), LoadFault>
         requires inside { KeepsInside self.old }
-        requires fresh { IsBegun self.old.guest.device.items self.old.guest.memory.memory.top self.old.guest.memory.memory.fill (load_of self.old) }
+        requires fresh { IsBegun (opening_of (load_of self.old)) (load_of self.old) }
         requires begun { (A.state place.old).begun.ready ≡ true }
         requires zones { AreZonesOf self.old.guest.memory.memory.top (A.state place.old).begun.zones }
         requires handed { (A.state place.old).handed ≡ [] }
@@ -91,8 +90,7 @@ impl Loading {
             × IsOnRun (MayAnswer A.state A.gives (A.state place.old).begun) begun (before ++ taken) (load_of self.new) }
         ensures over { (has_ended self.new.stage ≡ true) ⊎ ((C.plan plan.new).left ≡ []) }
         ensures plan { (C.plan plan.new).events ≡ (C.plan plan.old).events }
-        ensures asks { (items : List Item) → IsInside items self.old
-            → AsksOnTheWay items self.old self.new (A.state place.old) (A.state place.new) }
+        ensures asks { (its : Opening) → IsInside its self.old → AsksOnTheWay its.items self.old self.new (A.state place.old) (A.state place.new) }
         ensures handed { (A.state place.new).handed ≡ placed_ranges self.new.guest.placements.placed.items }
         ensures begun { (A.state place.new).begun ≡ (A.state place.old).begun }
         ensures touches { TouchesTaken (C.plan plan.old).left (C.plan plan.new).left self.old.guest self.new.guest }
@@ -115,12 +113,11 @@ impl Loading {
         ensures begun_so { StaysBegun self.old self.new }
         ensures follows { (begun : LoadState) (before : List EventOf) →
             IsOnRun (MayAnswer A.state A.gives (A.state place.old).begun) begun before (load_of self.old) →
-            (closing : ℕ) × (closing ≤ most_closing begun.attached.device.items) × (has_ended self.old.stage ≡ true → closing ≡ 0)
+            (closing : ℕ) × (closing ≤ most_closing (opening_of begun).items) × (has_ended self.old.stage ≡ true → closing ≡ 0)
             × IsOnRun (MayAnswer A.state A.gives (A.state place.old).begun) begun
             (before ++ closing_events closing) (load_of self.new) }
         ensures over { has_ended self.new.stage ≡ true }
-        ensures asks { (items : List Item) → IsInside items self.old
-            → AsksOnTheWay items self.old self.new (A.state place.old) (A.state place.new) }
+        ensures asks { (its : Opening) → IsInside its self.old → AsksOnTheWay its.items self.old self.new (A.state place.old) (A.state place.new) }
         ensures handed { (A.state place.new).handed ≡ placed_ranges self.new.guest.placements.placed.items }
         ensures begun { (A.state place.new).begun ≡ (A.state place.old).begun }
         ensures touches { TouchesOver [] self.old.guest self.new.guest }
@@ -140,8 +137,7 @@ impl Loading {
         ensures inside { KeepsInside self.new }
         ensures begun_so { StaysBegun self.old self.new }
         ensures turn { IsTurn (MayAnswer A.state A.gives (A.state place.old).begun) (load_of self.old) (load_of self.new) }
-        ensures asks { (items : List Item) → IsInside items self.old
-            → AsksOnTheWay items self.old self.new (A.state place.old) (A.state place.new) }
+        ensures asks { (its : Opening) → IsInside its self.old → AsksOnTheWay its.items self.old self.new (A.state place.old) (A.state place.new) }
         ensures handed { (A.state place.new).handed ≡ placed_ranges self.new.guest.placements.placed.items }
         ensures begun { (A.state place.new).begun ≡ (A.state place.old).begun }
         ensures touches { TouchesOver [] self.old.guest self.new.guest }

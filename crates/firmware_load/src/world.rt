@@ -1,7 +1,6 @@
 ghost use Rattle.std.specs.Prelude.{◌≡◌, ◌≢◌, ℕ, List, [], ◌∷◌, ◌++◌, true, false, None, Ok, Err, IsSome, IfSome, IsSomeAnd, OnOk, OnErr};
 ghost use Rattle.vt_outside.specs.Stream.{next_count};
 ghost use Rattle.vt_bytes.specs.Memory.{IsTop};
-ghost use Rattle.cfg_directory.specs.declared.item.Item.{Item};
 ghost use Rattle.command_acts.specs.Allocators.{AreZonesOf, MayAnswer};
 ghost use Rattle.command_acts.specs.FilesInMemory.{placed_ranges};
 ghost use Rattle.command_acts.specs.Script.{IsAsked};
@@ -10,7 +9,7 @@ ghost use Rattle.load_states.specs.declared.event.Event.TheVariants.{Reset};
 ghost use Rattle.zone_alloc.specs.Allocators.{reset_as};
 ghost use Rattle.load_states.specs.Kept.{IsKept};
 ghost use Rattle.load_states.specs.Loads.{IsBegun};
-ghost use Rattle.load_states.specs.LoadState.{memory_of};
+ghost use Rattle.load_states.specs.LoadState.{Opening, begun_with, memory_of, opening_of};
 ghost use Rattle.load_states.specs.Runs.{NoAnswer, StepsTo, request_of};
 ghost use Rattle.load_states.specs.Touching.{MayTouchOver};
 ghost use Rattle.guest_memory.specs.Touched.{TouchesOnly, is_touched};
@@ -68,8 +67,8 @@ impl World {
         fill: u8,
     ) -> Result<(), OutOfMemory>
         requires { IsTop top }
-        ensures ok { OnOk result (IsSomeAnd self.new.load (IsBegun items top fill)) }
-        ensures kept { OnOk result (IsSomeAnd self.new.load (IsKept NoAnswer items top fill [])) }
+        ensures ok { OnOk result (IsSomeAnd self.new.load (IsBegun (begun_with items top fill))) }
+        ensures kept { OnOk result (IsSomeAnd self.new.load (IsKept NoAnswer (begun_with items top fill) [])) }
         ensures untouched { OnOk result ((frame : ℕ) → is_touched self.new.touched frame ≡ false) }
         ensures err { OnErr result (self.new ≡ idle_world) }
     {
@@ -94,14 +93,14 @@ impl World {
 
         // It is the one step of the load, with an answer that the allocator may give.
         ensures steps { IfSome self.old.load (λ old. IsSomeAnd self.new.load (StepsTo (MayAnswer A.state A.gives (A.state place.old).begun) event old)) }
-        ensures kept { IfSome self.old.load (λ old. IsSomeAnd self.new.load (λ new. (items : List Item) (top fill : ℕ) (events : List EventOf)
-            → IsKept (MayAnswer A.state A.gives (A.state place.old).begun) items top fill events old
-            → IsKept (MayAnswer A.state A.gives (A.state place.old).begun) items top fill (events ++ event ∷ []) new)) }
+        ensures kept { IfSome self.old.load (λ old. IsSomeAnd self.new.load (λ new. (its : Opening) (events : List EventOf)
+            → IsKept (MayAnswer A.state A.gives (A.state place.old).begun) its events old
+            → IsKept (MayAnswer A.state A.gives (A.state place.old).begun) its (events ++ event ∷ []) new)) }
 
         // So it is for the first event, before which no place was answered.
-        ensures first { IfSome self.old.load (λ old. IsSomeAnd self.new.load (λ new. (items : List Item) (top fill : ℕ) (events : List EventOf)
-            → IsKept NoAnswer items top fill events old
-            → IsKept (MayAnswer A.state A.gives (A.state place.old).begun) items top fill (events ++ event ∷ []) new)) }
+        ensures first { IfSome self.old.load (λ old. IsSomeAnd self.new.load (λ new. (its : Opening) (events : List EventOf)
+            → IsKept NoAnswer its events old
+            → IsKept (MayAnswer A.state A.gives (A.state place.old).begun) its (events ++ event ∷ []) new)) }
 
         // What the allocator was asked, where it refused, and what it keeps.
         ensures handed { IfSome self.new.load (λ w. (A.state place.new).handed ≡ placed_ranges w.placed) }
@@ -135,7 +134,7 @@ impl World {
         place: &mut A,
         plan: &mut C,
     ) -> Result<(), LoadFault>
-        requires fresh { IsSomeAnd self.old.load (λ w. IsBegun w.attached.device.items (memory_of w).top (memory_of w).fill w) }
+        requires fresh { IsSomeAnd self.old.load (λ w. IsBegun (opening_of w) w) }
         requires begun { (A.state place.old).begun.ready ≡ true }
         requires zones { IfSome self.old.load (λ w. AreZonesOf (memory_of w).top (A.state place.old).begun.zones) }
         requires handed { (A.state place.old).handed ≡ [] }

@@ -18,7 +18,7 @@ use Rattle.command_acts.specs.Runs.{Answers, EndsWith, refused, without_room, re
 use Rattle.command_acts.specs.Script.{script_in}
 use Rattle.command_acts.proofs.Allocations.{ranges_in}
 use Rattle.load_states.specs.declared.stage.Stage.TheVariants.{Refused}
-use Rattle.load_states.specs.LoadState.{LoadState, memory_of, items_now, progress_of}
+use Rattle.load_states.specs.LoadState.{LoadState, Opening, memory_of, items_now, progress_of}
 use Rattle.load_states.specs.Kept.{KeepsNow, IsIdle, HasScript, HasCarriedOut, HasEnded, moves_before}
 use Rattle.load_states.proofs.Fronts.{ends_from}
 use Rattle.load_states.proofs.Looks.{kept_with}
@@ -61,31 +61,28 @@ stops_at May items w index entry end before ends =
     (subst (λ (es : List Entry). EndsWith May index es (progress_of w) end (progress_of w)) (sym left) ends)
 
 -- The firmware stops where the run ends.
-stops_keeps : (May : Answers) (items : List Item) (top fill : ℕ) (w : LoadState) (index : ℕ) (entry : Entry) (end : End)
-    (why : LoadFault) → KeepsNow May items top fill w → IsBefore May items w index entry
-    → EndsWith May 0 w.script (opening (files_of items) []) end (progress_of w) → ended why ≡ result_of end
-    → KeepsOn May items top fill w (record w { stage = Refused why })
-stops_keeps May items top fill w index entry end why kept before ends answered =
-    kept_with May items top fill w w.listed w.script (Refused why) kept
-    (ended_run May items w.script end (Err why) (record w { stage = Refused why }) before.idle.idle before.script.script ends answered)
+stops_keeps : (May : Answers) (its : Opening) (w : LoadState) (index : ℕ) (entry : Entry) (end : End) (why : LoadFault) → KeepsNow May its w
+    → IsBefore May its.items w index entry → EndsWith May 0 w.script (opening (files_of its.items) []) end (progress_of w) → ended why ≡ result_of end
+    → KeepsOn May its w (record w { stage = Refused why })
+stops_keeps May its w index entry end why kept before ends answered =
+    kept_with May its w w.listed w.script (Refused why) kept
+    (ended_run May its.items w.script end (Err why) (record w { stage = Refused why }) before.idle.idle before.script.script ends answered)
 
 -- a command that is refused
-pub refused_keeps : (May : Answers) (items : List Item) (top fill : ℕ) (w : LoadState) (index : ℕ) (entry : Entry) (cause : Cause)
-    → KeepsNow May items top fill w → IsBefore May items w index entry
-    → cause_of entry (progress_of w) ≡ Some cause
-    → KeepsOn May items top fill w (record w { stage = Refused (fault.Command index cause) })
-refused_keeps May items top fill w index entry cause kept before is =
-    stops_keeps May items top fill w index entry (Command index cause) (fault.Command index cause) kept before
-    (stops_at May items w index entry (Command index cause) before (refused is)) refl
+pub refused_keeps : (May : Answers) (its : Opening) (w : LoadState) (index : ℕ) (entry : Entry) (cause : Cause) → KeepsNow May its w
+    → IsBefore May its.items w index entry → cause_of entry (progress_of w) ≡ Some cause → KeepsOn May its w
+    (record w { stage = Refused (fault.Command index cause) })
+refused_keeps May its w index entry cause kept before is =
+    stops_keeps May its w index entry (Command index cause) (fault.Command index cause) kept before
+    (stops_at May its.items w index entry (Command index cause) before (refused is)) refl
 
 -- an Allocate that is given no place
-pub no_room_keeps : (May : Answers) (items : List Item) (top fill : ℕ) (w : LoadState) (index : ℕ) (name : List ℕ)
-    (align zone : ℕ) → KeepsNow May items top fill w → IsBefore May items w index (Allocate name align zone)
-    → cause_of (Allocate name align zone) (progress_of w) ≡ None
-    → May (placed_ranges w.placed) (request_of (files_of (items_now w)) name align zone) None
-    → KeepsOn May items top fill w (record w { stage = Refused (fault.NoRoom index) })
-no_room_keeps May items top fill w index name align zone kept before none may =
+pub no_room_keeps : (May : Answers) (its : Opening) (w : LoadState) (index : ℕ) (name : List ℕ) (align zone : ℕ) → KeepsNow May its w
+    → IsBefore May its.items w index (Allocate name align zone) → cause_of (Allocate name align zone) (progress_of w) ≡ None → May
+    (placed_ranges w.placed) (request_of (files_of (items_now w)) name align zone) None → KeepsOn May its w
+    (record w { stage = Refused (fault.NoRoom index) })
+no_room_keeps May its w index name align zone kept before none may =
     let given = subst (λ (handed : List Range). May handed (request_of (files_of (items_now w)) name align zone) None)
     (sym (ranges_in (memory_of w) w.placed)) may in
-    stops_keeps May items top fill w index (Allocate name align zone) (NoRoom index) (fault.NoRoom index) kept before
-    (stops_at May items w index (Allocate name align zone) (NoRoom index) before (without_room none given)) refl
+    stops_keeps May its w index (Allocate name align zone) (NoRoom index) (fault.NoRoom index) kept before
+    (stops_at May its.items w index (Allocate name align zone) (NoRoom index) before (without_room none given)) refl

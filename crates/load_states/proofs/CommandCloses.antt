@@ -6,7 +6,6 @@ use Rattle.std.proofs.lemmas.List.{get_or-replicate, length-replicate, take_all}
 use Rattle.std.specs.Prelude.{IfOk}
 use Rattle.vt_bytes.specs.Memory.{Memory, IsMemory, IsRamRange, at, with_bytes}
 use Rattle.vt_bytes.proofs.Memories.{byte_with, others_with, lawful_with}
-use Rattle.cfg_directory.specs.declared.item.Item.{Item}
 use Rattle.loader_script.specs.declared.entry.Entry.{Entry}
 use Rattle.loader_script.specs.Run.{Placed, Done, opening}
 use Rattle.cfg_directory.specs.Files.{files_of}
@@ -15,7 +14,7 @@ use Rattle.command_acts.specs.declared.fault.LoadFault.{LoadFault}
 use Rattle.command_acts.specs.Runs.{Answers, EndsWith, at_files}
 use Rattle.load_states.specs.declared.stage.Stage.TheVariants.{AtCommand}
 use Rattle.load_states.specs.Guarded.{descriptor_at, buffer_at, buffer_size, is_work}
-use Rattle.load_states.specs.LoadState.{LoadState, memory_of, items_now, files_now, progress_of}
+use Rattle.load_states.specs.LoadState.{LoadState, Opening, memory_of, items_now, files_now, progress_of}
 use Rattle.load_states.specs.Steps.{cleared, closed}
 use Rattle.load_states.specs.Kept.{KeepsNow, StageKeeps, IsCleared}
 use Rattle.load_states.specs.Moves.{moves}
@@ -69,21 +68,19 @@ cleared_work m lawful address work =
     ]
 
 -- placed files stay
-files_cleared : (May : Answers) (items : List Item) (top fill : ℕ) (w : LoadState) → KeepsNow May items top fill w
-    → files_in (cleared (memory_of w)) w.placed ≡ files_now w
-files_cleared May items top fill w kept =
-    files_same top (memory_of w) (cleared (memory_of w)) w.placed kept.top kept.loading.apart (zoned_files kept)
+files_cleared : (May : Answers) (its : Opening) (w : LoadState) → KeepsNow May its w → files_in (cleared (memory_of w)) w.placed ≡ files_now w
+files_cleared May its w kept =
+    files_same its.top (memory_of w) (cleared (memory_of w)) w.placed kept.top kept.loading.apart (zoned_files kept)
     (λ address ram guarded other. cleared_other (memory_of w) address kept.memory other)
 
 -- The firmware closes the load behind the last command.
-pub closed_keeps : (May : Answers) (items : List Item) (top fill : ℕ) (w : LoadState) (index : ℕ)
-    → KeepsNow May items top fill w → StageKeeps May items w (AtCommand index) → length w.script ≤ index
-    → KeepsOn May items top fill w (closed w)
-closed_keeps May items top fill w index kept keeps past =
+pub closed_keeps : (May : Answers) (its : Opening) (w : LoadState) (index : ℕ) → KeepsNow May its w → StageKeeps May its.items w (AtCommand index)
+    → length w.script ≤ index → KeepsOn May its w (closed w)
+closed_keeps May its w index kept keeps past =
     let m = memory_of w in
-    let ends = all_done May (files_of items) w.script index (placed_ranges w.placed) (progress_of w) past keeps.3 in
-    let same = files_cleared May items top fill w kept in
-    kept_from May items top fill w (closed w) kept
+    let ends = all_done May (files_of its.items) w.script index (placed_ranges w.placed) (progress_of w) past keeps.3 in
+    let same = files_cleared May its w kept in
+    kept_from May its w (closed w) kept
     (record {
       room = refl;
       opening = refl;
@@ -94,10 +91,10 @@ closed_keeps May items top fill w index kept keeps past =
       fill = refl;
     }) refl refl
     (λ address ram other beside. cleared_other m address kept.memory other) kept.stands (
-      ended_run May items w.script Done (Ok tt) (closed w) keeps.2.idle keeps.0.script
-          (subst (λ (now : List Placed). EndsWith May 0 w.script (opening (files_of items) []) Done (at_files (files_of (items_now w)) now []))
+      ended_run May its.items w.script Done (Ok tt) (closed w) keeps.2.idle keeps.0.script
+          (subst (λ (now : List Placed). EndsWith May 0 w.script (opening (files_of its.items) []) Done (at_files (files_of (items_now w)) now []))
           (sym same) ends) refl,
-      subst (λ (r : Result (List Entry) LoadFault). IfOk r (λ script. w.attached.device.finished ≡ moves items script w.placed)) (sym keeps.0.script)
-          (keeps.2.finished ∙ ap (λ (commands : List Entry). moves items commands w.placed) (take_all index w.script past)),
+      subst (λ (r : Result (List Entry) LoadFault). IfOk r (λ script. w.attached.device.finished ≡ moves its.items script w.placed)) (sym keeps.0.script)
+          (keeps.2.finished ∙ ap (λ (commands : List Entry). moves its.items commands w.placed) (take_all index w.script past)),
       cleared_work m kept.memory,
     )

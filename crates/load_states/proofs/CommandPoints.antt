@@ -36,7 +36,7 @@ use Rattle.command_acts.proofs.ItemsWritten.{as_file, put_as_file, selected_name
 use Rattle.command_acts.proofs.OneCommand.{leads_from}
 use Rattle.load_states.specs.declared.stage.Stage.TheVariants.{AtCommand, AwaitsSkip, AsksWrite, AwaitsWrite}
 use Rattle.load_states.specs.Guarded.{descriptor_at, buffer_at, is_work}
-use Rattle.load_states.specs.LoadState.{LoadState, memory_of, items_now, files_now, progress_of, listed_named}
+use Rattle.load_states.specs.LoadState.{LoadState, Opening, memory_of, items_now, files_now, progress_of, listed_named}
 use Rattle.load_states.specs.Moves.{command_moves, pointer_moves}
 use Rattle.load_states.specs.Steps.{is_over, skips, writes, passed, number_for, firmware_step}
 use Rattle.load_states.specs.Kept.{KeepsNow, StageKeeps, IsPointing, moves_before}
@@ -58,10 +58,10 @@ abbrev StaysOutside : Memory → Memory → Type 0
 StaysOutside before after = (address : ℕ) → is_work address ≡ false → at after address ≡ at before address
 
 -- so placed files hold what they held
-files_outside : (May : Answers) (items : List Item) (top fill : ℕ) (w : LoadState) (m : Memory) → KeepsNow May items top fill w
-    → StaysOutside (memory_of w) m → files_in m w.placed ≡ files_now w
-files_outside May items top fill w m kept stays =
-    files_same top (memory_of w) m w.placed kept.top kept.loading.apart (zoned_files kept) (λ address ram guarded other. stays address other)
+files_outside : (May : Answers) (its : Opening) (w : LoadState) (m : Memory) → KeepsNow May its w → StaysOutside (memory_of w) m
+    → files_in m w.placed ≡ files_now w
+files_outside May its w m kept stays =
+    files_same its.top (memory_of w) m w.placed kept.top kept.loading.apart (zoned_files kept) (λ address ram guarded other. stays address other)
 
 -- an address that is beside the buffer is beside what is put at its start
 beside_number : (address size : ℕ) → size ≤ 4096 → (address < buffer_at) ⊎ (buffer_at + 4096 ≤ address)
@@ -92,17 +92,16 @@ skip_can items top p dest src dst_offset src_offset size file lawful can there s
     }
 
 -- The skip to where a WritePointer writes is over once it is asked for.
-pub point_keeps : (May : Answers) (items : List Item) (top fill : ℕ) (w : LoadState) (index : ℕ) (dest src : List ℕ)
-    (dst_offset src_offset size : ℕ) → KeepsNow May items top fill w
-    → IsBefore May items w index (WritePointer dest src dst_offset src_offset size)
-    → cause_of (WritePointer dest src dst_offset src_offset size) (progress_of w) ≡ None
-    → KeepsOn May items top fill w (skips index dst_offset (listed_named w.listed dest) w)
-point_keeps May items top fill w index dest src dst_offset src_offset size kept before none =
+pub point_keeps : (May : Answers) (its : Opening) (w : LoadState) (index : ℕ) (dest src : List ℕ) (dst_offset src_offset size : ℕ)
+    → KeepsNow May its w → IsBefore May its.items w index (WritePointer dest src dst_offset src_offset size) → cause_of
+    (WritePointer dest src dst_offset src_offset size) (progress_of w) ≡ None → KeepsOn May its w
+    (skips index dst_offset (listed_named w.listed dest) w)
+point_keeps May its w index dest src dst_offset src_offset size kept before none =
     let entry = WritePointer dest src dst_offset src_offset size in
     let can : CanWritePointer (progress_of w) dest src dst_offset src_offset size = conditions_from entry (progress_of w) none in
     let found = item_there (items_now w) dest can.file can.there in
     let file : Item = found.0 in
-    let known : IsPointing May items (items_now w) index w = record {
+    let known : IsPointing May its.items (items_now w) index w = record {
       script = before.script;
       lawful = kept.device.items;
       dest = dest;
@@ -117,50 +116,48 @@ point_keeps May items top fill w index dest src dst_offset src_offset size kept 
       run = before.run;
     } in
     let within = slice_get_within w.script index entry before.there in
-    let room = room_at items w.script index w.placed before.script.script within in
+    let room = room_at its.items w.script index w.placed before.script.script within in
     let spare : 0 < w.attached.device.spare = omega (arith, room, kept.room, ap length before.idle.finished) in
-    let starts = skip_is_over w.attached (moves_before items index w w.placed) descriptor_at file.select dst_offset kept.device kept.memory
+    let starts = skip_is_over w.attached (moves_before its.items index w w.placed) descriptor_at file.select dst_offset kept.device kept.memory
     before.idle.idle spare before.idle.finished
     (skip_can (items_now w) (memory_of w).top (progress_of w) dest src dst_offset src_offset size file kept.device.items can found.1 found.2) in
     let after : Attached = started descriptor_at (selected_skip file.select) dst_offset 0 w.attached in
     let next = going_on w after (AwaitsSkip index) in
     let outside : StaysOutside (memory_of w) after.memory = λ address other. starts.3 address (beside_work address other).0 in
-    let still = pointing_still May items (items_now w) index w after (AwaitsSkip index)
-    (files_outside May items top fill w after.memory kept outside) known in
-    let listed = listed_there (items_now w) w.listed dest file (listed_as_now May items top fill w kept before.script.listed) found.1 in
-    subst (λ (o : Option Listed). KeepsOn May items top fill w (skips index dst_offset o w)) (sym listed)
-    (kept_from May items top fill w next kept starts.1 (ap (map shape_of) starts.2) refl
+    let still = pointing_still May its.items (items_now w) index w after (AwaitsSkip index)
+    (files_outside May its w after.memory kept outside) known in
+    let listed = listed_there (items_now w) w.listed dest file (listed_as_now May its w kept before.script.listed) found.1 in
+    subst (λ (o : Option Listed). KeepsOn May its w (skips index dst_offset o w)) (sym listed)
+    (kept_from May its w next kept starts.1 (ap (map shape_of) starts.2) refl
     (λ address ram other beside. outside address other)
-    (skip_stands (moves_before items index w w.placed) descriptor_at file.select dst_offset after starts.0
+    (skip_stands (moves_before its.items index w w.placed) descriptor_at file.select dst_offset after starts.0
     (started_address descriptor_at (selected_skip file.select) dst_offset 0 w.attached))
     (subst
     (λ (is : List Item).
-    (k : IsPointing May items is index next) × IsSkipped (moves_before items index w w.placed) descriptor_at k.file.select k.dst_offset after)
+    (k : IsPointing May its.items is index next) × IsSkipped (moves_before its.items index w w.placed) descriptor_at k.file.select k.dst_offset after)
     (sym starts.2) (still, starts.0)))
 
 -- The firmware sees it over, and asks for the write next.
-pub skip_taken_keeps : (May : Answers) (items : List Item) (top fill : ℕ) (w : LoadState) (index : ℕ)
-    → KeepsNow May items top fill w → StageKeeps May items w (AwaitsSkip index)
-    → KeepsOn May items top fill w (firmware_step (AwaitsSkip index) None w)
-skip_taken_keeps May items top fill w index kept keeps =
-    by_test (KeepsOn May items top fill w) (is_over w) (record w { stage = AsksWrite index }) w
-    (λ over. kept_with May items top fill w w.listed w.script (AsksWrite index) kept
-    (pointing_still May items (items_now w) index w w.attached (AsksWrite index) refl keeps.0, keeps.1))
-    (λ waits. kept_waiting May items top fill w kept)
+pub skip_taken_keeps : (May : Answers) (its : Opening) (w : LoadState) (index : ℕ) → KeepsNow May its w → StageKeeps May its.items w
+    (AwaitsSkip index) → KeepsOn May its w (firmware_step (AwaitsSkip index) None w)
+skip_taken_keeps May its w index kept keeps =
+    by_test (KeepsOn May its w) (is_over w) (record w { stage = AsksWrite index }) w
+    (λ over. kept_with May its w w.listed w.script (AsksWrite index) kept
+    (pointing_still May its.items (items_now w) index w w.attached (AsksWrite index) refl keeps.0, keeps.1))
+    (λ waits. kept_waiting May its w kept)
 
 -- ---- the write
 
 -- Its number stands in the buffer, and its write is started.
-pub write_asked_keeps : (May : Answers) (items : List Item) (top fill : ℕ) (w : LoadState) (index : ℕ)
-    → KeepsNow May items top fill w → StageKeeps May items w (AsksWrite index)
-    → KeepsOn May items top fill w (firmware_step (AsksWrite index) None w)
-write_asked_keeps May items top fill w index kept keeps =
+pub write_asked_keeps : (May : Answers) (its : Opening) (w : LoadState) (index : ℕ) → KeepsNow May its w → StageKeeps May its.items w
+    (AsksWrite index) → KeepsOn May its w (firmware_step (AsksWrite index) None w)
+write_asked_keeps May its w index kept keeps =
     let known = keeps.0 in
     let skipped = keeps.1 in
     let entry = WritePointer known.dest known.src known.dst_offset known.src_offset known.size in
     let number : List ℕ = number_for w known.src known.src_offset known.size in
     let size : length number ≡ known.size = length-le_bytes known.size (place_of w.placed known.src + known.src_offset) in
-    let few = pointer_fits May items (items_now w) index w known in
+    let few = pointer_fits May its.items (items_now w) index w known in
     let m : Memory = with_bytes (memory_of w) buffer_at number in
     let lawful = lawful_with (memory_of w) buffer_at number kept.memory in
     let ram : IsRamRange (memory_of w).top buffer_at (length number) = λ i below. buffer_ram (memory_of w).top i (omega (arith, size, few)) in
@@ -168,12 +165,12 @@ write_asked_keeps May items top fill w index kept keeps =
     subst (λ n. bytes_at m buffer_at n ≡ number) size (bytes_with (memory_of w) buffer_at number kept.memory ram) in
     let a : Attached = record w.attached { memory = m } in
     let transfer = write_of known.file.select known.dst_offset known.size buffer_at in
-    let before = moves_before items index w w.placed ++ skip_of known.file.select known.dst_offset ∷ [] in
+    let before = moves_before its.items index w w.placed ++ skip_of known.file.select known.dst_offset ∷ [] in
     let within = slice_get_within w.script index entry known.command in
-    let room = room_at items w.script index w.placed known.script.script within in
-    let so_many = length-append (moves_before items index w w.placed) (skip_of known.file.select known.dst_offset ∷ []) in
+    let room = room_at its.items w.script index w.placed known.script.script within in
+    let so_many = length-append (moves_before its.items index w w.placed) (skip_of known.file.select known.dst_offset ∷ []) in
     let spare : 0 < w.attached.device.spare = omega (arith, room, kept.room, ap length skipped.finished, so_many) in
-    let can = can_put May items (items_now w) index (memory_of w).top w known in
+    let can = can_put May its.items (items_now w) index (memory_of w).top w known in
     let starts = write_is_started a before descriptor_at transfer kept.device lawful skipped.idle spare skipped.finished can
     (sym skipped.selected) (sym skipped.offset) in
     let after : Attached = started descriptor_at next_write known.size buffer_at a in
@@ -186,15 +183,15 @@ write_asked_keeps May items top fill w index kept keeps =
     ∙ others_with m descriptor_at (descriptor_bytes next_write known.size buffer_at) address lawful beside.0
     ∙ others_with (memory_of w) buffer_at number address kept.memory (beside_number address (length number) (omega (arith, size, few)) beside.1) in
     let next = going_on w after (AwaitsWrite index) in
-    subst (λ (o : Option Entry). KeepsOn May items top fill w (writes index o w)) (sym known.command)
-    (kept_from May items top fill w next kept
+    subst (λ (o : Option Entry). KeepsOn May its w (writes index o w)) (sym known.command)
+    (kept_from May its w next kept
     (record { room = goes.room; opening = goes.opening; device = goes.device; memory = goes.memory; top = goes.top; fill = goes.fill })
     (written_items (items_now w) number before (memory_of w).top descriptor_at transfer after known.lawful.distinct can size (inl writing)) refl
     (λ address ram other beside. outside address other)
     (write_stands (items_now w) number before descriptor_at transfer after (inl writing)
     (started_address descriptor_at next_write known.size buffer_at a)) (
       items_now w,
-      pointing_still May items (items_now w) index w after (AwaitsWrite index) (files_outside May items top fill w after.memory kept outside) known,
+      pointing_still May its.items (items_now w) index w after (AwaitsWrite index) (files_outside May its w after.memory kept outside) known,
       inl writing,
     ))
 
@@ -227,26 +224,24 @@ files_written before w dest src dst_offset src_offset size file distinct there w
     ap (λ (fs : List File). Some (at_files fs (files_now w) [])) (sym are)
 
 -- The firmware goes on behind it once it is over.
-write_taken : (May : Answers) (items : List Item) (top fill : ℕ) (w : LoadState) (index : ℕ) (before : List Item)
-    → KeepsNow May items top fill w → (known : IsPointing May items before index w)
-    → IsWritten before (number_for w known.src known.src_offset known.size)
-    (moves_before items index w w.placed ++ skip_of known.file.select known.dst_offset ∷ []) descriptor_at
-    (write_of known.file.select known.dst_offset known.size buffer_at) w.attached
-    → KeepsOn May items top fill w (passed index w)
-write_taken May items top fill w index before kept known written =
+write_taken : (May : Answers) (its : Opening) (w : LoadState) (index : ℕ) (before : List Item) → KeepsNow May its w →
+    (known : IsPointing May its.items before index w) → IsWritten before (number_for w known.src known.src_offset known.size)
+    (moves_before its.items index w w.placed ++ skip_of known.file.select known.dst_offset ∷ []) descriptor_at
+    (write_of known.file.select known.dst_offset known.size buffer_at) w.attached → KeepsOn May its w (passed index w)
+write_taken May its w index before kept known written =
     let entry = WritePointer known.dest known.src known.dst_offset known.src_offset known.size in
     let skip = skip_of known.file.select known.dst_offset in
     let transfer = write_of known.file.select known.dst_offset known.size buffer_at in
-    let front = moves_before items index w w.placed in
+    let front = moves_before its.items index w w.placed in
     let size = length-le_bytes known.size (place_of w.placed known.src + known.src_offset) in
-    let can = can_put May items before index top w known in
-    let shape : HaveOneShape items before =
-    sym (written_items before (number_for w known.src known.src_offset known.size) (front ++ skip ∷ []) top descriptor_at transfer w.attached
+    let can = can_put May its.items before index its.top w known in
+    let shape : HaveOneShape its.items before =
+    sym (written_items before (number_for w known.src known.src_offset known.size) (front ++ skip ∷ []) its.top descriptor_at transfer w.attached
     known.lawful.distinct can size (inr written)) ∙ kept.shape in
-    let moved : command_moves items (entry ∷ []) [] ≡ skip ∷ transfer ∷ [] =
-    append-nil (pointer_moves items known.dest known.dst_offset known.size)
-    ∙ pointer_moves_are items before known.dest known.file known.dst_offset known.size shape known.there in
-    let finished = moves_of_command May items index entry w (at_files (files_of before) (files_now w) []) known.command known.run
+    let moved : command_moves its.items (entry ∷ []) [] ≡ skip ∷ transfer ∷ [] =
+    append-nil (pointer_moves its.items known.dest known.dst_offset known.size)
+    ∙ pointer_moves_are its.items before known.dest known.file known.dst_offset known.size shape known.there in
+    let finished = moves_of_command May its.items index entry w (at_files (files_of before) (files_now w) []) known.command known.run
     (length-map w.placed (placed_in (memory_of w)))
     ∙ ap (λ (more : List Finished). front ++ more) moved ∙ sym (append_assoc front (skip ∷ []) (transfer ∷ [])) in
     let leads : LeadsOn May entry (at_files (files_of before) (files_now w) []) (progress_of w) =
@@ -254,17 +249,16 @@ write_taken May items top fill w index before kept known written =
       known.goes,
       files_written before w known.dest known.src known.dst_offset known.src_offset known.size known.file known.lawful.distinct known.there written.put,
     ) in
-    kept_with May items top fill w w.listed w.script (AtCommand (suc index)) kept (
+    kept_with May its w w.listed w.script (AtCommand (suc index)) kept (
       record { listed = known.script.listed; script = known.script.script },
       (let within = slice_get_within w.script index entry known.command in omega arith),
       record { idle = written.idle; finished = written.finished ∙ sym finished },
-      carried_more May items index entry w (progress_of w) known.command known.run leads (sym (ranges_in (memory_of w) w.placed)),
+      carried_more May its.items index entry w (progress_of w) known.command known.run leads (sym (ranges_in (memory_of w) w.placed)),
     )
 
-pub write_taken_keeps : (May : Answers) (items : List Item) (top fill : ℕ) (w : LoadState) (index : ℕ)
-    → KeepsNow May items top fill w → StageKeeps May items w (AwaitsWrite index)
-    → KeepsOn May items top fill w (firmware_step (AwaitsWrite index) None w)
-write_taken_keeps May items top fill w index kept keeps =
-    by_test (KeepsOn May items top fill w) (is_over w) (passed index w) w
-    (λ zero. write_taken May items top fill w index keeps.0 kept keeps.1 (write_over _ _ _ descriptor_at _ w.attached keeps.2 zero))
-    (λ waits. kept_waiting May items top fill w kept)
+pub write_taken_keeps : (May : Answers) (its : Opening) (w : LoadState) (index : ℕ) → KeepsNow May its w → StageKeeps May its.items w
+    (AwaitsWrite index) → KeepsOn May its w (firmware_step (AwaitsWrite index) None w)
+write_taken_keeps May its w index kept keeps =
+    by_test (KeepsOn May its w) (is_over w) (passed index w) w
+    (λ zero. write_taken May its w index keeps.0 kept keeps.1 (write_over _ _ _ descriptor_at _ w.attached keeps.2 zero))
+    (λ waits. kept_waiting May its w kept)

@@ -21,7 +21,7 @@ use Rattle.load_states.specs.declared.stage.Stage.{Stage}
 use Rattle.load_states.specs.declared.reading.Reading.TheVariants as read
 use Rattle.load_states.specs.declared.stage.Stage.TheVariants.{Asks, Refused}
 use Rattle.load_states.specs.Guarded.{descriptor_at, buffer_at}
-use Rattle.load_states.specs.LoadState.{LoadState}
+use Rattle.load_states.specs.LoadState.{LoadState, Opening}
 use Rattle.load_states.specs.Steps.{buffered, counted}
 use Rattle.load_states.specs.Moves.{count_read}
 use Rattle.load_states.specs.Kept.{KeepsNow, HasNothing}
@@ -38,20 +38,19 @@ count_held items before a lawful over =
     ∙ count_of_files items lawful
 
 -- The firmware takes it: it asks for the entries, or there is no script.
-pub count_taken : (May : Answers) (items : List Item) (top fill : ℕ) (w : LoadState) → KeepsNow May items top fill w
-    → (has : HasNothing items w) → IsOver items [] descriptor_at count_read w.attached
-    → KeepsOn May items top fill w (counted (be (buffered 4 w)) w)
-count_taken May items top fill w kept has over =
+pub count_taken : (May : Answers) (its : Opening) (w : LoadState) → KeepsNow May its w → (has : HasNothing its.items w)
+    → IsOver its.items [] descriptor_at count_read w.attached → KeepsOn May its w (counted (be (buffered 4 w)) w)
+count_taken May its w kept has over =
     let after : Stage → LoadState = λ stage. record w { stage = stage } in
-    subst (λ (n : ℕ). KeepsOn May items top fill w (counted n w)) (sym (count_held items [] w.attached kept.lawful over))
-    (by_test (λ (stage : Stage). KeepsOn May items top fill w (after stage)) (length items == 0) (Refused NoScript)
-    (Asks (read.Entries (64 * length items) 0))
-    (λ none. kept_with May items top fill w w.listed w.script (Refused NoScript) kept
-    (ended_unread May items NoScript (after (Refused NoScript)) over.idle
-    (ap script_from (none_named items loader_name (eqb-true (length items) 0 none))) has.placed has.begun))
+    subst (λ (n : ℕ). KeepsOn May its w (counted n w)) (sym (count_held its.items [] w.attached kept.lawful over))
+    (by_test (λ (stage : Stage). KeepsOn May its w (after stage)) (length its.items == 0) (Refused NoScript)
+    (Asks (read.Entries (64 * length its.items) 0))
+    (λ none. kept_with May its w w.listed w.script (Refused NoScript) kept
+    (ended_unread May its.items NoScript (after (Refused NoScript)) over.idle
+    (ap script_from (none_named its.items loader_name (eqb-true (length its.items) 0 none))) has.placed has.begun))
     (λ some.
-    let differs : length items ≢ 0 = eqb-false (length items) 0 some in
-    kept_with May items top fill w w.listed w.script (Asks (read.Entries (64 * length items) 0)) kept (
+    let differs : length its.items ≢ 0 = eqb-false (length its.items) 0 some in
+    kept_with May its w w.listed w.script (Asks (read.Entries (64 * length its.items) 0)) kept (
       omega arith,
       (
         record {

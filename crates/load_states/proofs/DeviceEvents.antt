@@ -22,7 +22,7 @@ use Rattle.load_states.specs.declared.stage.Stage.{Stage}
 use Rattle.load_states.specs.declared.reading.Reading.{Reading}
 use Rattle.load_states.specs.declared.stage.Stage.TheVariants.{Asks, Awaits, AtCommand, AwaitsSkip, AsksWrite, AwaitsWrite, Done, Refused}
 use Rattle.load_states.specs.Guarded.{descriptor_at, buffer_at, is_work}
-use Rattle.load_states.specs.LoadState.{LoadState, memory_of, items_now, files_now}
+use Rattle.load_states.specs.LoadState.{LoadState, Opening, memory_of, items_now, files_now}
 use Rattle.load_states.specs.Steps.{step, number_for}
 use Rattle.load_states.specs.Kept.{KeepsNow, StageKeeps, IsAwaiting, read_by, moves_before}
 use Rattle.load_states.proofs.Known.{front_beside, known_still, can_read, beside_read}
@@ -49,10 +49,10 @@ LeadsOn May items top w s a =
     × StandsWhereLeft a.device × StageKeeps May items (with_attached w a) s
 
 -- where no transfer is in flight nothing changes
-idle_leads : (May : Answers) (items : List Item) (top fill bytes : ℕ) (w : LoadState) (s : Stage) → KeepsNow May items top fill w
-    → w.attached.device.flight ≡ None → StageKeeps May items w s → LeadsOn May items top w s (piece bytes w.attached)
-idle_leads May items top fill bytes w s kept idle keeps =
-    subst (λ (a : Attached). LeadsOn May items top w s a) (sym (piece_idle bytes w.attached idle)) (
+idle_leads : (May : Answers) (its : Opening) (bytes : ℕ) (w : LoadState) (s : Stage) → KeepsNow May its w → w.attached.device.flight ≡ None
+    → StageKeeps May its.items w s → LeadsOn May its.items its.top w s (piece bytes w.attached)
+idle_leads May its bytes w s kept idle keeps =
+    subst (λ (a : Attached). LeadsOn May its.items its.top w s a) (sym (piece_idle bytes w.attached idle)) (
       record { room = refl; opening = refl; device = kept.device; memory = kept.memory; top = refl; fill = refl },
       refl,
       λ address ram other beside. refl,
@@ -99,73 +99,65 @@ some_move top before control transfer bytes a its_top device memory can awaited 
     ]
 
 -- a piece of a read that is awaited
-reading_leads : (May : Answers) (items : List Item) (top fill : ℕ) (bytes : ℕ) (w : LoadState) (reading : Reading)
-    → KeepsNow May items top fill w → StageKeeps May items w (Awaits reading)
-    → LeadsOn May items top w (Awaits reading) (piece bytes w.attached)
-reading_leads May items top fill bytes w reading kept keeps =
+reading_leads : (May : Answers) (its : Opening) (bytes : ℕ) (w : LoadState) (reading : Reading) → KeepsNow May its w → StageKeeps May its.items w
+    (Awaits reading) → LeadsOn May its.items its.top w (Awaits reading) (piece bytes w.attached)
+reading_leads May its bytes w reading kept keeps =
     let known = keeps.0 in
-    let r = read_by May items w reading known in
+    let r = read_by May its.items w reading known in
     let after = piece bytes w.attached in
-    let moved = some_move top r.before r.control r.transfer bytes w.attached kept.top kept.device kept.memory
-    (can_read May items top fill w reading kept known) keeps.1 in
-    let still = known_still May items w after w.stage reading moved.2
-    (front_beside May items top w after.memory reading known kept.loading.apart (zoned_files kept) moved.3) known in (
+    let moved = some_move its.top r.before r.control r.transfer bytes w.attached kept.top kept.device kept.memory
+    (can_read May its w reading kept known) keeps.1 in
+    let still = known_still May its.items w after w.stage reading moved.2
+    (front_beside May its.items its.top w after.memory reading known kept.loading.apart (zoned_files kept) moved.3) known in (
       moved.1,
       ap (map shape_of) moved.2,
-      λ address ram other beside. moved.3 address (beside_read May items w reading known address other beside),
+      λ address ram other beside. moved.3 address (beside_read May its.items w reading known address other beside),
       read_stands after.device.items r.before descriptor_at r.control r.transfer after moved.0 (piece_address bytes w.attached ∙ kept.stands.address),
       (still.known, subst (IsAwaiting (with_attached w after)) (sym still.same) moved.0),
     )
 
 -- a piece of a write that is awaited
-writing_leads : (May : Answers) (items : List Item) (top fill : ℕ) (bytes index : ℕ) (w : LoadState)
-    → KeepsNow May items top fill w → StageKeeps May items w (AwaitsWrite index)
-    → LeadsOn May items top w (AwaitsWrite index) (piece bytes w.attached)
-writing_leads May items top fill bytes index w kept keeps =
+writing_leads : (May : Answers) (its : Opening) (bytes index : ℕ) (w : LoadState) → KeepsNow May its w → StageKeeps May its.items w
+    (AwaitsWrite index) → LeadsOn May its.items its.top w (AwaitsWrite index) (piece bytes w.attached)
+writing_leads May its bytes index w kept keeps =
     let items_before = keeps.0 in
     let known = keeps.1 in
     let number = number_for w known.src known.src_offset known.size in
-    let before = moves_before items index w w.placed ++ skip_of known.file.select known.dst_offset ∷ [] in
+    let before = moves_before its.items index w w.placed ++ skip_of known.file.select known.dst_offset ∷ [] in
     let transfer = write_of known.file.select known.dst_offset known.size buffer_at in
     let after = piece bytes w.attached in
-    let can : CanWrite items_before top descriptor_at transfer = can_put May items items_before index top w known in
+    let can : CanWrite items_before its.top descriptor_at transfer = can_put May its.items items_before index its.top w known in
     let size : length number ≡ known.size = length-le_bytes known.size (place_of w.placed known.src + known.src_offset) in
     let moved = write_moves_on w.attached items_before number before descriptor_at bytes transfer kept.device kept.memory
     (subst (λ t. CanWrite items_before t descriptor_at transfer) (sym kept.top) can) keeps.2 in
     let outside : (address : ℕ) → is_work address ≡ false → at after.memory address ≡ at (memory_of w) address =
     λ address other. moved.2 address (beside_word address other) in
-    let same : files_in after.memory w.placed ≡ files_now w = files_same top (memory_of w) after.memory w.placed kept.top kept.loading.apart (zoned_files kept)
+    let same : files_in after.memory w.placed ≡ files_now w = files_same its.top (memory_of w) after.memory w.placed kept.top kept.loading.apart (zoned_files kept)
     (λ address ram guarded other. outside address other) in
     let shaped : (a : Attached) → IsWriteAwaited items_before number before descriptor_at transfer a → HaveOneShape items_before a.device.items = λ a awaited.
-    written_items items_before number before top descriptor_at transfer a known.lawful.distinct can size awaited in (
+    written_items items_before number before its.top descriptor_at transfer a known.lawful.distinct can size awaited in (
       moved.1,
       shaped after moved.0 ∙ sym (shaped w.attached keeps.2),
       λ address ram other beside. outside address other,
       write_stands items_before number before descriptor_at transfer after moved.0 (piece_address bytes w.attached ∙ kept.stands.address),
-      (items_before, pointing_still May items items_before index w after w.stage same known, moved.0),
+      (items_before, pointing_still May its.items items_before index w after w.stage same known, moved.0),
     )
 
 -- a piece at each stage
-stage_leads : (May : Answers) (items : List Item) (top fill : ℕ) (bytes : ℕ) (w : LoadState) (s : Stage)
-    → KeepsNow May items top fill w → StageKeeps May items w s → LeadsOn May items top w s (piece bytes w.attached)
-stage_leads May items top fill bytes w (Asks reading) kept keeps =
-    idle_leads May items top fill bytes w (Asks reading) kept keeps.1.1.idle.idle keeps
-stage_leads May items top fill bytes w (Awaits reading) kept keeps = reading_leads May items top fill bytes w reading kept keeps
-stage_leads May items top fill bytes w (AtCommand index) kept keeps =
-    idle_leads May items top fill bytes w (AtCommand index) kept keeps.2.idle keeps
-stage_leads May items top fill bytes w (AwaitsSkip index) kept keeps =
-    idle_leads May items top fill bytes w (AwaitsSkip index) kept keeps.1.idle keeps
-stage_leads May items top fill bytes w (AsksWrite index) kept keeps =
-    idle_leads May items top fill bytes w (AsksWrite index) kept keeps.1.idle keeps
-stage_leads May items top fill bytes w (AwaitsWrite index) kept keeps = writing_leads May items top fill bytes index w kept keeps
-stage_leads May items top fill bytes w Done kept keeps =
-    idle_leads May items top fill bytes w Done kept keeps.0.idle keeps
-stage_leads May items top fill bytes w (Refused why) kept keeps =
-    idle_leads May items top fill bytes w (Refused why) kept keeps.idle keeps
+stage_leads : (May : Answers) (its : Opening) (bytes : ℕ) (w : LoadState) (s : Stage) → KeepsNow May its w → StageKeeps May its.items w s
+    → LeadsOn May its.items its.top w s (piece bytes w.attached)
+stage_leads May its bytes w (Asks reading) kept keeps = idle_leads May its bytes w (Asks reading) kept keeps.1.1.idle.idle keeps
+stage_leads May its bytes w (Awaits reading) kept keeps = reading_leads May its bytes w reading kept keeps
+stage_leads May its bytes w (AtCommand index) kept keeps = idle_leads May its bytes w (AtCommand index) kept keeps.2.idle keeps
+stage_leads May its bytes w (AwaitsSkip index) kept keeps = idle_leads May its bytes w (AwaitsSkip index) kept keeps.1.idle keeps
+stage_leads May its bytes w (AsksWrite index) kept keeps = idle_leads May its bytes w (AsksWrite index) kept keeps.1.idle keeps
+stage_leads May its bytes w (AwaitsWrite index) kept keeps = writing_leads May its bytes index w kept keeps
+stage_leads May its bytes w Done kept keeps = idle_leads May its bytes w Done kept keeps.0.idle keeps
+stage_leads May its bytes w (Refused why) kept keeps = idle_leads May its bytes w (Refused why) kept keeps.idle keeps
 
 -- A piece of the device's transfer keeps what the load keeps.
-pub device_keeps : (May : Answers) (items : List Item) (top fill : ℕ) (w : LoadState) (bytes : ℕ) (answer : Option ℕ)
-    → KeepsNow May items top fill w → KeepsOn May items top fill w (step (Device bytes) answer w)
-device_keeps May items top fill w bytes answer kept =
-    let leads = stage_leads May items top fill bytes w w.stage kept kept.stage in
-    kept_from May items top fill w (with_attached w (piece bytes w.attached)) kept leads.0 leads.1 refl leads.2 leads.3 leads.4
+pub device_keeps : (May : Answers) (its : Opening) (w : LoadState) (bytes : ℕ) (answer : Option ℕ) → KeepsNow May its w → KeepsOn May its w
+    (step (Device bytes) answer w)
+device_keeps May its w bytes answer kept =
+    let leads = stage_leads May its bytes w w.stage kept kept.stage in
+    kept_from May its w (with_attached w (piece bytes w.attached)) kept leads.0 leads.1 refl leads.2 leads.3 leads.4

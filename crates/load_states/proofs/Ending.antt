@@ -28,7 +28,7 @@ use Rattle.load_states.specs.Guarded.{descriptor_at}
 use Rattle.load_states.specs.Kept.{KeepsNow, StageKeeps, HasScript, LoadRead, IsAwaiting, IsPointing, read_by}
 use Rattle.load_states.specs.Loads.{most_steps}
 use Rattle.load_states.specs.Moves.{script_size}
-use Rattle.load_states.specs.LoadState.{LoadState, memory_of, items_now, listed_named, progress_of}
+use Rattle.load_states.specs.LoadState.{LoadState, Opening, memory_of, items_now, listed_named, progress_of}
 use Rattle.load_states.specs.Runs.{StepsTo, has_ended, request_at}
 use Rattle.load_states.specs.Steps.{is_over, taken_of, placed_at, skips, writes, passed, carried_out, commanded, at_command}
 use Rattle.load_states.proofs.Readings.{steps_left, Goes, some_left, taken_goes, reading_most}
@@ -153,20 +153,20 @@ either May items w next Done is keeps steps = inr (ap (λ (m : LoadState). m.sta
 either May items w next (Refused why) is keeps steps = inr (ap (λ (m : LoadState). m.stage) steps, λ idle. ap has_ended is)
 
 -- A step of the firmware goes on where no transfer is in flight and the load hasn't ended, and never takes the firmware back.
-pub step_goes : (May : Answers) (items : List Item) (top fill : ℕ) (w next : LoadState) → KeepsNow May items top fill w
-    → StepsTo May Firmware w next → w.attached.device.flight ≡ None → has_ended w.stage ≡ false → Goes items w.stage next.stage
-step_goes May items top fill w next kept steps idle running =
-    elim (either May items w next w.stage refl kept.stage steps) as (λ _. Goes items w.stage next.stage) [
+pub step_goes : (May : Answers) (its : Opening) (w next : LoadState) → KeepsNow May its w → StepsTo May Firmware w next
+    → w.attached.device.flight ≡ None → has_ended w.stage ≡ false → Goes its.items w.stage next.stage
+step_goes May its w next kept steps idle running =
+    elim (either May its.items w next w.stage refl kept.stage steps) as (λ _. Goes its.items w.stage next.stage) [
       | inl goes ↦ goes
       | inr stays ↦ absurd (true≢false (sym (stays.1 idle) ∙ running))
     ]
 
-pub step_not_back : (May : Answers) (items : List Item) (top fill : ℕ) (w next : LoadState) → KeepsNow May items top fill w
-    → StepsTo May Firmware w next → steps_left items next.stage ≤ steps_left items w.stage
-step_not_back May items top fill w next kept steps =
-    elim (either May items w next w.stage refl kept.stage steps) as (λ _. steps_left items next.stage ≤ steps_left items w.stage) [
+pub step_not_back : (May : Answers) (its : Opening) (w next : LoadState) → KeepsNow May its w → StepsTo May Firmware w next
+    → steps_left its.items next.stage ≤ steps_left its.items w.stage
+step_not_back May its w next kept steps =
+    elim (either May its.items w next w.stage refl kept.stage steps) as (λ _. steps_left its.items next.stage ≤ steps_left its.items w.stage) [
       | inl goes ↦ omega (arith, goes)
-      | inr stays ↦ subst (λ (s : Stage). steps_left items s ≤ steps_left items w.stage) (sym stays.0) (omega arith)
+      | inr stays ↦ subst (λ (s : Stage). steps_left its.items s ≤ steps_left its.items w.stage) (sym stays.0) (omega arith)
     ]
 
 -- A load that awaits a read, which its device can carry out.
@@ -200,30 +200,30 @@ waits_end top w its_top device memory waits = elim waits.awaited as (λ _. (piec
 ]
 
 -- none is in flight behind it, at each stage
-whole_idles : (May : Answers) (items : List Item) (top fill : ℕ) (w : LoadState) (s : Stage) → KeepsNow May items top fill w
-    → StageKeeps May items w s → (piece 0xFFFFFFFF w.attached).device.flight ≡ None
-whole_idles May items top fill w (Asks reading) kept keeps = idle_still w.attached keeps.1.1.idle.idle
-whole_idles May items top fill w (Awaits reading) kept keeps =
-    waits_end top w kept.top kept.device kept.memory (record {
-      of = read_by May items w reading keeps.0;
+whole_idles : (May : Answers) (its : Opening) (w : LoadState) (s : Stage) → KeepsNow May its w → StageKeeps May its.items w s →
+    (piece 0xFFFFFFFF w.attached).device.flight ≡ None
+whole_idles May its w (Asks reading) kept keeps = idle_still w.attached keeps.1.1.idle.idle
+whole_idles May its w (Awaits reading) kept keeps =
+    waits_end its.top w kept.top kept.device kept.memory (record {
+      of = read_by May its.items w reading keeps.0;
       awaited = keeps.1;
-      can = can_read May items top fill w reading kept keeps.0;
+      can = can_read May its w reading kept keeps.0;
     })
-whole_idles May items top fill w (AtCommand index) kept keeps = idle_still w.attached keeps.2.idle
-whole_idles May items top fill w (AwaitsSkip index) kept keeps = idle_still w.attached keeps.1.idle
-whole_idles May items top fill w (AsksWrite index) kept keeps = idle_still w.attached keeps.1.idle
-whole_idles May items top fill w (AwaitsWrite index) kept keeps =
-    let few = pointer_fits May items keeps.0 index w keeps.1 in
+whole_idles May its w (AtCommand index) kept keeps = idle_still w.attached keeps.2.idle
+whole_idles May its w (AwaitsSkip index) kept keeps = idle_still w.attached keeps.1.idle
+whole_idles May its w (AsksWrite index) kept keeps = idle_still w.attached keeps.1.idle
+whole_idles May its w (AwaitsWrite index) kept keeps =
+    let few = pointer_fits May its.items keeps.0 index w keeps.1 in
     whole_write w.attached keeps.0 _ _ descriptor_at 0xFFFFFFFF _ refl (omega arith) keeps.2
-whole_idles May items top fill w Done kept keeps = idle_still w.attached keeps.0.idle
-whole_idles May items top fill w (Refused why) kept keeps = idle_still w.attached keeps.idle
+whole_idles May its w Done kept keeps = idle_still w.attached keeps.0.idle
+whole_idles May its w (Refused why) kept keeps = idle_still w.attached keeps.idle
 
 -- A piece as long as any transfer leaves none in flight, and the stage as it was.
-pub whole_piece_idle : (May : Answers) (items : List Item) (top fill : ℕ) (w next : LoadState) → KeepsNow May items top fill w
-    → StepsTo May (Device 0xFFFFFFFF) w next → (next.attached.device.flight ≡ None) × (next.stage ≡ w.stage)
-whole_piece_idle May items top fill w next kept steps = (
+pub whole_piece_idle : (May : Answers) (its : Opening) (w next : LoadState) → KeepsNow May its w → StepsTo May (Device 0xFFFFFFFF) w next →
+    (next.attached.device.flight ≡ None) × (next.stage ≡ w.stage)
+whole_piece_idle May its w next kept steps = (
   subst (λ (m : LoadState). m.attached.device.flight ≡ None) (sym steps)
-      (whole_idles May items top fill w w.stage kept kept.stage),
+      (whole_idles May its w w.stage kept kept.stage),
   ap (λ (m : LoadState). m.stage) steps,
 )
 

@@ -19,7 +19,7 @@ use Rattle.load_states.specs.declared.stage.Stage.{Stage}
 use Rattle.load_states.specs.declared.reading.Reading.TheVariants as read
 use Rattle.load_states.specs.declared.stage.Stage.TheVariants.{Asks}
 use Rattle.load_states.specs.Guarded.{descriptor_at, buffer_at, buffer_size}
-use Rattle.load_states.specs.LoadState.{LoadState, memory_of, listed_named}
+use Rattle.load_states.specs.LoadState.{LoadState, Opening, memory_of, listed_named}
 use Rattle.load_states.specs.Steps.{asked, buffered, entries_taken, stage_for}
 use Rattle.load_states.specs.Moves.{count_read, piece_read, first_reads, all_reads}
 use Rattle.load_states.specs.Kept.{KeepsNow, HasEntries, with_entries}
@@ -57,32 +57,31 @@ all_listed items size whole =
     let number : length (listed_of items) ≡ length items = length-map items listing in take_all (size / 64) (listed_of items) (omega arith)
 
 -- The firmware takes entries: it asks for more, or looks for the script among all files.
-pub entries_are_taken : (May : Answers) (items : List Item) (top fill : ℕ) (w : LoadState) (size taken : ℕ)
-    → KeepsNow May items top fill w → (has : HasEntries items size taken w)
-    → IsOver items (with_entries size has.pieces) descriptor_at (piece_read 0x19 4 size has.pieces) w.attached
-    → KeepsOn May items top fill w (entries_taken size taken (asked (size - taken)) w)
-entries_are_taken May items top fill w size taken kept has over =
+pub entries_are_taken : (May : Answers) (its : Opening) (w : LoadState) (size taken : ℕ) → KeepsNow May its w →
+    (has : HasEntries its.items size taken w) → IsOver its.items (with_entries size has.pieces) descriptor_at
+    (piece_read 0x19 4 size has.pieces) w.attached → KeepsOn May its w (entries_taken size taken (asked (size - taken)) w)
+entries_are_taken May its w size taken kept has over =
     let count = asked (size - taken) in
-    let now : List Listed = take ((taken + count) / 64) (listed_of items) in
+    let now : List Listed = take ((taken + count) / 64) (listed_of its.items) in
     let same : w.listed ++ listed_in (count / 64) (buffered count w) ≡ now =
     ap (λ (l : List Listed). l ++ listed_in (count / 64) (buffered count w)) has.listed
-    ∙ entries_held items size taken has.pieces (memory_of w) kept.lawful kept.names has.taken_is has.size_is has.some_left over.held in
+    ∙ entries_held its.items size taken has.pieces (memory_of w) kept.lawful kept.names has.taken_is has.size_is has.some_left over.held in
     let after : List Listed → Stage → LoadState = λ listed stage. record w { listed = listed; stage = stage } in
-    let Keeps : List Listed → Stage → Type 0 = λ listed stage. KeepsOn May items top fill w (after listed stage) in
+    let Keeps : List Listed → Stage → Type 0 = λ listed stage. KeepsOn May its w (after listed stage) in
     subst (λ (l : List Listed). Keeps l (if taken + count == size then stage_for (listed_named l loader_name) else Asks (read.Entries size (taken + count))))
     (sym same)
     (by_test (Keeps now) (taken + count == size) (stage_for (listed_named now loader_name)) (Asks (read.Entries size (taken + count)))
     (λ done.
     let all : taken + count ≡ size = eqb-true (taken + count) size done in
-    let whole : now ≡ listed_of items = ap (λ (n : ℕ). take (n / 64) (listed_of items)) all ∙ all_listed items size has.size_is in
+    let whole : now ≡ listed_of its.items = ap (λ (n : ℕ). take (n / 64) (listed_of its.items)) all ∙ all_listed its.items size has.size_is in
     let last = last_piece size taken has.pieces has.taken_is has.some_left all in
     let finished = over.finished ∙ ap (λ (n : ℕ). count_read ∷ first_reads 0x19 4 size n) last
     ∙ ap (λ (n : ℕ). count_read ∷ all_reads 0x19 4 n) has.size_is in
     subst (λ (l : List Listed). Keeps l (stage_for (listed_named l loader_name))) (sym whole)
-    (directory_taken May items top fill w kept over.idle finished has.script has.placed has.begun))
+    (directory_taken May its w kept over.idle finished has.script has.placed has.begun))
     (λ more.
     let another = another_piece size taken has.pieces has.taken_is has.some_left (eqb-false (taken + count) size more) in
-    kept_with May items top fill w now w.script (Asks (read.Entries size (taken + count))) kept (
+    kept_with May its w now w.script (Asks (read.Entries size (taken + count))) kept (
       another.some_left,
       (
         record {

@@ -17,7 +17,7 @@ use Rattle.command_acts.specs.FilesInMemory.{files_in, placed_in}
 use Rattle.command_acts.specs.Runs.{Answers, at_files, placed_at}
 use Rattle.load_states.specs.declared.stage.Stage.TheVariants.{AtCommand}
 use Rattle.load_states.specs.Guarded.{descriptor_at}
-use Rattle.load_states.specs.LoadState.{LoadState, memory_of, items_now}
+use Rattle.load_states.specs.LoadState.{LoadState, Opening, memory_of, items_now}
 use Rattle.load_states.specs.Moves.{file_read, command_moves}
 use Rattle.load_states.specs.Kept.{KeepsNow, HasCarriedOut, IsComing, moves_before}
 use Rattle.load_states.proofs.Looks.{kept_with}
@@ -45,30 +45,28 @@ files_held items m placed before last file lawful are is size held =
     ∙ ap (λ (p : Placed). files_in m before ++ p ∷ []) (file_held items m last file lawful is size held)
 
 -- The firmware goes on behind the file.
-pub file_is_there : (May : Answers) (items : List Item) (top fill : ℕ) (w : LoadState) (index : ℕ)
-    → KeepsNow May items top fill w → (coming : IsComing May items index w)
-    → IsOver (items_now w) (moves_before items index w coming.before) descriptor_at (read_of coming.file.select 0 coming.last.size coming.last.place)
-    w.attached
-    → KeepsOn May items top fill w (record w { stage = AtCommand (suc index) })
-file_is_there May items top fill w index kept coming over =
+pub file_is_there : (May : Answers) (its : Opening) (w : LoadState) (index : ℕ) → KeepsNow May its w → (coming : IsComing May its.items index w)
+    → IsOver (items_now w) (moves_before its.items index w coming.before) descriptor_at
+    (read_of coming.file.select 0 coming.last.size coming.last.place) w.attached → KeepsOn May its w (record w { stage = AtCommand (suc index) })
+file_is_there May its w index kept coming over =
     let script = coming.script in
     let last = coming.last in
     let entry = Allocate last.name coming.align coming.zone in
     let now = files_held (items_now w) (memory_of w) w.placed coming.before last coming.file kept.device.items coming.placed_are coming.there coming.size
     over.held in
-    let one : command_moves items (entry ∷ []) (last ∷ []) ≡ read_of coming.file.select 0 last.size last.place ∷ [] =
-    append-nil (file_read items last) ∙ file_read_is items (items_now w) last coming.file kept.shape coming.there in
+    let one : command_moves its.items (entry ∷ []) (last ∷ []) ≡ read_of coming.file.select 0 last.size last.place ∷ [] =
+    append-nil (file_read its.items last) ∙ file_read_is its.items (items_now w) last coming.file kept.shape coming.there in
     let so_many : length (files_in (memory_of w) coming.before ++ placed_at (files_of (items_now w)) last.name last.place ∷ []) ≡ length coming.before + 1 =
     omega (
       arith,
       length-append (files_in (memory_of w) coming.before) (placed_at (files_of (items_now w)) last.name last.place ∷ []),
       length-map coming.before (placed_in (memory_of w)),
     ) in
-    let reads = moves_of_file May items index last.name coming.align coming.zone w _ coming.before last coming.command coming.run so_many
-    ∙ ap (λ (r : List Finished). moves_before items index w coming.before ++ r) one in
-    kept_with May items top fill w w.listed w.script (AtCommand (suc index)) kept (
+    let reads = moves_of_file May its.items index last.name coming.align coming.zone w _ coming.before last coming.command coming.run so_many
+    ∙ ap (λ (r : List Finished). moves_before its.items index w coming.before ++ r) one in
+    kept_with May its w w.listed w.script (AtCommand (suc index)) kept (
       record { listed = script.listed; script = script.script },
       (let within = slice_get_within w.script index entry coming.command in omega arith),
-      record { idle = over.idle; finished = over.finished ∙ sym (ap (moves_before items (suc index) w) coming.placed_are ∙ reads) },
-      subst (λ (files : List Placed). HasCarriedOut May items (suc index) (at_files (files_of (items_now w)) files []) w) (sym now) coming.run,
+      record { idle = over.idle; finished = over.finished ∙ sym (ap (moves_before its.items (suc index) w) coming.placed_are ∙ reads) },
+      subst (λ (files : List Placed). HasCarriedOut May its.items (suc index) (at_files (files_of (items_now w)) files []) w) (sym now) coming.run,
     )

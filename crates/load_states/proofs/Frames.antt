@@ -7,7 +7,6 @@ use Rattle.std.proofs.lemmas.Bool.{leb-false, ltb-false, le-leb, lt-ltb, and_fro
 use Rattle.vt_outside.specs.Placement.{high_zone}
 use Rattle.vt_bytes.specs.Memory.{Memory, IsRam, at}
 use Rattle.vt_bytes.proofs.Bytes.{bytes_at-same}
-use Rattle.cfg_directory.specs.declared.item.Item.{Item}
 use Rattle.loader_script.specs.declared.refusing.FileInfo.{FileInfo}
 use Rattle.loader_script.specs.Run.{Placed, infos_of}
 use Rattle.cfg_directory.specs.Files.{files_of}
@@ -19,7 +18,7 @@ use Rattle.command_acts.specs.FilesInMemory.{files_in, ArePlaced, IsBeside, IsLo
 use Rattle.command_acts.specs.Placing.{count_places, places_in}
 use Rattle.command_acts.specs.Runs.{Answers}
 use Rattle.load_states.specs.Guarded.{descriptor_at, buffer_at, is_work, is_guarded}
-use Rattle.load_states.specs.LoadState.{LoadState, memory_of, items_now}
+use Rattle.load_states.specs.LoadState.{LoadState, Opening, memory_of, items_now}
 use Rattle.load_states.specs.Kept.{KeepsNow, StageKeeps, IsInZone, IsFilledBios}
 use Rattle.load_states.proofs.Zoned.{IsZoned, above_work, bios_ram}
 use Rattle.load_states.proofs.Shaped.{same_infos, loading_shaped}
@@ -91,33 +90,33 @@ files_same top before after (p ∷ placed) its_top apart zoned same =
 
 -- What a step of the firmware or of the device leaves: what a load keeps at each moment, and memory as it was outside of the work range and of
 -- placed files, where more may be placed than were.
-pub record KeepsOn (May : Answers) (items : List Item) (top fill : ℕ) (w next : LoadState) : Type 0 where
-  pub now : KeepsNow May items top fill next
+pub record KeepsOn (May : Answers) (its : Opening) (w next : LoadState) : Type 0 where
+  pub now : KeepsNow May its next
   pub beside : (address : ℕ) → AllByRecursion (IsBeside address) next.placed → AllByRecursion (IsBeside address) w.placed
-  pub outside : (address : ℕ) → IsRam top address → is_work address ≡ false → AllByRecursion (IsBeside address) next.placed
+  pub outside : (address : ℕ) → IsRam its.top address → is_work address ≡ false → AllByRecursion (IsBeside address) next.placed
       → at (memory_of next) address ≡ at (memory_of w) address
 
 -- the BIOS area is outside of the work range
-pub bios_outside : (May : Answers) (items : List Item) (top fill : ℕ) (w next : LoadState) → KeepsNow May items top fill w
+pub bios_outside : (May : Answers) (its : Opening) (w next : LoadState) → KeepsNow May its w
     → ((address : ℕ) → AllByRecursion (IsBeside address) next.placed → AllByRecursion (IsBeside address) w.placed)
-    → ((address : ℕ) → IsRam top address → is_work address ≡ false → AllByRecursion (IsBeside address) next.placed
+    → ((address : ℕ) → IsRam its.top address → is_work address ≡ false → AllByRecursion (IsBeside address) next.placed
     → at (memory_of next) address ≡ at (memory_of w) address)
-    → IsFilledBios fill next
-bios_outside May items top fill w next kept beside same address from below other =
-    same address (bios_ram top address from below) (above_work address (omega arith)) other ∙ kept.bios address from below (beside address other)
+    → IsFilledBios its.fill next
+bios_outside May its w next kept beside same address from below other =
+    same address (bios_ram its.top address from below) (above_work address (omega arith)) other ∙ kept.bios address from below (beside address other)
 
--- A step goes so if it changes no byte but in the work range and in placed files, and of items their bytes at most, places no file, and what holds
+-- A step goes so if it changes no byte but in the work range and in placed files, and of its.items their bytes at most, places no file, and what holds
 -- at its new stage holds.
-pub kept_from : (May : Answers) (items : List Item) (top fill : ℕ) (w next : LoadState)
-    → KeepsNow May items top fill w → GoesOn w.attached next.attached → HaveOneShape (items_now w) (items_now next)
+pub kept_from : (May : Answers) (its : Opening) (w next : LoadState)
+    → KeepsNow May its w → GoesOn w.attached next.attached → HaveOneShape (items_now w) (items_now next)
     → next.placed ≡ w.placed
-    → ((address : ℕ) → IsRam top address → is_work address ≡ false → AllByRecursion (IsBeside address) w.placed
+    → ((address : ℕ) → IsRam its.top address → is_work address ≡ false → AllByRecursion (IsBeside address) w.placed
     → at (memory_of next) address ≡ at (memory_of w) address)
-    → StandsWhereLeft next.attached.device → StageKeeps May items next next.stage → KeepsOn May items top fill w next
-kept_from May items top fill w next kept goes shape placed same stands stage =
+    → StandsWhereLeft next.attached.device → StageKeeps May its.items next next.stage → KeepsOn May its w next
+kept_from May its w next kept goes shape placed same stands stage =
     let before : (address : ℕ) → AllByRecursion (IsBeside address) next.placed → AllByRecursion (IsBeside address) w.placed =
     λ address beside. subst (AllByRecursion (IsBeside address)) placed beside in
-    let outside : (address : ℕ) → IsRam top address → is_work address ≡ false → AllByRecursion (IsBeside address) next.placed
+    let outside : (address : ℕ) → IsRam its.top address → is_work address ≡ false → AllByRecursion (IsBeside address) next.placed
     → at (memory_of next) address ≡ at (memory_of w) address = λ address ram other beside. same address ram other (before address beside) in
     record {
       now = record {
@@ -131,13 +130,13 @@ kept_from May items top fill w next kept goes shape placed same stands stage =
         memory = goes.memory;
         top = goes.top ∙ kept.top;
         fill = goes.fill ∙ kept.fill;
-        loading = subst (IsLoading top (files_of (items_now next))) (sym placed)
-            (loading_shaped top (items_now w) (items_now next) w.placed shape kept.loading);
-        zones = subst (AllByRecursion (IsInZone top)) (sym placed) kept.zones;
+        loading = subst (IsLoading its.top (files_of (items_now next))) (sym placed)
+            (loading_shaped its.top (items_now w) (items_now next) w.placed shape kept.loading);
+        zones = subst (AllByRecursion (IsInZone its.top)) (sym placed) kept.zones;
         count = subst (λ (files : List PlacedFile). length files ≡ count_places (places_in files (infos_of (files_of (items_now next))))) (sym placed)
             (subst (λ (infos : List FileInfo). length w.placed ≡ count_places (places_in w.placed infos))
             (sym (same_infos (items_now w) (items_now next) shape)) kept.count);
-        bios = bios_outside May items top fill w next kept before outside;
+        bios = bios_outside May its w next kept before outside;
         stage = stage;
       };
       beside = before;

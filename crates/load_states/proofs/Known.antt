@@ -20,7 +20,7 @@ use Rattle.load_states.specs.declared.reading.Reading.{Reading}
 use Rattle.load_states.specs.declared.reading.Reading.TheVariants as read
 use Rattle.load_states.specs.declared.stage.Stage.{Stage}
 use Rattle.load_states.specs.Guarded.{descriptor_at, buffer_at, buffer_size, is_work, is_guarded}
-use Rattle.load_states.specs.LoadState.{LoadState, memory_of, items_now}
+use Rattle.load_states.specs.LoadState.{LoadState, Opening, memory_of, items_now}
 use Rattle.load_states.specs.Steps.{Asking, asked, asking_for, script_control}
 use Rattle.load_states.specs.Moves.{count_read, piece_read, most_transfers}
 use Rattle.load_states.specs.Kept.{KeepsNow, IsComing, HasCarriedOut, Knows, LoadRead, IsLeft, read_by}
@@ -125,25 +125,25 @@ known_still May items w a s reading its stays known =
 -- ---- the read
 
 -- it can be carried out, where it isn't empty
-pub can_read : (May : Answers) (items : List Item) (top fill : ℕ) (w : LoadState) (reading : Reading)
-    → KeepsNow May items top fill w → (known : Knows May items w reading) → 0 < (read_by May items w reading known).transfer.length
-    → CanRead (items_now w) top descriptor_at (read_by May items w reading known).transfer
-can_read May items top fill w read.Count kept known some =
-    subst (λ (is : List Item). CanRead is top descriptor_at count_read) (sym known.begun) (count_can items top kept.names)
-can_read May items top fill w (read.Entries size taken) kept known some =
+pub can_read : (May : Answers) (its : Opening) (w : LoadState) (reading : Reading) → KeepsNow May its w → (known : Knows May its.items w reading)
+    → 0 < (read_by May its.items w reading known).transfer.length → CanRead (items_now w) its.top descriptor_at
+    (read_by May its.items w reading known).transfer
+can_read May its w read.Count kept known some =
+    subst (λ (is : List Item). CanRead is its.top descriptor_at count_read) (sym known.begun) (count_can its.items its.top kept.names)
+can_read May its w (read.Entries size taken) kept known some =
     let below : buffer_size * known.pieces < size = omega (arith, known.taken_is, known.some_left) in
-    let within : 4 + size ≤ length (contents items 0x19) = omega (arith, known.size_is, directory_holds items kept.names) in
-    subst (λ (is : List Item). CanRead is top descriptor_at (piece_read 0x19 4 size known.pieces)) (sym known.begun)
-    (piece_can items top 0x19 4 size known.pieces within below)
-can_read May items top fill w (read.Commands select size taken) kept known some =
+    let within : 4 + size ≤ length (contents its.items 0x19) = omega (arith, known.size_is, directory_holds its.items kept.names) in
+    subst (λ (is : List Item). CanRead is its.top descriptor_at (piece_read 0x19 4 size known.pieces)) (sym known.begun)
+    (piece_can its.items its.top 0x19 4 size known.pieces within below)
+can_read May its w (read.Commands select size taken) kept known some =
     let below : buffer_size * known.pieces < size = omega (arith, known.taken_is, known.some_left) in
-    subst (λ (is : List Item). CanRead is top descriptor_at (piece_read select 0 size known.pieces)) (sym known.begun)
-    (script_can items top known.loader select size known.pieces kept.lawful known.there known.select_is known.size_is below)
-can_read May items top fill w (read.File index) kept known some =
+    subst (λ (is : List Item). CanRead is its.top descriptor_at (piece_read select 0 size known.pieces)) (sym known.begun)
+    (script_can its.items its.top known.loader select size known.pieces kept.lawful known.there known.select_is known.size_is below)
+can_read May its w (read.File index) kept known some =
     let last = known.last in
-    file_can (items_now w) top last.name known.file last kept.device.items known.there known.size some
-    (are_before top w.placed known.before last known.placed_are kept.loading.apart).ram
-    (of_last (IsZoned top) w.placed known.before last known.placed_are (zoned_files kept))
+    file_can (items_now w) its.top last.name known.file last kept.device.items known.there known.size some
+    (are_before its.top w.placed known.before last known.placed_are kept.loading.apart).ram
+    (of_last (IsZoned its.top) w.placed known.before last known.placed_are (zoned_files kept))
 
 -- one into the buffer isn't empty
 pub some_read : (May : Answers) (items : List Item) (w : LoadState) (reading : Reading) → IsLeft reading → (known : Knows May items w reading)

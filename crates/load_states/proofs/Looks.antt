@@ -18,7 +18,7 @@ use Rattle.command_acts.specs.declared.fault.LoadFault.{LoadFault}
 use Rattle.command_acts.specs.Runs.{Answers, EndsWith, result_of}
 use Rattle.command_acts.specs.Script.{script_in}
 use Rattle.load_states.specs.declared.stage.Stage.{Stage}
-use Rattle.load_states.specs.LoadState.{LoadState, items_now, progress_of}
+use Rattle.load_states.specs.LoadState.{LoadState, Opening, items_now, progress_of}
 use Rattle.load_states.specs.Kept.{KeepsNow, StageKeeps, HasEnded}
 use Rattle.load_states.proofs.Frames.{KeepsOn, kept_from}
 
@@ -41,20 +41,18 @@ over_now items before descriptor control transfer a some fits awaited zero = eli
 ]
 
 -- A step of the firmware that takes something from the buffer, or goes on, keeps what is kept where its new stage does.
-pub kept_with : (May : Answers) (items : List Item) (top fill : ℕ) (w : LoadState) (listed : List Listed) (script : List Entry)
-    (stage : Stage) → KeepsNow May items top fill w
-    → StageKeeps May items (record w { listed = listed; script = script; stage = stage }) stage
-    → KeepsOn May items top fill w (record w { listed = listed; script = script; stage = stage })
-kept_with May items top fill w listed script stage kept held =
+pub kept_with : (May : Answers) (its : Opening) (w : LoadState) (listed : List Listed) (script : List Entry) (stage : Stage) → KeepsNow May its w
+    → StageKeeps May its.items (record w { listed = listed; script = script; stage = stage }) stage → KeepsOn May its w
+    (record w { listed = listed; script = script; stage = stage })
+kept_with May its w listed script stage kept held =
     let next : LoadState = record w { listed = listed; script = script; stage = stage } in
-    kept_from May items top fill w next kept
+    kept_from May its w next kept
     (record { room = refl; opening = refl; device = kept.device; memory = kept.memory; top = refl; fill = refl }) refl refl
     (λ address ram other beside. refl) kept.stands held
 
 -- A step of a firmware that waits keeps it.
-pub kept_waiting : (May : Answers) (items : List Item) (top fill : ℕ) (w : LoadState) → KeepsNow May items top fill w
-    → KeepsOn May items top fill w w
-kept_waiting May items top fill w kept = kept_with May items top fill w w.listed w.script w.stage kept kept.stage
+pub kept_waiting : (May : Answers) (its : Opening) (w : LoadState) → KeepsNow May its w → KeepsOn May its w w
+kept_waiting May its w kept = kept_with May its w w.listed w.script w.stage kept kept.stage
 
 -- a load without a script has ended, with nothing placed
 pub ended_unread : (May : Answers) (items : List Item) (why : LoadFault) (w : LoadState) → w.attached.device.flight ≡ None → script_in items ≡ Err why

@@ -16,7 +16,7 @@ use Rattle.load_states.specs.declared.stage.Stage.{Stage}
 use Rattle.load_states.specs.declared.reading.Reading.{Reading}
 use Rattle.load_states.specs.declared.stage.Stage.TheVariants.{Asks, Awaits, AtCommand, AwaitsSkip, AsksWrite, AwaitsWrite, Done, Refused}
 use Rattle.load_states.specs.Kept.{KeepsNow, IsKept, StageKeeps, IsNext, IsAwaiting, IsPointing, HasEnded, Knows, read_by}
-use Rattle.load_states.specs.LoadState.{LoadState, items_now, progress_of}
+use Rattle.load_states.specs.LoadState.{LoadState, Opening, items_now, progress_of}
 use Rattle.load_states.proofs.Known.{Still, known_in}
 
 -- whatever one may answer so may the other
@@ -94,9 +94,8 @@ stage_more May More items w Done more keeps = (ended_more May More items (Ok tt)
 stage_more May More items w (Refused why) more keeps = ended_more May More items (Err why) w more keeps
 
 -- What is kept at a moment is kept.
-pub now_more : (May More : Answers) → MayMore May More → (items : List Item) (top fill : ℕ) (w : LoadState)
-    → KeepsNow May items top fill w → KeepsNow More items top fill w
-now_more May More more items top fill w kept = record {
+pub now_more : (May More : Answers) → MayMore May More → (its : Opening) (w : LoadState) → KeepsNow May its w → KeepsNow More its w
+now_more May More more its w kept = record {
   lawful = kept.lawful;
   names = kept.names;
   opening = kept.opening;
@@ -111,11 +110,10 @@ now_more May More more items top fill w kept = record {
   zones = kept.zones;
   count = kept.count;
   bios = kept.bios;
-  stage = stage_more May More items w w.stage more kept.stage;
+  stage = stage_more May More its.items w w.stage more kept.stage;
 }
 
 -- And what is kept over events.
-pub kept_more : (May More : Answers) → MayMore May More → (items : List Item) (top fill : ℕ) (events : List Event) (w : LoadState)
-    → IsKept May items top fill events w → IsKept More items top fill events w
-kept_more May More more items top fill events w kept =
-    record { now = now_more May More more items top fill w kept.now; others = kept.others }
+pub kept_more : (May More : Answers) → MayMore May More → (its : Opening) (events : List Event) (w : LoadState) → IsKept May its events w
+    → IsKept More its events w
+kept_more May More more its events w kept = record { now = now_more May More more its w kept.now; others = kept.others }

@@ -23,7 +23,7 @@ use Rattle.load_states.specs.declared.event.Event.TheVariants.{Device, Firmware,
 use Rattle.load_states.specs.declared.stage.Stage.{Stage}
 use Rattle.load_states.specs.declared.stage.Stage.TheVariants.{Asks, Awaits, AtCommand, AwaitsSkip, AsksWrite, AwaitsWrite, Done, Refused}
 use Rattle.load_states.specs.Kept.{KeepsNow, StageKeeps, HasScript}
-use Rattle.load_states.specs.LoadState.{LoadState, items_now, progress_of}
+use Rattle.load_states.specs.LoadState.{LoadState, Opening, items_now, progress_of}
 use Rattle.load_states.specs.Runs.{StepsTo, request_of, request_at}
 use Rattle.load_states.specs.Steps.{is_over, taken_of, carried_out, commanded, at_command, placed_at, skips, writes, passed}
 use Rattle.load_states.proofs.Readings.{no_room_of, HasRoom, taken_has_room}
@@ -140,14 +140,13 @@ firmware_comes May Kept items k w next (Refused why) shape at keeps is stage =
     inl (ap no_room_of (sym at) ∙ ap (λ (m : LoadState). no_room_of m.stage) (sym is) ∙ stage)
 
 -- A step that comes to NoRoom was there before, or asks what the command of that index asks, however places are answered.
-pub no_room_asks : (May Kept : Answers) (items : List Item) (top fill : ℕ) (event : Event) (w next : LoadState) (index : ℕ)
-    → KeepsNow Kept items top fill w → StepsTo May event w next → next.stage ≡ Refused (NoRoom index)
-    → (no_room_of w.stage ≡ Some index) ⊎ IsAsked items index (request_of event w)
-no_room_asks May Kept items top fill (Device bytes) w next index kept is stage =
+pub no_room_asks : (May Kept : Answers) (its : Opening) (event : Event) (w next : LoadState) (index : ℕ) → KeepsNow Kept its w
+    → StepsTo May event w next → next.stage ≡ Refused (NoRoom index) → (no_room_of w.stage ≡ Some index) ⊎ IsAsked its.items index
+    (request_of event w)
+no_room_asks May Kept its (Device bytes) w next index kept is stage = inl (ap (λ (m : LoadState). no_room_of m.stage) (sym is) ∙ ap no_room_of stage)
+no_room_asks May Kept its Firmware w next index kept is stage =
+    firmware_comes May Kept its.items index w next w.stage kept.shape refl kept.stage is (ap no_room_of stage)
+no_room_asks May Kept its (Other address byte) w next index kept is stage =
     inl (ap (λ (m : LoadState). no_room_of m.stage) (sym is) ∙ ap no_room_of stage)
-no_room_asks May Kept items top fill Firmware w next index kept is stage =
-    firmware_comes May Kept items index w next w.stage kept.shape refl kept.stage is (ap no_room_of stage)
-no_room_asks May Kept items top fill (Other address byte) w next index kept is stage =
-    inl (ap (λ (m : LoadState). no_room_of m.stage) (sym is) ∙ ap no_room_of stage)
-no_room_asks May Kept items top fill Reset w next index kept is stage =
+no_room_asks May Kept its Reset w next index kept is stage =
     absurd (none-some index (sym (ap (λ (m : LoadState). no_room_of m.stage) is) ∙ ap no_room_of stage))

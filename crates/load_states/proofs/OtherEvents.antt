@@ -25,7 +25,7 @@ use Rattle.load_states.specs.declared.event.Event.TheVariants.{Other}
 use Rattle.load_states.specs.declared.stage.Stage.{Stage}
 use Rattle.load_states.specs.declared.stage.Stage.TheVariants.{Asks, Awaits, AtCommand, AwaitsSkip, AsksWrite, AwaitsWrite, Done, Refused}
 use Rattle.load_states.specs.Guarded.{descriptor_at, buffer_at, is_work, is_guarded, written_by_other}
-use Rattle.load_states.specs.LoadState.{LoadState, memory_of, with_memory, items_now}
+use Rattle.load_states.specs.LoadState.{LoadState, Opening, memory_of, with_memory, items_now}
 use Rattle.load_states.specs.Kept.{IsKept, KeepsNow, StageKeeps, IsNext, IsAwaiting, IsCleared, HasCarriedOut, HasSkipped, HasEnded, read_by}
 use Rattle.load_states.proofs.LeftByOthers.{left_more, told_before}
 use Rattle.load_states.proofs.Frames.{descriptor_is_work, buffer_is_work, work_is_guarded, files_same}
@@ -245,13 +245,13 @@ stage_same May items top w m (Refused why) its_top keeps_top apart zoned stay ke
 -- ---- the event
 
 -- A write of another processor keeps what the load keeps at each moment.
-pub other_keeps_now : (May : Answers) (items : List Item) (top fill : ℕ) (w : LoadState) (address byte : ℕ) → KeepsNow May items top fill w
-    → KeepsNow May items top fill (with_memory w (written_by_other address byte (memory_of w)))
-other_keeps_now May items top fill w address byte kept =
+pub other_keeps_now : (May : Answers) (its : Opening) (w : LoadState) (address byte : ℕ) → KeepsNow May its w → KeepsNow May its
+    (with_memory w (written_by_other address byte (memory_of w)))
+other_keeps_now May its w address byte kept =
     let m = memory_of w in
     let after = written_by_other address byte m in
     let lawful = other_lawful m address byte kept.memory in
-    let stay : GuardedStay top m after = subst (λ t. GuardedStay t m after) kept.top (guarded_stay m address byte kept.memory) in
+    let stay : GuardedStay its.top m after = subst (λ t. GuardedStay t m after) kept.top (guarded_stay m address byte kept.memory) in
     record {
       lawful = kept.lawful;
       names = kept.names;
@@ -267,19 +267,18 @@ other_keeps_now May items top fill w address byte kept =
       zones = kept.zones;
       count = kept.count;
       bios = λ place from below beside.
-          stay place (bios_ram top place from below) (bios_guarded top place from below) ∙ kept.bios place from below beside;
-      stage = stage_same May items top w after w.stage kept.top lawful.1 kept.loading.apart (zoned_files kept) stay kept.stage;
+          stay place (bios_ram its.top place from below) (bios_guarded its.top place from below) ∙ kept.bios place from below beside;
+      stage = stage_same May its.items its.top w after w.stage kept.top lawful.1 kept.loading.apart (zoned_files kept) stay kept.stage;
     }
 
 -- And over events.
-pub other_keeps : (May : Answers) (items : List Item) (top fill : ℕ) (events : List Event) (w : LoadState) (address byte : ℕ)
-    → IsKept May items top fill events w
-    → IsKept May items top fill (events ++ Other address byte ∷ []) (with_memory w (written_by_other address byte (memory_of w)))
-other_keeps May items top fill events w address byte kept = record {
-  now = other_keeps_now May items top fill w address byte kept.now;
+pub other_keeps : (May : Answers) (its : Opening) (events : List Event) (w : LoadState) (address byte : ℕ) → IsKept May its events w → IsKept May its
+    (events ++ Other address byte ∷ []) (with_memory w (written_by_other address byte (memory_of w)))
+other_keeps May its events w address byte kept = record {
+  now = other_keeps_now May its w address byte kept.now;
   others = λ place ram other beside told.
       at_other (memory_of w) address byte place kept.now.memory (subst (λ t. IsRam t place) (sym kept.now.top) ram)
       ∙ ap₂ (λ t held. if address == place && not (is_guarded t place) then byte else held) kept.now.top
-      (kept.others place ram other beside (told_before top events (Other address byte ∷ []) place refl told))
-      ∙ sym (left_more top fill events (Other address byte ∷ []) place);
+      (kept.others place ram other beside (told_before its.top events (Other address byte ∷ []) place refl told))
+      ∙ sym (left_more its.top its.fill events (Other address byte ∷ []) place);
 }

@@ -10,7 +10,7 @@ use Rattle.load_states.specs.declared.reading.Reading.{Reading}
 use Rattle.load_states.specs.declared.reading.Reading.TheVariants as read
 use Rattle.load_states.specs.declared.stage.Stage.TheVariants.{Awaits, Asks, AtCommand, AwaitsSkip, AsksWrite, AwaitsWrite, Done, Refused}
 use Rattle.load_states.specs.Guarded.{descriptor_at, buffer_size}
-use Rattle.load_states.specs.LoadState.{LoadState, items_now, listed_named}
+use Rattle.load_states.specs.LoadState.{LoadState, Opening, items_now, listed_named}
 use Rattle.load_states.specs.Steps.{is_over, taken_of, firmware_step, asked, buffered, stage_for}
 use Rattle.load_states.specs.Kept.{KeepsNow, StageKeeps, Knows, LoadRead, read_by, HasEntries, HasCommands, with_entries, with_commands}
 use Rattle.vt_bytes.specs.Numbers.{be}
@@ -42,33 +42,31 @@ abbrev pub IsReadOver : LoadRead → LoadState → Type 0
 IsReadOver r w = IsOver (items_now w) r.before descriptor_at r.transfer w.attached
 
 -- what is taken of it
-taken_keeps : (May : Answers) (items : List Item) (top fill : ℕ) (w : LoadState) (reading : Reading)
-    → KeepsNow May items top fill w → (known : Knows May items w reading) → IsReadOver (read_by May items w reading known) w
-    → KeepsOn May items top fill w (taken_of reading w)
-taken_keeps May items top fill w read.Count kept known over =
-    count_taken May items top fill w kept known (subst (λ (is : List Item). IsOver is [] descriptor_at count_read w.attached) known.begun over)
-taken_keeps May items top fill w (read.Entries size taken) kept known over =
-    entries_are_taken May items top fill w size taken kept known
+taken_keeps : (May : Answers) (its : Opening) (w : LoadState) (reading : Reading) → KeepsNow May its w → (known : Knows May its.items w reading)
+    → IsReadOver (read_by May its.items w reading known) w → KeepsOn May its w (taken_of reading w)
+taken_keeps May its w read.Count kept known over =
+    count_taken May its w kept known (subst (λ (is : List Item). IsOver is [] descriptor_at count_read w.attached) known.begun over)
+taken_keeps May its w (read.Entries size taken) kept known over =
+    entries_are_taken May its w size taken kept known
     (subst (λ (is : List Item). IsOver is (with_entries size known.pieces) descriptor_at (piece_read 0x19 4 size known.pieces) w.attached) known.begun
     over)
-taken_keeps May items top fill w (read.Commands select size taken) kept known over =
-    commands_are_taken May items top fill w select size taken kept known
-    (subst (λ (is : List Item). IsOver is (with_commands items select size known.pieces) descriptor_at (piece_read select 0 size known.pieces) w.attached)
+taken_keeps May its w (read.Commands select size taken) kept known over =
+    commands_are_taken May its w select size taken kept known
+    (subst (λ (is : List Item). IsOver is (with_commands its.items select size known.pieces) descriptor_at (piece_read select 0 size known.pieces) w.attached)
     known.begun over)
-taken_keeps May items top fill w (read.File index) kept known over = file_is_there May items top fill w index kept known over
+taken_keeps May its w (read.File index) kept known over = file_is_there May its w index kept known over
 
 -- The firmware takes it where it is over, and else waits.
-pub awaits_keeps : (May : Answers) (items : List Item) (top fill : ℕ) (w : LoadState) (reading : Reading)
-    → KeepsNow May items top fill w → StageKeeps May items w (Awaits reading)
-    → KeepsOn May items top fill w (firmware_step (Awaits reading) None w)
-awaits_keeps May items top fill w reading kept keeps =
+pub awaits_keeps : (May : Answers) (its : Opening) (w : LoadState) (reading : Reading) → KeepsNow May its w → StageKeeps May its.items w
+    (Awaits reading) → KeepsOn May its w (firmware_step (Awaits reading) None w)
+awaits_keeps May its w reading kept keeps =
     let known = keeps.0 in
-    let r = read_by May items w reading known in
-    let word = word_of May items w reading kept.lawful kept.device.items known in
-    by_test (KeepsOn May items top fill w) (is_over w) (taken_of reading w) w
-    (λ zero. taken_keeps May items top fill w reading kept known
+    let r = read_by May its.items w reading known in
+    let word = word_of May its.items w reading kept.lawful kept.device.items known in
+    by_test (KeepsOn May its w) (is_over w) (taken_of reading w) w
+    (λ zero. taken_keeps May its w reading kept known
     (over_now (items_now w) r.before descriptor_at r.control r.transfer w.attached word.0 word.1 keeps.1 zero))
-    (λ still. kept_waiting May items top fill w kept)
+    (λ still. kept_waiting May its w kept)
 
 -- ---- the steps that are left
 

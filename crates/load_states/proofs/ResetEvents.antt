@@ -5,7 +5,6 @@ use Rattle.std.proofs.lemmas.Bool.{cases_lt, true≢false}
 use Rattle.std.proofs.lemmas.Bool.Decides.{nat_tests}
 use Rattle.vt_bytes.specs.Memory.{Memory, IsMemory, IsTop, at}
 use Rattle.vt_bytes.proofs.Memories.{lawful_with}
-use Rattle.cfg_directory.specs.declared.item.Item.{Item}
 use Rattle.cfg_directory.specs.Items.{IsItems}
 use Rattle.cfg_directory.specs.Files.{files_of}
 use Rattle.cfg_directory.specs.Shapes.{shape_of}
@@ -16,7 +15,7 @@ use Rattle.command_acts.specs.Runs.{Answers}
 use Rattle.load_states.specs.declared.event.Event.{Event}
 use Rattle.load_states.specs.declared.event.Event.TheVariants.{Reset}
 use Rattle.load_states.specs.Guarded.{is_high}
-use Rattle.load_states.specs.LoadState.{LoadState, memory_of}
+use Rattle.load_states.specs.LoadState.{LoadState, Opening, memory_of}
 use Rattle.load_states.specs.Kept.{IsInZone, IsKept, KeepsNow, IsTold}
 use Rattle.load_states.specs.Runs.{left_by_others}
 use Rattle.load_states.specs.Steps.{refilled, restarted}
@@ -77,11 +76,11 @@ told_beside top events address told = elim told as (λ _. is_high top address �
   | inr beside ↦ beside
 ]
 
--- The memory behind a reset holds at an address what it should, if it did where it isn't filled, and where it is the fill byte should stand there.
-reset_holds : (May : Answers) (items : List Item) (top fill : ℕ) (w : LoadState) (address held : ℕ) → KeepsNow May items top fill w
-    → ((address < 0xF0000) ⊎ (0x100000 ≤ address) → at (memory_of w) address ≡ held) → (0xF0000 ≤ address → address < 0x100000 → fill ≡ held)
-    → at (refilled (memory_of w)) address ≡ held
-reset_holds May items top fill w address held kept outside inside =
+-- The memory behind a reset holds at an address what it should, if it did where it isn't filled, and where it is the its.fill byte should stand there.
+reset_holds : (May : Answers) (its : Opening) (w : LoadState) (address held : ℕ) → KeepsNow May its w →
+    ((address < 0xF0000) ⊎ (0x100000 ≤ address) → at (memory_of w) address ≡ held) → (0xF0000 ≤ address → address < 0x100000 → its.fill ≡ held) → at
+    (refilled (memory_of w)) address ≡ held
+reset_holds May its w address held kept outside inside =
     let m = memory_of w in
     let beside : (address < 0xF0000) ⊎ (0x100000 ≤ address) → at (refilled m) address ≡ held = λ segment.
     refilled_other m address kept.memory segment ∙ outside segment in
@@ -96,9 +95,8 @@ reset_holds May items top fill w address held kept outside inside =
 -- ---- all that is kept
 
 -- at each moment
-pub reset_keeps_now : (May : Answers) (items : List Item) (top fill : ℕ) (w : LoadState) → KeepsNow May items top fill w
-    → KeepsNow May items top fill (restarted w)
-reset_keeps_now May items top fill w kept = record {
+pub reset_keeps_now : (May : Answers) (its : Opening) (w : LoadState) → KeepsNow May its w → KeepsNow May its (restarted w)
+reset_keeps_now May its w kept = record {
   lawful = kept.lawful;
   names = kept.names;
   opening = kept.opening;
@@ -113,9 +111,9 @@ reset_keeps_now May items top fill w kept = record {
   zones = tt;
   count = nothing_placed (infos_of (files_of w.attached.device.opening));
   bios = λ address from below beside.
-      reset_holds May items top fill w address fill kept
+      reset_holds May its w address its.fill kept
       (λ segment. kept.bios address from below
-      (beside_zones top address w.placed (bios_not_high top address (subst IsTop kept.top kept.memory.top) below) segment kept.zones))
+      (beside_zones its.top address w.placed (bios_not_high its.top address (subst IsTop kept.top kept.memory.top) below) segment kept.zones))
       (λ above within. refl);
   stage = (
     tt,
@@ -127,14 +125,14 @@ reset_keeps_now May items top fill w kept = record {
 }
 
 -- and over events
-pub reset_keeps : (May : Answers) (items : List Item) (top fill : ℕ) (events : List Event) (w : LoadState) → IsKept May items top fill events w
-    → IsKept May items top fill (events ++ Reset ∷ []) (restarted w)
-reset_keeps May items top fill events w kept = record {
-  now = reset_keeps_now May items top fill w kept.now;
+pub reset_keeps : (May : Answers) (its : Opening) (events : List Event) (w : LoadState) → IsKept May its events w → IsKept May its
+    (events ++ Reset ∷ []) (restarted w)
+reset_keeps May its events w kept = record {
+  now = reset_keeps_now May its w kept.now;
   others = λ address ram other beside told.
-      let high = told_beside top events address told in
-      reset_holds May items top fill w address (left_by_others top fill events address) kept.now
-      (λ segment. kept.others address ram other (beside_zones top address w.placed high segment kept.now.zones) (inr high))
-      (λ from within. sym (guarded_stays top fill events address (bios_guarded top address (omega arith) within)))
-      ∙ sym (left_more top fill events (Reset ∷ []) address);
+      let high = told_beside its.top events address told in
+      reset_holds May its w address (left_by_others its.top its.fill events address) kept.now
+      (λ segment. kept.others address ram other (beside_zones its.top address w.placed high segment kept.now.zones) (inr high))
+      (λ from within. sym (guarded_stays its.top its.fill events address (bios_guarded its.top address (omega arith) within)))
+      ∙ sym (left_more its.top its.fill events (Reset ∷ []) address);
 }

@@ -19,7 +19,7 @@ use Rattle.command_acts.specs.Runs.{Answers, at_files}
 use Rattle.command_acts.specs.Script.{script_from, script_in}
 use Rattle.load_states.specs.declared.reading.Reading.TheVariants as read
 use Rattle.load_states.specs.declared.stage.Stage.TheVariants.{Asks, AtCommand, Refused}
-use Rattle.load_states.specs.LoadState.{LoadState, memory_of, items_now, progress_of, listed_named}
+use Rattle.load_states.specs.LoadState.{LoadState, Opening, memory_of, items_now, progress_of, listed_named}
 use Rattle.load_states.specs.Steps.{stage_for}
 use Rattle.load_states.specs.Moves.{all_reads, directory_reads, script_reads}
 use Rattle.load_states.specs.Kept.{KeepsNow, IsIdle, HasCarriedOut, StageKeeps, moves_before}
@@ -116,13 +116,12 @@ stage_found May items w (Some file) are is idle listed script placed begun =
     (λ some. script_asked May items w file are is lawful (eqb-false size 0 some) idle listed script placed begun))
 
 -- The firmware has taken the whole directory, and looks for the script.
-pub directory_taken : (May : Answers) (items : List Item) (top fill : ℕ) (w : LoadState) → KeepsNow May items top fill w
-    → w.attached.device.flight ≡ None → w.attached.device.finished ≡ directory_reads items → w.script ≡ [] → w.placed ≡ []
-    → items_now w ≡ items → KeepsOn May items top fill w
-    (record w { listed = listed_of items; stage = stage_for (listed_named (listed_of items) loader_name) })
-directory_taken May items top fill w kept idle finished script placed begun =
-    let after : Option Listed → LoadState = λ found. record w { listed = listed_of items; stage = stage_for found } in
-    let found = option_map listing (named items loader_name) in
-    subst (λ (o : Option Listed). KeepsOn May items top fill w (after o)) (sym (listed_as_named items loader_name))
-    (kept_with May items top fill w (listed_of items) w.script (stage_for found) kept
-    (stage_found May items (after found) (named items loader_name) kept.lawful refl (record { idle = idle; finished = finished }) refl script placed begun))
+pub directory_taken : (May : Answers) (its : Opening) (w : LoadState) → KeepsNow May its w → w.attached.device.flight ≡ None
+    → w.attached.device.finished ≡ directory_reads its.items → w.script ≡ [] → w.placed ≡ [] → items_now w ≡ its.items → KeepsOn May its w
+    (record w { listed = listed_of its.items; stage = stage_for (listed_named (listed_of its.items) loader_name) })
+directory_taken May its w kept idle finished script placed begun =
+    let after : Option Listed → LoadState = λ found. record w { listed = listed_of its.items; stage = stage_for found } in
+    let found = option_map listing (named its.items loader_name) in
+    subst (λ (o : Option Listed). KeepsOn May its w (after o)) (sym (listed_as_named its.items loader_name))
+    (kept_with May its w (listed_of its.items) w.script (stage_for found) kept
+    (stage_found May its.items (after found) (named its.items loader_name) kept.lawful refl (record { idle = idle; finished = finished }) refl script placed begun))

@@ -17,7 +17,7 @@ use Rattle.load_states.specs.declared.stage.Stage.{Stage}
 use Rattle.load_states.specs.declared.reading.Reading.TheVariants as read
 use Rattle.load_states.specs.declared.stage.Stage.TheVariants.{Asks, AtCommand}
 use Rattle.load_states.specs.Guarded.{descriptor_at, buffer_at, buffer_size}
-use Rattle.load_states.specs.LoadState.{LoadState, memory_of}
+use Rattle.load_states.specs.LoadState.{LoadState, Opening, memory_of}
 use Rattle.load_states.specs.Steps.{asked, buffered, commands_taken, script_control}
 use Rattle.load_states.specs.Moves.{piece_read, first_reads, all_reads, directory_reads, script_reads}
 use Rattle.load_states.specs.Kept.{KeepsNow, HasCommands, with_commands}
@@ -58,18 +58,18 @@ record IsLoader (items : List Item) (select size : ℕ) (whole : List Entry) : T
   reads : script_reads items ≡ all_reads select 0 size
 
 -- what it has says so
-its_loader : (May : Answers) (items : List Item) (top fill : ℕ) (w : LoadState) (select size taken : ℕ)
-    → KeepsNow May items top fill w → (has : HasCommands items select size taken w) → IsLoader items select size has.whole
-its_loader May items top fill w select size taken kept has =
+its_loader : (May : Answers) (its : Opening) (w : LoadState) (select size taken : ℕ) → KeepsNow May its w →
+    (has : HasCommands its.items select size taken w) → IsLoader its.items select size has.whole
+its_loader May its w select size taken kept has =
     let bytes = has.loader.bytes in
     let is = script_is bytes has.whole (sym (ap script_from has.there) ∙ has.whole_is) in
     record {
       bytes = bytes;
       size_is = has.size_is;
-      contents_are = ap (contents items) has.select_is ∙ contents_named items loader_name has.loader kept.lawful has.there;
+      contents_are = ap (contents its.items) has.select_is ∙ contents_named its.items loader_name has.loader kept.lawful has.there;
       units = ap (λ (n : ℕ). n % 128) has.size_is ∙ script_whole (length bytes) is.lawful;
       whole_is = ap (λ (n : ℕ). entries_of (n / 128) bytes) has.size_is ∙ is.are;
-      reads = script_reads_of items has.loader has.there ∙ ap₂ (λ (s n : ℕ). all_reads s 0 n) (sym has.select_is) (sym has.size_is);
+      reads = script_reads_of its.items has.loader has.there ∙ ap₂ (λ (s n : ℕ). all_reads s 0 n) (sym has.select_is) (sym has.size_is);
     }
 
 -- the control word of the next piece of the script asks the device for that piece
@@ -90,45 +90,44 @@ script_asks d select size taken pieces small taken_is at_piece =
     ]
 
 -- The firmware takes commands: it asks for more, or comes to the first one.
-pub commands_are_taken : (May : Answers) (items : List Item) (top fill : ℕ) (w : LoadState) (select size taken : ℕ)
-    → KeepsNow May items top fill w → (has : HasCommands items select size taken w)
-    → IsOver items (with_commands items select size has.pieces) descriptor_at (piece_read select 0 size has.pieces) w.attached
-    → KeepsOn May items top fill w (commands_taken select size taken (asked (size - taken)) w)
-commands_are_taken May items top fill w select size taken kept has over =
+pub commands_are_taken : (May : Answers) (its : Opening) (w : LoadState) (select size taken : ℕ) → KeepsNow May its w →
+    (has : HasCommands its.items select size taken w) → IsOver its.items (with_commands its.items select size has.pieces) descriptor_at
+    (piece_read select 0 size has.pieces) w.attached → KeepsOn May its w (commands_taken select size taken (asked (size - taken)) w)
+commands_are_taken May its w select size taken kept has over =
     let count = asked (size - taken) in
-    let its = its_loader May items top fill w select size taken kept has in
+    let loader = its_loader May its w select size taken kept has in
     let now : List Entry = take ((taken + count) / 128) has.whole in
-    let held = over.held ∙ ap (λ (b : List ℕ). part b (0 + buffer_size * has.pieces) (asked (size - buffer_size * has.pieces))) its.contents_are in
+    let held = over.held ∙ ap (λ (b : List ℕ). part b (0 + buffer_size * has.pieces) (asked (size - buffer_size * has.pieces))) loader.contents_are in
     let same : w.script ++ entries_of (count / 128) (buffered count w) ≡ now =
     ap (λ (s : List Entry). s ++ entries_of (count / 128) (buffered count w)) has.script
     ∙ subst (λ (all : List Entry). take (taken / 128) all ++ entries_of (count / 128) (buffered count w) ≡ take ((taken + count) / 128) all)
-    its.whole_is
-    (commands_held its.bytes size taken has.pieces (memory_of w) has.taken_is its.size_is its.units has.some_left held) in
+    loader.whole_is
+    (commands_held loader.bytes size taken has.pieces (memory_of w) has.taken_is loader.size_is loader.units has.some_left held) in
     let finished = over.finished
-    ∙ append_assoc (directory_reads items) (first_reads select 0 size has.pieces) (piece_read select 0 size has.pieces ∷ []) in
+    ∙ append_assoc (directory_reads its.items) (first_reads select 0 size has.pieces) (piece_read select 0 size has.pieces ∷ []) in
     let after : List Entry → Stage → LoadState = λ script stage. record w { script = script; stage = stage } in
-    let Keeps : List Entry → Stage → Type 0 = λ script stage. KeepsOn May items top fill w (after script stage) in
+    let Keeps : List Entry → Stage → Type 0 = λ script stage. KeepsOn May its w (after script stage) in
     subst (λ (s : List Entry). Keeps s (if taken + count == size then AtCommand 0 else Asks (read.Commands select size (taken + count)))) (sym same)
     (by_test (Keeps now) (taken + count == size) (AtCommand 0) (Asks (read.Commands select size (taken + count)))
     (λ done.
     let all : taken + count ≡ size = eqb-true (taken + count) size done in
     let last = last_piece size taken has.pieces has.taken_is has.some_left all in
     let whole : now ≡ has.whole = ap (λ (n : ℕ). take (n / 128) has.whole) all
-    ∙ subst (λ (s : List Entry). take (size / 128) s ≡ s) its.whole_is (all_decoded (size / 128) its.bytes) in
-    kept_with May items top fill w w.listed now (AtCommand 0) kept (
+    ∙ subst (λ (s : List Entry). take (size / 128) s ≡ s) loader.whole_is (all_decoded (size / 128) loader.bytes) in
+    kept_with May its w w.listed now (AtCommand 0) kept (
       record { listed = has.listed; script = has.whole_is ∙ ap decoding (sym whole) },
       omega arith,
       record {
         idle = over.idle;
-        finished = finished ∙ ap (λ (n : ℕ). directory_reads items ++ first_reads select 0 size n) last
-            ∙ ap (λ (r : List Finished). directory_reads items ++ r) (sym its.reads) ∙ sym (moves_none items (after now (AtCommand 0)));
+        finished = finished ∙ ap (λ (n : ℕ). directory_reads its.items ++ first_reads select 0 size n) last
+            ∙ ap (λ (r : List Finished). directory_reads its.items ++ r) (sym loader.reads) ∙ sym (moves_none its.items (after now (AtCommand 0)));
       },
-      nothing_carried_out May items (after now (AtCommand 0)) has.begun has.placed,
+      nothing_carried_out May its.items (after now (AtCommand 0)) has.begun has.placed,
     ))
     (λ more.
-    let small = file_select_small items loader_name has.loader kept.lawful has.there in
+    let small = file_select_small its.items loader_name has.loader kept.lawful has.there in
     let another = another_piece size taken has.pieces has.taken_is has.some_left (eqb-false (taken + count) size more) in
-    kept_with May items top fill w w.listed now (Asks (read.Commands select size (taken + count))) kept (
+    kept_with May its w w.listed now (Asks (read.Commands select size (taken + count))) kept (
       another.some_left,
       (
         record {

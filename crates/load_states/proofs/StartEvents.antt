@@ -14,7 +14,7 @@ use Rattle.command_acts.specs.Runs.{Answers}
 use Rattle.load_states.specs.declared.reading.Reading.{Reading}
 use Rattle.load_states.specs.declared.stage.Stage.TheVariants.{Asks, Awaits}
 use Rattle.load_states.specs.Guarded.{descriptor_at, is_work}
-use Rattle.load_states.specs.LoadState.{LoadState}
+use Rattle.load_states.specs.LoadState.{LoadState, Opening}
 use Rattle.load_states.specs.Steps.{Asking, asking, firmware_step}
 use Rattle.load_states.specs.Kept.{KeepsNow, StageKeeps, LoadRead, IsAwaiting, read_by}
 use Rattle.load_states.proofs.Frames.{KeepsOn, kept_from, beside_work}
@@ -53,24 +53,23 @@ starts_on top r a its_top device memory idle finished room can asks =
     )
 
 -- What is asked for is awaited then.
-pub asks_keeps : (May : Answers) (items : List Item) (top fill : ℕ) (w : LoadState) (reading : Reading)
-    → KeepsNow May items top fill w → StageKeeps May items w (Asks reading)
-    → KeepsOn May items top fill w (firmware_step (Asks reading) None w)
-asks_keeps May items top fill w reading kept keeps =
+pub asks_keeps : (May : Answers) (its : Opening) (w : LoadState) (reading : Reading) → KeepsNow May its w → StageKeeps May its.items w (Asks reading)
+    → KeepsOn May its w (firmware_step (Asks reading) None w)
+asks_keeps May its w reading kept keeps =
     let buffered = keeps.0 in
     let known = keeps.1.0 in
     let next = keeps.1.1 in
-    let r = read_by May items w reading known in
-    let few = few_before May items w reading buffered known in
-    let starts = starts_on top r w.attached kept.top kept.device kept.memory next.idle.idle next.idle.finished
-    (omega (arith, few, kept.room)) (can_read May items top fill w reading kept known (some_read May items w reading buffered known)) next.asks in
+    let r = read_by May its.items w reading known in
+    let few = few_before May its.items w reading buffered known in
+    let starts = starts_on its.top r w.attached kept.top kept.device kept.memory next.idle.idle next.idle.finished
+    (omega (arith, few, kept.room)) (can_read May its w reading kept known (some_read May its.items w reading buffered known)) next.asks in
     let after = started_by r w.attached in
-    let still = known_still May items w after (Awaits reading) reading starts.2
-    (front_outside top w after.memory kept.top kept.loading.apart (zoned_files kept) (λ address ram guarded other. starts.3 address other)) known in
+    let still = known_still May its.items w after (Awaits reading) reading starts.2
+    (front_outside its.top w after.memory kept.top kept.loading.apart (zoned_files kept) (λ address ram guarded other. starts.3 address other)) known in
     let there : LoadState = going_on w after (Awaits reading) in
-    subst (λ (what : Asking). KeepsOn May items top fill w (asking reading what w))
-    (sym (asking_is May items w reading buffered known))
-    (kept_from May items top fill w there kept starts.1 (ap (map shape_of) starts.2) refl
+    subst (λ (what : Asking). KeepsOn May its w (asking reading what w))
+    (sym (asking_is May its.items w reading buffered known))
+    (kept_from May its w there kept starts.1 (ap (map shape_of) starts.2) refl
     (λ address ram other beside. starts.3 address other)
     (read_stands after.device.items r.before descriptor_at r.control r.transfer after (inl starts.0)
     (started_address descriptor_at r.control r.transfer.length r.transfer.address w.attached))

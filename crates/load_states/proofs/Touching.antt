@@ -18,7 +18,7 @@ use Rattle.load_states.specs.declared.stage.Stage.TheVariants.{Asks, Awaits, AtC
 use Rattle.load_states.specs.declared.reading.Reading.{Reading}
 use Rattle.load_states.specs.declared.reading.Reading.TheVariants as read
 use Rattle.load_states.specs.Guarded.{descriptor_at, buffer_at, buffer_size, is_work}
-use Rattle.load_states.specs.LoadState.{LoadState}
+use Rattle.load_states.specs.LoadState.{LoadState, Opening}
 use Rattle.load_states.specs.Steps.{asked}
 use Rattle.load_states.specs.Kept.{KeepsNow, StageKeeps, Knows, read_by}
 use Rattle.load_states.specs.Touching.{IsOwn, OneMayLeaveTouched, MayTouchOver}
@@ -96,9 +96,9 @@ stage_own May items w Done keeps = idle_own w (placed_ranges w.placed) keeps.0.i
 stage_own May items w (Refused why) keeps = idle_own w (placed_ranges w.placed) keeps.idle
 
 -- A load's transfer touches what is the load's own alone.
-pub transfer_own : (May : Answers) (items : List Item) (top fill : ℕ) (w : LoadState) (address : ℕ)
-    → KeepsNow May items top fill w → MayTouch w.attached.device.flight address → IsOwn (placed_ranges w.placed) address
-transfer_own May items top fill w address kept touched = stage_own May items w w.stage kept.stage address touched
+pub transfer_own : (May : Answers) (its : Opening) (w : LoadState) (address : ℕ) → KeepsNow May its w → MayTouch w.attached.device.flight address
+    → IsOwn (placed_ranges w.placed) address
+transfer_own May its w address kept touched = stage_own May its.items w w.stage kept.stage address touched
 
 -- ---- events, one after the other
 

@@ -11,7 +11,7 @@ use Rattle.command_acts.specs.Script.{script_in}
 use Rattle.command_acts.proofs.Allocations.{ranges_in}
 use Rattle.command_acts.proofs.PlainRuns.{is_run}
 use Rattle.load_states.specs.declared.event.Event.{Event}
-use Rattle.load_states.specs.LoadState.{LoadState, memory_of}
+use Rattle.load_states.specs.LoadState.{LoadState, Opening, memory_of}
 use Rattle.load_states.specs.Runs.{closing_events, has_reset, left_by_others}
 use Rattle.load_states.proofs.LeftByOthers.{left_more, told_behind}
 use Rattle.load_states.specs.Kept.{IsKept, StageKeeps, HasEnded, IsCleared}
@@ -55,16 +55,16 @@ stage_ended May items (Err why) w keeps =
     record { ended = keeps; cleared = λ is. absurd (not_ok why is); transfers = λ is. absurd (not_ok why is) }
 
 -- A load that has ended, over events of a plan and some that ended it, has left what a whole load leaves.
-pub loaded_over : (May : Answers) (items : List Item) (top fill : ℕ) (events : List Event) (closing : ℕ) (handed : List Range)
-    (answer : Result (Unit {0}) LoadFault) (w : LoadState) → IsKept May items top fill (events ++ closing_events closing) w
-    → w.stage ≡ stage_after answer → handed ≡ placed_ranges w.placed → IsLoadedOver May items top fill events handed answer w
-loaded_over May items top fill events closing handed answer w kept is placed =
-    let at_end = stage_ended May items answer w (subst (StageKeeps May items w) is kept.now.stage) in
+pub loaded_over : (May : Answers) (its : Opening) (events : List Event) (closing : ℕ) (handed : List Range) (answer : Result (Unit {0}) LoadFault)
+    (w : LoadState) → IsKept May its (events ++ closing_events closing) w → w.stage ≡ stage_after answer → handed ≡ placed_ranges w.placed
+    → IsLoadedOver May its events handed answer w
+loaded_over May its events closing handed answer w kept is placed =
+    let at_end = stage_ended May its.items answer w (subst (StageKeeps May its.items w) is kept.now.stage) in
     record {
-      unread = err_leads _ _ (script_in items) (λ why so. (so.0, placed ∙ ap placed_ranges so.1, so.2)) at_end.ended.unread;
-      ran = ok_leads _ _ (script_in items) (λ script so. (
+      unread = err_leads _ _ (script_in its.items) (λ why so. (so.0, placed ∙ ap placed_ranges so.1, so.2)) at_end.ended.unread;
+      ran = ok_leads _ _ (script_in its.items) (λ script so. (
         so.0,
-        is_run May (files_of items) script handed so.0 _ so.1 (placed ∙ sym (ranges_in (memory_of w) w.placed)),
+        is_run May (files_of its.items) script handed so.0 _ so.1 (placed ∙ sym (ranges_in (memory_of w) w.placed)),
         so.2,
       )) at_end.ended.ran;
       stage = is;
@@ -74,9 +74,9 @@ loaded_over May items top fill events closing handed answer w kept is placed =
       top = kept.now.top;
       fill = kept.now.fill;
       others = λ address ram other beside told.
-          kept.others address ram other beside (told_behind top events (closing_events closing) address (no_reset closing) told)
-          ∙ left_more top fill events (closing_events closing) address
-          ∙ left_closing top (left_by_others top fill events address) closing address;
+          kept.others address ram other beside (told_behind its.top events (closing_events closing) address (no_reset closing) told)
+          ∙ left_more its.top its.fill events (closing_events closing) address
+          ∙ left_closing its.top (left_by_others its.top its.fill events address) closing address;
       bios = kept.now.bios;
       cleared = at_end.cleared;
       transfers = at_end.transfers;

@@ -3,14 +3,13 @@ use Rattle.std.proofs.Common.{◌≡◌, ℕ, ◌+◌, ◌-◌, ◌<◌, ◌≤�
 use Rattle.std.specs.List.{AllByRecursion}
 use Rattle.std.proofs.lemmas.Bool.Decides.{nat_tests}
 use Rattle.vt_bytes.specs.Memory.{IsRam, IsTop}
-use Rattle.cfg_directory.specs.declared.item.Item.{Item}
 use Rattle.zone_alloc.specs.declared.zone.Zone.{Zone}
 use Rattle.zone_alloc.specs.declared.zone.Zone.TheVariants.{High, Fseg}
 use Rattle.zone_alloc.specs.Zones.{zone_range}
 use Rattle.command_acts.specs.declared.placed.PlacedFile.{PlacedFile}
 use Rattle.command_acts.specs.Runs.{Answers}
 use Rattle.load_states.specs.Guarded.{is_work, is_guarded}
-use Rattle.load_states.specs.LoadState.{LoadState}
+use Rattle.load_states.specs.LoadState.{LoadState, Opening}
 use Rattle.load_states.specs.Kept.{KeepsNow, IsInZone}
 
 -- a placed file lies in guarded places, and beside the work range
@@ -50,6 +49,5 @@ each_zoned : (top : ℕ) (placed : List PlacedFile) → IsTop top → AllByRecur
 each_zoned top [] lawful zones = tt
 each_zoned top (p ∷ placed) lawful zones = (zoned_in top p lawful zones.0, each_zoned top placed lawful zones.1)
 
-pub zoned_files : {May : Answers} {items : List Item} {top fill : ℕ} {w : LoadState} → KeepsNow May items top fill w
-    → AllByRecursion (IsZoned top) w.placed
-zoned_files {top = top} {w = w} kept = each_zoned top w.placed (subst IsTop kept.top kept.memory.top) kept.zones
+pub zoned_files : {May : Answers} {its : Opening} {w : LoadState} → KeepsNow May its w → AllByRecursion (IsZoned its.top) w.placed
+zoned_files {its = its} {w = w} kept = each_zoned its.top w.placed (subst IsTop kept.top kept.memory.top) kept.zones

@@ -31,7 +31,7 @@ use Rattle.load_states.specs.declared.reading.Reading.{Reading}
 use Rattle.load_states.specs.declared.reading.Reading.TheVariants as read
 use Rattle.load_states.specs.declared.stage.Stage.TheVariants.{Asks, Awaits, AtCommand, AwaitsSkip, AsksWrite, AwaitsWrite, Done, Refused}
 use Rattle.load_states.specs.Guarded.{descriptor_at, buffer_at, buffer_size, is_work, is_high}
-use Rattle.load_states.specs.LoadState.{LoadState, memory_of, items_now, files_now, progress_of}
+use Rattle.load_states.specs.LoadState.{LoadState, Opening, memory_of, items_now, files_now, progress_of}
 use Rattle.load_states.specs.Steps.{script_control, number_for}
 use Rattle.load_states.specs.Moves.{count_read, piece_read, first_reads, directory_reads, moves, most_transfers}
 use Rattle.load_states.specs.Runs.{left_by_others, has_reset}
@@ -226,24 +226,24 @@ abbrev pub IsFilledBios : ℕ → LoadState → Type 0
 IsFilledBios fill w = (address : ℕ) → bios_start ≤ address → address < bios_end → AllByRecursion (IsBeside address) w.placed
     → at (memory_of w) address ≡ fill
 
--- What a load keeps at each moment that was begun with these items, below this top and with this fill byte, where places are answered as they
--- may be. Of the items their bytes alone may change; which they are is said by the stage.
-pub record KeepsNow (May : Answers) (its_items : List Item) (its_top its_fill : ℕ) (w : LoadState) : Type 0 where
-  pub lawful : IsItems its_items
-  pub names : AllByRecursion (λ (item : Item). IsName item.name) its_items
-  pub opening : w.attached.device.opening ≡ its_items
-  pub shape : HaveOneShape its_items (items_now w)
+-- What a load keeps at each moment that was begun with this, where places are answered as they may be. Of the items their bytes alone may change;
+-- which they are is said by the stage.
+pub record KeepsNow (May : Answers) (its : Opening) (w : LoadState) : Type 0 where
+  pub lawful : IsItems its.items
+  pub names : AllByRecursion (λ (item : Item). IsName item.name) its.items
+  pub opening : w.attached.device.opening ≡ its.items
+  pub shape : HaveOneShape its.items (items_now w)
   pub device : IsDevice w.attached.device
-  pub room : room_of w.attached.device ≡ most_transfers its_items
+  pub room : room_of w.attached.device ≡ most_transfers its.items
   pub stands : StandsWhereLeft w.attached.device
   pub memory : IsMemory (memory_of w)
-  pub top : (memory_of w).top ≡ its_top
-  pub fill : (memory_of w).fill ≡ its_fill
-  pub loading : IsLoading its_top (files_of (items_now w)) w.placed
-  pub zones : AllByRecursion (IsInZone its_top) w.placed
+  pub top : (memory_of w).top ≡ its.top
+  pub fill : (memory_of w).fill ≡ its.fill
+  pub loading : IsLoading its.top (files_of (items_now w)) w.placed
+  pub zones : AllByRecursion (IsInZone its.top) w.placed
   pub count : length w.placed ≡ count_places (places_in w.placed (infos_of (files_of (items_now w))))
-  pub bios : IsFilledBios its_fill w
-  pub stage : StageKeeps May its_items w w.stage
+  pub bios : IsFilledBios its.fill w
+  pub stage : StageKeeps May its.items w w.stage
 
 -- what is told of an address over events: of high memory nothing, where a reset is among them, since a load before it may have left a byte there
 abbrev pub IsTold : ℕ → List Event → ℕ → Type 0
@@ -255,6 +255,6 @@ IsLeftByOthers top fill events w = (address : ℕ) → IsRam top address → is_
     → IsTold top events address → at (memory_of w) address ≡ left_by_others top fill events address
 
 -- What it keeps over these events: that at each moment, and RAM as the other processors left it.
-pub record IsKept (May : Answers) (its_items : List Item) (its_top its_fill : ℕ) (events : List Event) (w : LoadState) : Type 0 where
-  pub now : KeepsNow May its_items its_top its_fill w
-  pub others : IsLeftByOthers its_top its_fill events w
+pub record IsKept (May : Answers) (its : Opening) (events : List Event) (w : LoadState) : Type 0 where
+  pub now : KeepsNow May its w
+  pub others : IsLeftByOthers its.top its.fill events w

@@ -22,12 +22,25 @@ pub record LoadState : Type 0 where
   pub script : List Entry
   pub placed : List PlacedFile
 
+-- What a load is begun with: the items of its device, the top of memory, and the fill byte.
+pub record Opening : Type 0 where
+  pub items : List Item
+  pub top : ℕ
+  pub fill : ℕ
+
+abbrev pub begun_with : List Item → ℕ → ℕ → Opening
+begun_with its_items its_top its_fill = record { items = its_items; top = its_top; fill = its_fill }
+
 -- the memory of a load, and the load with another one
 abbrev pub memory_of : LoadState → Memory
 memory_of w = w.attached.memory
 
 abbrev pub with_memory : LoadState → Memory → LoadState
 with_memory w m = record w { attached = record w.attached { memory = m } }
+
+-- what a load was begun with, as its state tells
+abbrev pub opening_of : LoadState → Opening
+opening_of w = begun_with w.attached.device.opening (memory_of w).top (memory_of w).fill
 
 -- the items of its device, as they are now
 abbrev pub items_now : LoadState → List Item

@@ -20,7 +20,7 @@ use Rattle.load_states.specs.declared.stage.Stage.{Stage}
 use Rattle.load_states.specs.declared.stage.Stage.TheVariants.{Done, Refused}
 use Rattle.load_states.specs.Kept.{HasNothing, IsCleared, IsFilledBios, IsLeftByOthers}
 use Rattle.load_states.specs.Steps.{opening_stage}
-use Rattle.load_states.specs.LoadState.{LoadState, memory_of, items_now, progress_of}
+use Rattle.load_states.specs.LoadState.{LoadState, Opening, memory_of, opening_of, items_now, progress_of}
 use Rattle.load_states.specs.Moves.{pieces_of, moves, script_size, most_transfers}
 
 -- every RAM byte is the fill byte
@@ -41,17 +41,16 @@ begun_device its_items = record {
   spare = most_transfers its_items;
 }
 
--- A load as it is begun: a device of the items, memory below a top in which every byte is the fill byte, and a firmware that has done
+-- A load as it is begun: a device of its items, memory below its top in which every byte is the fill byte, and a firmware that has done
 -- nothing.
-pub record IsBegun (its_items : List Item) (its_top its_fill : ℕ) (w : LoadState) : Type 0 where
-  pub lawful : IsItems its_items
-  pub names : AllByRecursion (λ (item : Item). IsName item.name) its_items
-  pub device : w.attached.device ≡ begun_device its_items
+pub record IsBegun (its : Opening) (w : LoadState) : Type 0 where
+  pub lawful : IsItems its.items
+  pub names : AllByRecursion (λ (item : Item). IsName item.name) its.items
+  pub opening : opening_of w ≡ its
+  pub device : w.attached.device ≡ begun_device its.items
   pub memory : IsMemory (memory_of w)
-  pub top : (memory_of w).top ≡ its_top
-  pub fill : (memory_of w).fill ≡ its_fill
   pub blank : IsBlank (memory_of w)
-  pub nothing : HasNothing its_items w
+  pub nothing : HasNothing its.items w
   pub stage : w.stage ≡ opening_stage
 
 -- how far the firmware is when a load has ended so
@@ -68,20 +67,20 @@ HasRun May items script handed answer w =
 -- A load is over, with this answer. Nothing was handed out where there was no script, and no item changed; else the script was run, and of
 -- the items their bytes alone may have changed. The rest of memory is as the other processors left it, over the events so far; the BIOS area,
 -- which they can't write, holds the fill byte. Where the load is done the work range holds it too, and each transfer is told.
-pub record IsLoadedOver (May : Answers) (its_items : List Item) (its_top its_fill : ℕ) (events : List Event) (handed : List Range)
+pub record IsLoadedOver (May : Answers) (its : Opening) (events : List Event) (handed : List Range)
     (answer : Result (Unit {0}) LoadFault) (w : LoadState) : Type 0 where
-  pub unread : IfErr (script_in its_items) (λ why. (answer ≡ Err why) × (handed ≡ []) × (items_now w ≡ its_items))
-  pub ran : IfOk (script_in its_items) (λ script. HasRun May its_items script handed answer w)
+  pub unread : IfErr (script_in its.items) (λ why. (answer ≡ Err why) × (handed ≡ []) × (items_now w ≡ its.items))
+  pub ran : IfOk (script_in its.items) (λ script. HasRun May its.items script handed answer w)
   pub stage : w.stage ≡ stage_after answer
   pub placed : handed ≡ placed_ranges w.placed
-  pub shape : HaveOneShape its_items (items_now w)
+  pub shape : HaveOneShape its.items (items_now w)
   pub idle : w.attached.device.flight ≡ None
-  pub top : (memory_of w).top ≡ its_top
-  pub fill : (memory_of w).fill ≡ its_fill
-  pub others : IsLeftByOthers its_top its_fill events w
-  pub bios : IsFilledBios its_fill w
+  pub top : (memory_of w).top ≡ its.top
+  pub fill : (memory_of w).fill ≡ its.fill
+  pub others : IsLeftByOthers its.top its.fill events w
+  pub bios : IsFilledBios its.fill w
   pub cleared : answer ≡ Ok tt → IsCleared (memory_of w)
-  pub transfers : answer ≡ Ok tt → IfOk (script_in its_items) (λ script. w.attached.device.finished ≡ moves its_items script w.placed)
+  pub transfers : answer ≡ Ok tt → IfOk (script_in its.items) (λ script. w.attached.device.finished ≡ moves its.items script w.placed)
 
 -- The most steps that a firmware takes for a load: two for the number of files, two for each piece of the entries and of the script, as many
 -- as four for each command, and the closing one.

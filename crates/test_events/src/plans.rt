@@ -2,7 +2,7 @@
 
 ghost use Rattle.std.specs.Prelude.{◌≡◌, IfSome, IsSomeAnd, OnOk};
 ghost use Rattle.load_states.specs.Loads.{IsBegun};
-ghost use Rattle.load_states.specs.LoadState.{memory_of};
+ghost use Rattle.load_states.specs.LoadState.{memory_of, opening_of};
 
 use crate::files::{SMALL_FILES, items_of};
 use crate::rig::Transfer::{self, Read};
@@ -42,7 +42,7 @@ pub(crate) fn small_items(alloc: Global) -> Result<Items, Fail> {
 
 /// Begins the small load in a world.
 pub(crate) fn begin_small(alloc: Global, world: &mut World) -> Result<(), Fail>
-    ensures fresh { OnOk result (IsSomeAnd world.new.load (λ w. IsBegun w.attached.device.items (memory_of w).top (memory_of w).fill w)) }
+    ensures fresh { OnOk result (IsSomeAnd world.new.load (λ w. IsBegun (opening_of w) w)) }
     ensures top { OnOk result (IfSome world.new.load (λ w. (memory_of w).top ≡ 0x4000000)) }
 {
     let items = small_items(alloc)?;

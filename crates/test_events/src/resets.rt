@@ -5,7 +5,7 @@ ghost use Rattle.command_acts.specs.Allocators.{AreZonesOf, MayAnswer};
 ghost use Rattle.command_acts.specs.FilesInMemory.{placed_ranges};
 ghost use Rattle.load_states.specs.Kept.{IsKept};
 ghost use Rattle.load_states.specs.Loads.{IsBegun};
-ghost use Rattle.load_states.specs.LoadState.{memory_of};
+ghost use Rattle.load_states.specs.LoadState.{begun_with, memory_of};
 
 use crate::ends::{TOO_FAR, items_refused};
 use crate::plans::{
@@ -318,8 +318,8 @@ fn keeps_over_two<A: ZoneAlloc>(
     requires begun { (A.state place.old).begun.ready ≡ true }
     requires zones { AreZonesOf 0x4000000 (A.state place.old).begun.zones }
     requires handed { (A.state place.old).handed ≡ [] }
-    ensures { OnOk result (IsSomeAnd world.new.load (IsKept (MayAnswer A.state A.gives (A.state place.new).begun) items 0x4000000 0xA5
-        (first ∷ second ∷ []))) }
+    ensures { OnOk result (IsSomeAnd world.new.load (IsKept (MayAnswer A.state A.gives (A.state place.new).begun)
+        (begun_with items 0x4000000 0xA5) (first ∷ second ∷ []))) }
 {
     world.begin(alloc, items, TOP, FILL)?;
     world.step(place, first);

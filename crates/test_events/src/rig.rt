@@ -3,7 +3,7 @@
 ghost use Rattle.std.specs.Prelude.{◌≡◌, true, [], IfSome, IsSome, IsSomeAnd, OnOk};
 ghost use Rattle.command_acts.specs.Allocators.{AreZonesOf};
 ghost use Rattle.load_states.specs.Loads.{IsBegun};
-ghost use Rattle.load_states.specs.LoadState.{memory_of};
+ghost use Rattle.load_states.specs.LoadState.{memory_of, opening_of};
 
 use cfg_directory::Items;
 use cfg_dma::{Device, Finished, Kind};
@@ -56,7 +56,7 @@ pub(crate) struct End<'a> {
 
 /// Begins a load of `items` in a world, below [`TOP`].
 pub(crate) fn begin(alloc: Global, world: &mut World, items: Items) -> Result<(), OutOfMemory>
-    ensures fresh { OnOk result (IsSomeAnd world.new.load (λ w. IsBegun w.attached.device.items (memory_of w).top (memory_of w).fill w)) }
+    ensures fresh { OnOk result (IsSomeAnd world.new.load (λ w. IsBegun (opening_of w) w)) }
     ensures top { OnOk result (IfSome world.new.load (λ w. (memory_of w).top ≡ 0x4000000)) }
 {
     begin_filled(alloc, world, items, FILL)
@@ -69,7 +69,7 @@ pub(crate) fn begin_filled(
     items: Items,
     fill: u8,
 ) -> Result<(), OutOfMemory>
-    ensures fresh { OnOk result (IsSomeAnd world.new.load (λ w. IsBegun w.attached.device.items (memory_of w).top (memory_of w).fill w)) }
+    ensures fresh { OnOk result (IsSomeAnd world.new.load (λ w. IsBegun (opening_of w) w)) }
     ensures top { OnOk result (IfSome world.new.load (λ w. (memory_of w).top ≡ 0x4000000)) }
 {
     world.begin(alloc, items, TOP, fill)
@@ -147,7 +147,7 @@ fn begun_ends<C: Schedule>(
     plan: &mut C,
     end: &End<'_>,
 ) -> Result<(), Fail>
-    requires fresh { IsSomeAnd world.old.load (λ w. IsBegun w.attached.device.items (memory_of w).top (memory_of w).fill w) }
+    requires fresh { IsSomeAnd world.old.load (λ w. IsBegun (opening_of w) w) }
     requires top { IfSome world.old.load (λ w. (memory_of w).top ≡ 0x4000000) }
 {
     let mut failing = failing_places(alloc, fails)?;
@@ -166,7 +166,7 @@ pub(crate) fn ends_placed<A: ZoneAlloc, C: Schedule>(
     plan: &mut C,
     end: &End<'_>,
 ) -> Result<(), Fail>
-    requires fresh { IsSomeAnd world.old.load (λ w. IsBegun w.attached.device.items (memory_of w).top (memory_of w).fill w) }
+    requires fresh { IsSomeAnd world.old.load (λ w. IsBegun (opening_of w) w) }
     requires top { IfSome world.old.load (λ w. (memory_of w).top ≡ 0x4000000) }
     ensures { OnOk result (IsSome world.new.load) }
 {
@@ -190,7 +190,7 @@ pub(crate) fn ends_as<A: ZoneAlloc, C: Schedule>(
     plan: &mut C,
     end: &End<'_>,
 )
-    requires fresh { IsSomeAnd world.old.load (λ w. IsBegun w.attached.device.items (memory_of w).top (memory_of w).fill w) }
+    requires fresh { IsSomeAnd world.old.load (λ w. IsBegun (opening_of w) w) }
     requires begun { (A.state place.old).begun.ready ≡ true }
     requires handed { (A.state place.old).handed ≡ [] }
     requires zones { IfSome world.old.load (λ w. AreZonesOf (memory_of w).top (A.state place.old).begun.zones) }

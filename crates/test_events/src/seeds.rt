@@ -3,7 +3,7 @@
 
 ghost use Rattle.std.specs.Prelude.{◌≡◌, IfSome, IsSomeAnd};
 ghost use Rattle.load_states.specs.Loads.{IsBegun};
-ghost use Rattle.load_states.specs.LoadState.{memory_of};
+ghost use Rattle.load_states.specs.LoadState.{memory_of, opening_of};
 
 use crate::others::{are_written, events_taken};
 use crate::plans::{ANCHOR, TABLES, begin_small, reads_to};
@@ -114,7 +114,7 @@ pub(crate) fn begun_ends_over(
     seed: u64,
     end: &End<'_>,
 ) -> Result<(), Fail>
-    requires fresh { IsSomeAnd world.old.load (λ w. IsBegun w.attached.device.items (memory_of w).top (memory_of w).fill w) }
+    requires fresh { IsSomeAnd world.old.load (λ w. IsBegun (opening_of w) w) }
     requires top { IfSome world.old.load (λ w. (memory_of w).top ≡ 0x4000000) }
 {
     let mut plan = SeededSchedule::new();

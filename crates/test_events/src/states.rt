@@ -3,7 +3,7 @@
 ghost use Rattle.std.specs.Prelude.{◌≡◌, IfSome, IsSome, IsSomeAnd};
 ghost use Rattle.vt_bytes.specs.Memory.{IsTop};
 ghost use Rattle.load_states.specs.Loads.{IsBegun};
-ghost use Rattle.load_states.specs.LoadState.{memory_of};
+ghost use Rattle.load_states.specs.LoadState.{memory_of, opening_of};
 
 use crate::cases::{Case, end_of};
 use crate::done::SMALL;
@@ -153,7 +153,7 @@ fn loads_begun(
     case: &Case<'_>,
 ) -> Result<(), Fail>
     requires lawful { IsTop top }
-    requires fresh { IsSomeAnd world.old.load (λ w. IsBegun w.attached.device.items (memory_of w).top (memory_of w).fill w) }
+    requires fresh { IsSomeAnd world.old.load (λ w. IsBegun (opening_of w) w) }
     requires top { IfSome world.old.load (λ w. (memory_of w).top ≡ top) }
 {
     let mut shelf = ShelfAlloc::new();
@@ -172,7 +172,7 @@ fn loads_begun_on(
     case: &Case<'_>,
 ) -> Result<(), Fail>
     requires lawful { IsTop top }
-    requires fresh { IsSomeAnd world.old.load (λ w. IsBegun w.attached.device.items (memory_of w).top (memory_of w).fill w) }
+    requires fresh { IsSomeAnd world.old.load (λ w. IsBegun (opening_of w) w) }
     requires top { IfSome world.old.load (λ w. (memory_of w).top ≡ top) }
 {
     shelf.begin(alloc, zones_of(top), Policy::Low)?;

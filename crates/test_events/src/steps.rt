@@ -4,7 +4,7 @@ ghost use Rattle.std.specs.Prelude.{◌≡◌, true, IfSome, IsSome, IsSomeAnd};
 ghost use Rattle.command_acts.specs.Allocators.{AreZonesOf};
 ghost use Rattle.command_acts.specs.FilesInMemory.{placed_ranges};
 ghost use Rattle.load_states.specs.Loads.{IsBegun};
-ghost use Rattle.load_states.specs.LoadState.{memory_of};
+ghost use Rattle.load_states.specs.LoadState.{memory_of, opening_of};
 
 use crate::plans::{ANCHOR, READS, TABLES, small_items};
 use crate::rig::{
@@ -250,7 +250,7 @@ fn begins_and_goes_on(
 
 // The world that was begun goes on as it should, with the least places.
 fn goes_on(rt: &impl Abort, alloc: Global, world: &mut World, walk: &Walk<'_>) -> Result<(), Fail>
-    requires fresh { IsSomeAnd world.old.load (λ w. IsBegun w.attached.device.items (memory_of w).top (memory_of w).fill w) }
+    requires fresh { IsSomeAnd world.old.load (λ w. IsBegun (opening_of w) w) }
     requires top { IfSome world.old.load (λ w. (memory_of w).top ≡ 0x4000000) }
 {
     let mut shelf = ShelfAlloc::new();
@@ -266,7 +266,7 @@ fn goes_on_with<A: ZoneAlloc>(
     place: &mut A,
     walk: &Walk<'_>,
 ) -> Result<(), Fail>
-    requires fresh { IsSomeAnd world.old.load (λ w. IsBegun w.attached.device.items (memory_of w).top (memory_of w).fill w) }
+    requires fresh { IsSomeAnd world.old.load (λ w. IsBegun (opening_of w) w) }
     requires top { IfSome world.old.load (λ w. (memory_of w).top ≡ 0x4000000) }
 {
     begin_zones(alloc, place, Policy::Low)?;

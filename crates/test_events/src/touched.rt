@@ -3,7 +3,7 @@
 
 ghost use Rattle.std.specs.Prelude.{◌≡◌, IfSome, IsSome, IsSomeAnd};
 ghost use Rattle.load_states.specs.Loads.{IsBegun};
-ghost use Rattle.load_states.specs.LoadState.{memory_of};
+ghost use Rattle.load_states.specs.LoadState.{memory_of, opening_of};
 
 use crate::others::events_taken;
 use crate::plans::begin_small;
@@ -83,7 +83,7 @@ fn load_by(
     by: Policy,
     seed: u64,
 ) -> Result<usize, Fail>
-    requires fresh { IsSomeAnd world.old.load (λ w. IsBegun w.attached.device.items (memory_of w).top (memory_of w).fill w) }
+    requires fresh { IsSomeAnd world.old.load (λ w. IsBegun (opening_of w) w) }
     requires top { IfSome world.old.load (λ w. (memory_of w).top ≡ 0x4000000) }
     ensures { IsSome world.new.load }
 {

@@ -1,5 +1,5 @@
 -- A machine's image that was loaded is a machine that is booted.
-use Rattle.std.proofs.Common.{◌≡◌, ℕ, ◌≤◌, ◌+◌, ◌<◌, List, [], ◌++◌, map, Option, Some, None, Result, Ok, Err, IfOk, IfErr, OnOk, IsSomeAnd, inl, inr}
+use Rattle.std.proofs.Common.{◌≡◌, ℕ, ◌≤◌, ◌+◌, ◌<◌, List, [], ◌++◌, map, Option, Some, None, Result, Ok, Err, IfOk, IfErr, OnOk, IsSomeAnd}
 use Rattle.std.proofs.Common.{refl, ap, sym, subst, ◌∙◌, append_assoc, append-nil, arith}
 use Rattle.std.specs.List.{flat_map}
 use Rattle.std.specs.Result.{IsErrAnd}
@@ -34,10 +34,9 @@ use Rattle.command_acts.specs.declared.fault.LoadFault.TheVariants as load
 use Rattle.command_acts.specs.Runs.{Answers, EndsWith, IsRun, at_files, with_places, request_at, result_of}
 use Rattle.command_acts.specs.Script.{script_in}
 use Rattle.command_acts.proofs.PlainRuns.{starts}
-use Rattle.cfg_dma.specs.Device.{DeviceState}
 use Rattle.load_states.specs.declared.event.Event.{Event}
 use Rattle.load_states.specs.Loads.{HasRun, IsLoadedOver}
-use Rattle.load_states.specs.LoadState.{memory_of, files_now, progress_of}
+use Rattle.load_states.specs.LoadState.{Opening, begun_with, memory_of, files_now, progress_of}
 use Rattle.load_states.specs.LoadState.{LoadState as Loading}
 use Rattle.desc_toml.specs.Reading.{Reads}
 use Rattle.vmtables.specs.Boot.{IsBooted, IsMachineBooted, BootMakes, FailsToBoot, not_booted, without_room, without_memory}
@@ -115,16 +114,10 @@ gives_free Gives begun top free are handed request place may =
 -- what a load of items leaves
 leaves_of : (Gives : Answering) (items : List Item) (top : ℕ) (setting : Setting) (answer : Result (Unit {0}) LoadFault)
     (before after : Seen) (loaded : IsImageLoaded Gives items top setting answer before after)
-    → IsLoadedOver (Gives after.place.begun) items top setting.fill loaded.load.taken after.place.handed answer loaded.world
+    → IsLoadedOver (Gives after.place.begun) (begun_with items top setting.fill) loaded.load.taken after.place.handed answer loaded.world
 leaves_of Gives items top setting answer before after loaded =
-    let May : Answers = Gives after.place.begun in
-    let m : Memory = memory_of loaded.begun in
-    subst (λ those. IsLoadedOver May those top setting.fill loaded.load.taken after.place.handed answer loaded.world)
-    (ap (λ (d : DeviceState). d.items) loaded.was_begun.device)
-    (subst (λ t. IsLoadedOver May loaded.begun.attached.device.items t setting.fill loaded.load.taken after.place.handed answer loaded.world)
-    loaded.was_begun.top
-    (subst (λ f. IsLoadedOver May loaded.begun.attached.device.items m.top f loaded.load.taken after.place.handed answer loaded.world)
-    loaded.was_begun.fill loaded.load.leaves))
+    subst (λ (its : Opening). IsLoadedOver (Gives after.place.begun) its loaded.load.taken after.place.handed answer loaded.world)
+    loaded.was_begun.opening loaded.load.leaves
 
 -- the run of a load whose script is read
 run_of : (m : Machine) (May : Answers) (handed : List Range) (answer : Result (Unit {0}) LoadFault) (world : Loading)
@@ -142,10 +135,9 @@ shows_bytes m holds place byte is =
     subst (λ b. b < 256) there.1 (holds.each place (ram_from_test m.top place there.0))
 
 -- memory holds the files that were placed, and nothing else was written in the BIOS area
-holds_files : (May : Answers) (items : List Item) (top fill : ℕ) (events : List Event) (handed : List Range) (answer : Result (Unit {0}) LoadFault)
-    (world : Loading) → IsLoadedOver May items top fill events handed answer world → HoldsBytes (memory_of world)
-    → HoldsFiles (memory_of world) (files_now world)
-holds_files May items top fill events handed answer world leaves bytes = record {
+holds_files : (May : Answers) (its : Opening) (events : List Event) (handed : List Range) (answer : Result (Unit {0}) LoadFault) (world : Loading)
+    → IsLoadedOver May its events handed answer world → HoldsBytes (memory_of world) → HoldsFiles (memory_of world) (files_now world)
+holds_files May its events handed answer world leaves bytes = record {
   files = holds_now (memory_of world) world.placed;
   bios = λ address from below outside.
       leaves.bios address from below (beside_each (memory_of world) world.placed address outside) ∙ sym leaves.fill;
@@ -170,7 +162,7 @@ pub booted : (Gives : Answering) (setting : Setting) (m : Machine) (items : List
 booted Gives setting m items script before after free built small script_read loaded bytes_held =
     let May : Answers = Gives after.place.begun in
     let world : Loading = loaded.world in
-    let leaves : IsLoadedOver May (image_items m) (top_of m) setting.fill loaded.load.taken after.place.handed (Ok tt) world =
+    let leaves : IsLoadedOver May (begun_with (image_items m) (top_of m) setting.fill) loaded.load.taken after.place.handed (Ok tt) world =
     leaves_of Gives (image_items m) (top_of m) setting (Ok tt) before after loaded in
     let run : HasRun May (image_items m) (image_script m) after.place.handed (Ok tt) world =
     run_of m May after.place.handed (Ok tt) world script_read leaves.ran in
@@ -179,7 +171,7 @@ booted Gives setting m items script before after free built small script_read lo
     lawful_so m items script built May after.place.handed run.0 (progress_of world)
     (gives_free Gives after.place.begun (top_of m) free loaded.zones) run.1 (has_room run.0 done) in
     let holds : HoldsFiles (memory_of world) (files_now world) =
-    holds_files May (image_items m) (top_of m) setting.fill loaded.load.taken after.place.handed (Ok tt) world leaves bytes_held in
+    holds_files May (begun_with (image_items m) (top_of m) setting.fill) loaded.load.taken after.place.handed (Ok tt) world leaves bytes_held in
     record {
       small = small;
       loaded = loaded;
@@ -228,7 +220,7 @@ pub fails_for_room : (Gives : Answering) (setting : Setting) (m : Machine) (item
 fails_for_room Gives setting m items script why before after free built script_read loaded =
     let May : Answers = Gives after.place.begun in
     let world : Loading = loaded.world in
-    let leaves : IsLoadedOver May (image_items m) (top_of m) setting.fill loaded.load.taken after.place.handed (Err why) world =
+    let leaves : IsLoadedOver May (begun_with (image_items m) (top_of m) setting.fill) loaded.load.taken after.place.handed (Err why) world =
     leaves_of Gives (image_items m) (top_of m) setting (Err why) before after loaded in
     let run : HasRun May (image_items m) (image_script m) after.place.handed (Err why) world =
     run_of m May after.place.handed (Err why) world script_read leaves.ran in
@@ -246,7 +238,7 @@ refused_last : (Gives : Answering) (setting : Setting) (m : Machine) (why : Load
 refused_last Gives setting m why index before after script_read is loaded refusal =
     let May : Answers = Gives after.place.begun in
     let world : Loading = loaded.world in
-    let leaves : IsLoadedOver May (image_items m) (top_of m) setting.fill loaded.load.taken after.place.handed (Err why) world =
+    let leaves : IsLoadedOver May (begun_with (image_items m) (top_of m) setting.fill) loaded.load.taken after.place.handed (Err why) world =
     leaves_of Gives (image_items m) (top_of m) setting (Err why) before after loaded in
     let run : HasRun May (image_items m) (image_script m) after.place.handed (Err why) world =
     run_of m May after.place.handed (Err why) world script_read leaves.ran in

@@ -142,7 +142,7 @@ ended_whole why (NoRoom index) done is = absurd (cc)
 load_fault : (Gives : Answering) (items : List Item) (top : ℕ) (setting : Setting) (before after : Seen) (why : LoadFault)
     → RunsWhole items (map (λ (r : Range). r.start) after.place.handed) → IsImageLoaded Gives items top setting (Err why) before after → ⊥
 load_fault Gives items top setting before after why whole loaded =
-    let its_items = ap (λ (d : DeviceState). d.items) loaded.was_begun.device in
+    let its_items = ap (λ (d : DeviceState). d.opening) loaded.was_begun.device in
     let ran : HasRun (Gives after.place.begun) items whole.0 after.place.handed (Err why) loaded.world =
     subst (λ read. IfOk read (λ those. HasRun (Gives after.place.begun) items those after.place.handed (Err why) loaded.world)) whole.1
     (subst (λ those. IfOk (script_in those) (λ script. HasRun (Gives after.place.begun) those script after.place.handed (Err why) loaded.world)) its_items

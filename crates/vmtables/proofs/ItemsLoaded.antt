@@ -16,7 +16,7 @@ use Rattle.command_acts.specs.Allocators.{AreZonesOf}
 use Rattle.command_acts.specs.Script.{IsAsked}
 use Rattle.cfg_dma.specs.Device.{DeviceState}
 use Rattle.load_states.specs.Loads.{IsBegun}
-use Rattle.load_states.specs.LoadState.{LoadState}
+use Rattle.load_states.specs.LoadState.{LoadState, begun_with}
 use Rattle.firmware_load.specs.World.{IsLoadOver}
 use Rattle.vmtables.specs.Calls.{Answering, Seen}
 use Rattle.vmtables.specs.Loading.{IsImageLoaded, IsUnloaded, FailsToLoad, ended_early, not_begun}
@@ -32,7 +32,7 @@ zones_are zones top high_start high_end fseg_start fseg_end Fseg = ap₂ (λ s e
 -- What is known of a load between two of its calls: the world, the allocator and the plan as they were begun, and how the load left them.
 pub record IsRunOf (Gives : Answering) (items : List Item) (top : ℕ) (setting : Setting) (answer : Result (Unit {0}) LoadFault)
     (before after : Seen) (began : Option LoadState) (between : AllocState) (plan : Plan) : Type 0 where
-  pub was_begun : IsSomeAnd began (IsBegun items top setting.fill)
+  pub was_begun : IsSomeAnd began (IsBegun (begun_with items top setting.fill))
   pub loaded : IfSome began (λ old. IsSomeAnd after.world.load (IsLoadOver (Gives between.begun) old plan.left after.plan.left after.place.handed answer))
   pub plan_is : plan ≡ record before.plan { left = before.plan.events setting.seed }
   pub events_stay : after.plan.events ≡ plan.events

@@ -12,7 +12,7 @@ use Rattle.command_acts.specs.declared.fault.LoadFault.TheVariants.{NoRoom}
 use Rattle.command_acts.specs.Allocators.{AreZonesOf}
 use Rattle.command_acts.specs.Script.{IsAsked}
 use Rattle.load_states.specs.Loads.{IsBegun}
-use Rattle.load_states.specs.LoadState.{LoadState}
+use Rattle.load_states.specs.LoadState.{LoadState, begun_with}
 use Rattle.firmware_load.specs.World.{IsLoadOver, idle_world}
 use Rattle.vmtables.specs.Calls.{Answering, Seen}
 use Rattle.vmtables.specs.declared.fault.Fault.{Fault}
@@ -24,7 +24,7 @@ use Rattle.vmtables.specs.declared.fault.Fault.TheVariants as fault
 pub record IsImageLoaded (Gives : Answering) (items : List Item) (top : ℕ) (setting : Setting)
     (answer : Result (Unit {0}) LoadFault) (before after : Seen) : Type 0 where
   pub begun : LoadState
-  pub was_begun : IsBegun items top setting.fill begun
+  pub was_begun : IsBegun (begun_with items top setting.fill) begun
   pub world : LoadState
   pub world_is : after.world.load ≡ Some world
   pub load : IsLoadOver (Gives after.place.begun) begun (before.plan.events setting.seed) after.plan.left after.place.handed answer world
@@ -49,7 +49,7 @@ pub record IsRefusedFree (May : Answers) (top : ℕ) (handed : List Range) (aske
 abbrev pub IsUnloaded : List Item → ℕ → ℕ → Seen → Seen → Type 0
 IsUnloaded items top fill before after =
     (after.plan ≡ before.plan)
-    × (((after.world ≡ idle_world) × (after.place ≡ before.place)) ⊎ IsSomeAnd after.world.load (IsBegun items top fill))
+    × (((after.world ≡ idle_world) × (after.place ≡ before.place)) ⊎ IsSomeAnd after.world.load (IsBegun (begun_with items top fill)))
 
 -- How the loading of items fails: it ended before its script did, or memory ran out before.
 pub data FailsToLoad (Gives : Answering) (items : List Item) (top : ℕ) (setting : Setting) (before after : Seen) : Fault → Type 0 where

@@ -10,6 +10,7 @@ use Rattle.load_states.specs.Loads.{begun_device}
 use Rattle.load_states.specs.Steps.{opening_stage}
 use Rattle.load_states.specs.Runs.{NoAnswer}
 use Rattle.load_states.proofs.Opening.{begun_keeps}
+use Rattle.load_states.specs.LoadState.{begun_with}
 use Rattle.firmware_load.specs.Inside.{load_of}
 use Rattle.firmware_load.proofs.Opening.{IsOpening, opening_begun, opening_inside, room_more}
 use Rattle.firmware_load.proofs.loading.Loading.begin.Goals as goal
@@ -22,7 +23,8 @@ returns c =
       listed = c.in_ok-listed.listed;
       script = c.in_ok-script.script;
     } in
-    let opening : IsOpening c.args.items c.args.top c.args.fill l = record {
+    let its = begun_with c.args.items c.args.top c.args.fill in
+    let opening : IsOpening its l = record {
       lawful = subst IsItems c.items.view_is c.items.invariant;
       names = c.in_ok-device.ensures.names;
       device_is = c.in_ok-device.ensures.begun
@@ -38,14 +40,14 @@ returns c =
       placed = c.in_ok-placements.ensures.none;
       placements = c.in_ok-placements.ensures.are;
       infos = c.in_ok-placements.ensures.infos
-          ∙ (c.in_ok-infos.ensures ∙ ap (λ (its : List Item). infos_of (files_of its)) c.all-2.ensures.items);
+          ∙ (c.in_ok-infos.ensures ∙ ap (λ (items : List Item). infos_of (files_of items)) c.all-2.ensures.items);
       listed_room = omega (arith, c.in_ok-listed.ensures.capacity, ap length c.all.ensures.items);
       script_room = room_more (script_in c.args.items) c.script_len.result _ c.in_ok-script.ensures.capacity c.script_len.ensures;
     } in
-    let begun = opening_begun c.args.items c.args.top c.args.fill l opening in
+    let begun = opening_begun its l opening in
     record {
       begun = begun;
-      kept = begun_keeps NoAnswer c.args.items c.args.top c.args.fill (load_of l) begun;
-      inside = (c.args.items, opening_inside c.args.items c.args.top c.args.fill l opening);
+      kept = begun_keeps NoAnswer its (load_of l) begun;
+      inside = (its, opening_inside its l opening);
       untouched = c.in_ok-memory.ensures.untouched;
     }

@@ -13,9 +13,9 @@ use Rattle.firmware_load.proofs.loading.Loading.close.Goals as goal
 pub loop-self-init : goal.loop-self-init
 loop-self-init g c = record {
   inside = c.requires.inside;
-  begun_so = λ items inside. inside;
+  begun_so = λ its inside. inside;
   closes = closes_none (MayAnswer g.A.ZoneAlloc.state g.A.ZoneAlloc.gives (g.A.ZoneAlloc.state c.args.place.now).begun) (load_of c.args.self.now);
-  asks = λ items inside. asks_nothing items c.args.self.now (g.A.ZoneAlloc.state c.args.place.now);
+  asks = λ its inside. asks_nothing its.items c.args.self.now (g.A.ZoneAlloc.state c.args.place.now);
   handed = c.requires.handed;
   touches = touches_still c.args.self.now.guest;
   begun = refl;
@@ -45,14 +45,14 @@ loop-self-preserved g c =
     let running = sym c.loop-self-test.ensures in
     record {
       inside = c.take_turn.ensures.inside;
-      begun_so = λ items inside. c.take_turn.ensures.begun_so items (state.invariant.begun_so items inside);
+      begun_so = λ its inside. c.take_turn.ensures.begun_so its (state.invariant.begun_so its inside);
       closes = closes_more May (load_of c.args.self.now) (load_of state.self) (load_of c.take_turn.new.self) lawful
           (λ over. true≢false (sym (ap has_ended ((state.invariant.asks c.requires.inside.0 c.requires.inside.1).ended over).0 ∙ over) ∙ running))
           state.invariant.closes running turn;
-      asks = λ items inside.
-          asks_through items c.args.self.now state.self c.take_turn.new.self alloc (g.A.ZoneAlloc.state state.place)
-          (g.A.ZoneAlloc.state c.take_turn.new.place) running (state.invariant.asks items inside)
-          (c.take_turn.ensures.asks items (state.invariant.begun_so items inside));
+      asks = λ its inside.
+          asks_through its.items c.args.self.now state.self c.take_turn.new.self alloc (g.A.ZoneAlloc.state state.place)
+          (g.A.ZoneAlloc.state c.take_turn.new.place) running (state.invariant.asks its inside)
+          (c.take_turn.ensures.asks its (state.invariant.begun_so its inside));
       handed = c.take_turn.ensures.handed;
       touches = touches_on [] [] c.args.self.now.guest state.self.guest c.take_turn.new.self.guest state.invariant.touches c.take_turn.ensures.touches;
       begun = c.take_turn.ensures.begun ∙ state.invariant.begun;

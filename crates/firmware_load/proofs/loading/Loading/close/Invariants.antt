@@ -1,8 +1,8 @@
-use Rattle.std.proofs.Common.{◌≡◌, List, []}
-use Rattle.cfg_directory.specs.declared.item.Item.{Item}
+use Rattle.std.proofs.Common.{◌≡◌, []}
 use Rattle.command_acts.specs.Allocators.{MayAnswer}
 use Rattle.command_acts.specs.FilesInMemory.{placed_ranges}
 use Rattle.command_acts.specs.Runs.{Answers}
+use Rattle.load_states.specs.LoadState.{Opening}
 use Rattle.firmware_load.specs.Inside.{load_of, IsInside, KeepsInside, StaysBegun, AsksOnTheWay, TouchesOver}
 use Rattle.firmware_load.proofs.Turns.{Closes, turns_left}
 use Rattle.firmware_load.proofs.loading.Loading.close.Given as goal
@@ -17,8 +17,8 @@ invariant-loop-self g l =
       inside : KeepsInside l.self;
       begun_so : StaysBegun l.initial.self l.self;
       closes : Closes May (load_of l.initial.self) (load_of l.self);
-      asks : (items : List Item) → IsInside items l.initial.self
-          → AsksOnTheWay items l.initial.self l.self (g.A.ZoneAlloc.state l.initial.place) (g.A.ZoneAlloc.state l.place);
+      asks : (its : Opening) → IsInside its l.initial.self
+          → AsksOnTheWay its.items l.initial.self l.self (g.A.ZoneAlloc.state l.initial.place) (g.A.ZoneAlloc.state l.place);
       handed : (g.A.ZoneAlloc.state l.place).handed ≡ placed_ranges l.self.guest.placements.placed.items;
       touches : TouchesOver [] l.initial.self.guest l.self.guest;
       begun : (g.A.ZoneAlloc.state l.place).begun ≡ (g.A.ZoneAlloc.state l.initial.place).begun;

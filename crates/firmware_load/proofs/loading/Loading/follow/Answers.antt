@@ -27,17 +27,17 @@ loop-plan-preserved g c =
     let given = left_taken (g.C.Schedule.plan state.plan) (g.C.Schedule.plan c.next.new.self) c.in-Some.event c.in-Some.ensures.taken in
     record {
       inside = c.step.ensures.inside;
-      begun_so = λ items inside. c.step.ensures.begun_so items (state.invariant.begun_so items inside);
+      begun_so = λ its inside. c.step.ensures.begun_so its (state.invariant.begun_so its inside);
       follows = follows_more May (load_of c.args.self.now) (load_of state.self) (load_of c.step.new.self) c.in-Some.event
           (g.C.Schedule.plan c.args.plan.now).left (g.C.Schedule.plan state.plan).left (g.C.Schedule.plan c.next.new.self).left lawful
           state.invariant.follows
           given.0 running steps;
       events = given.1 ∙ state.invariant.events;
-      asks = λ items inside.
-          let asked = state.invariant.asks items inside in
-          asks_through items c.args.self.now state.self c.step.new.self alloc alloc_then alloc_now running asked
-          (step_asks May items c.in-Some.event state.self c.step.new.self alloc_then alloc_now (rw asked.top lawful)
-          (state.invariant.begun_so items inside) running steps c.step.ensures.no_room c.step.ensures.sound);
+      asks = λ its inside.
+          let asked = state.invariant.asks its inside in
+          asks_through its.items c.args.self.now state.self c.step.new.self alloc alloc_then alloc_now running asked
+          (step_asks May its c.in-Some.event state.self c.step.new.self alloc_then alloc_now (rw asked.top lawful)
+          (state.invariant.begun_so its inside) running steps c.step.ensures.no_room c.step.ensures.sound);
       handed = c.step.ensures.handed;
       touches = taken_more (g.C.Schedule.plan c.args.plan.now).left (g.C.Schedule.plan state.plan).left (g.C.Schedule.plan c.next.new.self).left
           c.in-Some.event c.args.self.now.guest state.self.guest c.step.new.self.guest state.invariant.touches given.0 c.step.ensures.touches;

@@ -1,5 +1,6 @@
 use Rattle.command_acts.specs.Allocators.{MayAnswer}
 use Rattle.command_acts.specs.Runs.{Answers}
+use Rattle.load_states.specs.LoadState.{begun_with}
 use Rattle.firmware_load.specs.Inside.{load_of}
 use Rattle.firmware_load.proofs.Loaded.{IsClosed, load_over, asks_in_all, without_room}
 use Rattle.firmware_load.proofs.Opening.{opening_on_run, opening_inside_own}
@@ -25,20 +26,22 @@ returns-clause-no_room g c =
     let alloc = g.A.ZoneAlloc.state c.args.place.now in
     let alloc_now = g.A.ZoneAlloc.state c.close.new.place in
     let items = c.args.self.now.guest.device.items in
-    let own = opening_inside_own c.args.self.now c.requires.inside c.requires.fresh.stage in
+    let own = opening_inside_own c.args.self.now c.requires.inside c.requires.fresh in
+    let its = begun_with items own.0 own.1 in
     (without_room items c.args.self.now c.close.new.self alloc alloc_now c.answer.result
     (asks_in_all items c.args.self.now c.follow.new.self c.close.new.self alloc (g.A.ZoneAlloc.state c.follow.new.place) alloc_now
-    (c.follow.ensures.asks items own) (c.close.ensures.asks items (c.follow.ensures.begun_so items own))) c.requires.fresh.stage c.answer.ensures).0
+    (c.follow.ensures.asks its own.2) (c.close.ensures.asks its (c.follow.ensures.begun_so its own.2))) c.requires.fresh.stage c.answer.ensures).0
 
 pub returns-clause-sound : goal.returns-clause-sound
 returns-clause-sound g c =
     let alloc = g.A.ZoneAlloc.state c.args.place.now in
     let alloc_now = g.A.ZoneAlloc.state c.close.new.place in
     let items = c.args.self.now.guest.device.items in
-    let own = opening_inside_own c.args.self.now c.requires.inside c.requires.fresh.stage in
+    let own = opening_inside_own c.args.self.now c.requires.inside c.requires.fresh in
+    let its = begun_with items own.0 own.1 in
     (without_room items c.args.self.now c.close.new.self alloc alloc_now c.answer.result
     (asks_in_all items c.args.self.now c.follow.new.self c.close.new.self alloc (g.A.ZoneAlloc.state c.follow.new.place) alloc_now
-    (c.follow.ensures.asks items own) (c.close.ensures.asks items (c.follow.ensures.begun_so items own))) c.requires.fresh.stage c.answer.ensures).1
+    (c.follow.ensures.asks its own.2) (c.close.ensures.asks its (c.follow.ensures.begun_so its own.2))) c.requires.fresh.stage c.answer.ensures).1
 
 pub returns-clause-touches : goal.returns-clause-touches
 returns-clause-touches g c =

@@ -15,5 +15,5 @@ returns-clause-touches c =
     let l = c.args.self.now in
     let m = l.guest.memory.memory in
     own_touched (MayTouch l.guest.device.flight) l.guest _ refl c.piece.ensures.top
-    (λ address. transfer_own (AnyLawful m.top) c.requires.0 m.top m.fill (load_of l) address c.requires.1.kept)
+    (λ address. transfer_own (AnyLawful c.requires.0.top) c.requires.0 (load_of l) address c.requires.1.kept)
     c.piece.ensures.touches

@@ -80,5 +80,5 @@ returns-in-Reset-clause-inside g c =
 
 pub returns-in-Reset-clause-touches : goal.returns-in-Reset-clause-touches
 returns-in-Reset-clause-touches g c =
-    rw c.in-Reset.is (touches_reset c.args.self.now.guest c.restart.new.self.guest c.requires.inside.1.kept.zones
+    rw c.in-Reset.is (touches_reset c.args.self.now.guest c.restart.new.self.guest (rw c.requires.inside.1.kept.top c.requires.inside.1.kept.zones)
     (ap (λ (w : LoadState). (memory_of w).top) c.restart.ensures.steps ∙ refilled_top c.args.self.now.guest.memory.memory) c.restart.ensures.touches)

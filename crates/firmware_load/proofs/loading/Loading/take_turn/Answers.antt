@@ -14,7 +14,7 @@ returns-else-not-has_ended-clause-asks g c =
     let alloc = g.A.ZoneAlloc.state c.args.place.now in
     let May : Answers = MayAnswer g.A.ZoneAlloc.state g.A.ZoneAlloc.gives alloc.begun in
     let lawful = answers_are_lawful g.A.ZoneAlloc.state g.A.ZoneAlloc.gives alloc.begun c.args.self.now.guest.memory.memory.top c.requires.zones in
-    λ items inside. step_asks May items Firmware c.args.self.now c.step.new.self alloc (g.A.ZoneAlloc.state c.step.new.place) lawful inside
+    λ its inside. step_asks May its Firmware c.args.self.now c.step.new.self alloc (g.A.ZoneAlloc.state c.step.new.place) lawful inside
     c.requires.running c.step.ensures.steps c.step.ensures.no_room c.step.ensures.sound
 
 pub step-requires-then-not-has_ended-clause-zones : goal.step-requires-then-not-has_ended-clause-zones
@@ -41,12 +41,12 @@ returns-then-not-has_ended-clause-asks g c =
     let alloc_then = g.A.ZoneAlloc.state c.step.new.place in
     let alloc_now = g.A.ZoneAlloc.state c.step-then-not-has_ended.new.place in
     let running = sym c.if-not-has_ended.ensures in
-    λ items inside.
-    let first = step_asks May items Firmware c.args.self.now c.step.new.self alloc (g.A.ZoneAlloc.state c.step.new.place) lawful inside
+    λ its inside.
+    let first = step_asks May its Firmware c.args.self.now c.step.new.self alloc (g.A.ZoneAlloc.state c.step.new.place) lawful inside
     c.requires.running c.step.ensures.steps c.step.ensures.no_room c.step.ensures.sound in
-    asks_through items c.args.self.now c.step.new.self c.step-then-not-has_ended.new.self alloc alloc_then alloc_now running first
-    (step_asks May items whole_piece c.step.new.self c.step-then-not-has_ended.new.self alloc_then alloc_now (subst (AreLawful May) (sym first.top) lawful)
-    (c.step.ensures.begun_so items inside) running c.step-then-not-has_ended.ensures.steps c.step-then-not-has_ended.ensures.no_room
+    asks_through its.items c.args.self.now c.step.new.self c.step-then-not-has_ended.new.self alloc alloc_then alloc_now running first
+    (step_asks May its whole_piece c.step.new.self c.step-then-not-has_ended.new.self alloc_then alloc_now (subst (AreLawful May) (sym first.top) lawful)
+    (c.step.ensures.begun_so its inside) running c.step-then-not-has_ended.ensures.steps c.step-then-not-has_ended.ensures.no_room
     c.step-then-not-has_ended.ensures.sound)
 
 pub returns-else-not-has_ended-clause-touches : goal.returns-else-not-has_ended-clause-touches
