@@ -2,7 +2,9 @@
 """Prints a file of cases for `run_cases` in which the container of a file is loaded by a plan that resets the guest so often, and then has no more
 events. It serves bench/run.sh and is no part of the product.
 
-usage: resets.py CONTAINER COUNT
+usage: resets.py CONTAINER COUNT [EVENTS RUNS]
+
+Each reset stands behind so many events, a step and a whole piece in turn, none where nothing is said; and so many loads are made, or one.
 """
 
 import pathlib
@@ -15,6 +17,8 @@ from endings import Refused, ended
 
 LONG_RUN = re.compile(rb"\0{256,}")  # of zeros, which a case tells by their end
 LINE = 4096  # bytes that a line tells
+WHOLE = (1 << 32) - 1  # bytes of a piece that is whole
+ROOM = 64 << 20  # bytes of a dump
 
 
 def told(held):
@@ -29,15 +33,16 @@ def told(held):
             yield f"pad {at}"
 
 
-def main(container, count):
-    if not count.isdecimal():
-        raise Refused(f"{count}: no number")
-    print(f"= {count} resets\nwords load\ninput")
+def main(container, count, events="0", runs="1"):
+    for word in (count, events, runs):
+        if not word.isdecimal():
+            raise Refused(f"{word}: no number")
+    print(f"= {count} resets\nwords load\neach 1 {runs} 1\ninput")
     print(*told(pathlib.Path(container).read_bytes()), sep="\n")
-    print(f"output\nany\nstate done\nplan\nreset\ntimes {count}\n.")
+    print(f"output\nroom {ROOM}\nany\nstate done\nplan\nturns {events} {WHOLE}\nreset\ntimes {count}\n.")
 
 
 if __name__ == "__main__":
-    if len(sys.argv) != 3:
-        sys.exit("usage: resets.py CONTAINER COUNT")
+    if len(sys.argv) not in (3, 5):
+        sys.exit("usage: resets.py CONTAINER COUNT [EVENTS RUNS]")
     sys.exit(ended(main, sys.argv[1:]))

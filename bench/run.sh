@@ -37,6 +37,9 @@ processors=(4096 1024)                 # of the machines of gen
 cases=$root/crates/run_cases/out/run_cases
 resets=(1000 500)                      # how often a guest is reset
 reset_often=(many few written)         # the containers of bench/containers.py whose loads are
+whole_load=16                          # events behind which the file of random.container is read, and a load of it lacks but its last step
+repeated=10                            # how often it is loaded, so that the text of its cases counts for little
+seeds=(9223372036854775808 9223372036854775807) # the least seed whose events reset the guest, twice, and the greatest one of the others
 
 # against WHAT INPUT WORD..: one more program to compare with, what it reads from standard input, and its words.
 against() {
@@ -223,6 +226,24 @@ add_resets() {
     against "no reset" /dev/null "$cases" "$work/$1-0.cases"
 }
 
+# A load that is made four times, since its guest is reset each time that its file is read, beside one that is made once.
+add_broken_off() {
+    local name="resets random" count
+    for count in 3 0; do
+        python3 "$root/bench/resets.py" "$work/random.container" "$count" "$whole_load" "$repeated" >"$work/random-$count.cases" || exit 1
+    done
+    against "a load with 3 resets" /dev/null "$cases" "$work/random-3.cases"
+    against "a load without a reset" /dev/null "$cases" "$work/random-0.cases"
+}
+
+# A boot over the events of a seed that resets the guest, beside one without resets.
+add_seeds() {
+    local name="boot seeds" seed
+    for seed in "${seeds[@]}"; do
+        against "boot --seed $seed" "$root/examples/$described.toml" "$program" boot --seed "$seed"
+    done
+}
+
 # What is compared beside that for the container of many files and commands.
 add_many() {
     local name="load many"
@@ -387,6 +408,8 @@ add_writable
 for container in "${reset_often[@]}"; do
     add_resets "$container"
 done
+add_broken_off
+add_seeds
 add_machine
 for kind in "${terms[@]}"; do
     add_terms "$kind"

@@ -25,12 +25,15 @@ import sys
 from calls import Comparison, Program, Seeds
 from endings import Refused, ended
 from plain.images import add_checksum, add_pointer, allocate, built
-from plain.loads import SCRIPT, loaded
+from plain.loads import LEAST_WITH_RESETS, SCRIPT, loaded
 
 LOADED = "loaded"
 POLICIES = ["low", "top", "scatter"]
+# A seed that draws a write with an effect for each of the events 15 to 17 and 47 to 49: what memory lacks of these tells which are resets.
+TELLING_SEED = LEAST_WITH_RESETS + 147_693
+SEEDS = [0, 1, 7, LEAST_WITH_RESETS - 1, LEAST_WITH_RESETS, LEAST_WITH_RESETS + 1, TELLING_SEED, (1 << 64) - 1]
 WORDS = [
-    *[{"policy": policy, "seed": seed} for policy in POLICIES for seed in (0, 1, 7, (1 << 64) - 1)],
+    *[{"policy": policy, "seed": seed} for policy in POLICIES for seed in SEEDS],
     *[{"top_mib": 3072, "fill": 0xA5}, {"top_mib": 65, "fill": 0xFF, "policy": "top", "seed": 2}, {"top_mib": 72, "fill": 1, "policy": "scatter", "seed": 3}],
 ]
 # Seeds among whose events are writes at these addresses: on both sides of the ends of RAM, and of what is guarded.
@@ -234,7 +237,7 @@ class Drawing:
             "top_mib": self.draws.choice([64, 64, 65, 100, 3072]),
             "fill": self.draws.choice([0, 0, 0, 0xFF, 0xA5]),
             "policy": self.draws.choice(POLICIES),
-            "seed": self.draws.choice([0, 0, 1, self.draws.getrandbits(64)]),
+            "seed": self.draws.choice([0, 1, self.draws.getrandbits(63), LEAST_WITH_RESETS + self.draws.getrandbits(63)]),
         }
 
 

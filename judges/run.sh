@@ -15,10 +15,11 @@
 # kernel of Linux boots on the memory of two descriptions, and what it finds there must be what is described (linux_guest.py). Containers must
 # come back as they are from the folders that tools/container.py makes of them (judge_container.py). Second readers and writers, which are made of
 # docs/FORMATS.md alone (judges/plain), work out what `decode --list`, `build`, `load` and `aml_again` have to say of a great many inputs, hostile
-# ones among them (judge_read_dumps.py, judge_read_tables.py, judge_read_structures.py, judge_builds.py, judge_loads.py, judge_terms.py). Last,
-# the commands that README.md and docs/USES.md show must print what these say. Beside these stand two judges of what the program says of itself:
-# tools/explain.py has to say each line that docs/FORMATS.md lists (judge_explain.py), and docs/vmtables.1, which mandoc reads, what `--help` says
-# (judge_help.py). Nothing is proved here.
+# ones among them (judge_read_dumps.py, judge_read_tables.py, judge_read_structures.py, judge_builds.py, judge_loads.py, judge_terms.py); and the
+# dumps of some seeds, with resets and without, have hashes that one more program worked out (judge_seeds.py). Last, the commands that README.md
+# and docs/USES.md show must print what these say. Beside these stand two judges of what the program says of itself: tools/explain.py has to say
+# each line that docs/FORMATS.md lists (judge_explain.py), and docs/vmtables.1, which mandoc reads, what `--help` says (judge_help.py). Nothing is
+# proved here.
 #
 # And each allocation of some commands is refused, and each of their reads and writes fails, one at a time, which they must say (judge_memory.py).
 #
@@ -52,7 +53,7 @@ wrong_lines=(2 4)                                              # lines of a dump
 policies=(low top scatter)                                     # the policies of places, and the seeds of events, with which descriptions boot
 seeds=(1 7 18446744073709551615)
 fills=(00 ff a5) # the fill bytes, and the seeds, with which they boot for a list that is to be the same
-list_seeds=(0 1 2 3 5 7 11 13 4294967296 9223372036854775808 18446744073709551614 18446744073709551615)
+list_seeds=(0 1 2 3 5 7 11 13 4294967296 9223372036854775807 9223372036854775808 9223372036854775809 18446744073709551614 18446744073709551615)
 faults=0
 
 has() {
@@ -366,6 +367,7 @@ judge_all_plainly() {
     judge_plainly judge_read_structures.py "$program"
     judge_plainly judge_builds.py "$program" examples/*.toml "$work"/{greatest,bridge,processors}.toml
     judge_plainly judge_loads.py "$program" examples/*.toml
+    judge_plainly judge_seeds.py "$program"
 }
 
 # Whether a program is there, and nothing that crates are built of is newer.

@@ -1,12 +1,13 @@
 """Loads of a container over the events of a seed (docs/FORMATS.md, "A loader script", "Loads and seeds", "The dump")."""
 
 import collections
+import copy
 
 from memory_dump import Memory, dump_text
 
 from plain.containers import name_in, read_container
 from plain.ended import Refused
-from plain.places import HIGH_SIZE, Zones
+from plain.places import F_SEGMENT, HIGH_SIZE, Zones
 from plain.seeds import Words
 
 REFUSED, NO_ROOM = 5, 4
@@ -18,6 +19,7 @@ COMMAND_SIZE, MOST_SCRIPT, ENTRY_SIZE = 128, 1_048_576, 64
 PIECE = 4096  # of the directory and the script, that is read at a time
 DESCRIPTORS, BUFFER, BUFFER_SIZE = 0x7000, 0x8000, 0x1000
 EVENTS, GREATEST_PIECE = 4096, (1 << 32) - 1
+LEAST_WITH_RESETS, RESETS = 1 << 63, (16, 48)  # the least seed that has resets, and which of its events they are
 SIZES = (1, 2, 4, 8)
 
 Read = collections.namedtuple("Read", "source offset address length")
@@ -48,19 +50,31 @@ class Load:
 
     def __init__(self, directory, files, memory, policy, words):
         self.directory = directory
-        self.files = files
+        self.opening = files
         self.memory = memory
+        self.policy = policy
         self.words = words
-        self.zones = Zones(memory.top, policy, words)
+        self.begin()
+
+    def begin(self):
+        """Has the firmware at its first step, with the files as they were at first, none of them placed, and nothing in flight."""
+        self.files = copy.deepcopy(self.opening)
+        self.zones = Zones(self.memory.top, self.policy, self.words)
         self.flight = None
         self.moved = 0
         self.firmware = self.steps()
+
+    def reset(self):
+        """Resets the guest. Its memory stays, but for the F segment."""
+        start, length = F_SEGMENT
+        self.memory.put(start, self.memory.fill * (length // 16))
+        self.begin()
 
     def run(self, seed):
         """Takes the events of a seed, and then steps and pieces in turn, until the load has ended."""
         try:
             if seed != 0:
-                self.take_drawn()
+                self.take_drawn(RESETS if seed >= LEAST_WITH_RESETS else ())
             while True:
                 self.step()
                 self.piece(GREATEST_PIECE)
@@ -68,18 +82,25 @@ class Load:
             self.memory.put(DESCRIPTORS, self.memory.fill)
             self.memory.put(BUFFER, self.memory.fill * (BUFFER_SIZE // 16))
 
-    def take_drawn(self):
+    def take_drawn(self, resets):
+        """Takes the events that are drawn, and a reset in the place of some."""
         number = 0
-        for _ in range(EVENTS):
-            word = self.words[number]
-            if word % 4 == 0:
-                self.step()
-            elif word % 4 < 3:
-                self.piece(1 + word // 4 % 4096)
+        for event in range(EVENTS):
+            if event in resets:
+                self.reset()
             else:
-                self.other_write(self.words[number + 1] % 0x100000, self.words[number + 2] % 256)
-                number += 2
-            number += 1
+                self.take(number)
+            number += 3 if self.words[number] % 4 == 3 else 1
+
+    def take(self, number):
+        """Takes the event that is drawn from a word, and of a write from the two behind it."""
+        word = self.words[number]
+        if word % 4 == 0:
+            self.step()
+        elif word % 4 < 3:
+            self.piece(1 + word // 4 % 4096)
+        else:
+            self.other_write(self.words[number + 1] % 0x100000, self.words[number + 2] % 256)
 
     def step(self):
         next(self.firmware)

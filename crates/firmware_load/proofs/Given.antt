@@ -1,23 +1,25 @@
 -- The events that are left, when one is given.
-use Rattle.std.proofs.Common.{◌≡◌, ℕ, zero, suc, ◌+◌, ◌-◌, ◌^◌, ◌<◌, List, [], ◌∷◌, drop, Some, slice_get, ltb, arith, refl, sym, ap, ◌∙◌}
+use Rattle.std.proofs.Common.{◌≡◌, ℕ, zero, suc, ◌+◌, ◌-◌, ◌^◌, ◌<◌, Bool, List, [], ◌∷◌, drop, Some, slice_get, ltb, arith, refl, sym, ap, ◌∙◌}
 use Rattle.std.proofs.lemmas.Bool.{cond-true, lt-ltb}
 use Rattle.std.proofs.lemmas.List.{drop_more}
 use Rattle.std.proofs.lemmas.Option.{slice_get_within, get_or_from_slice_get}
 use Rattle.rand_pcg.specs.Lcg.{Lcg}
 use Rattle.load_states.specs.declared.event.Event.{Event}
 use Rattle.firmware_load.specs.Schedules.{ListedState, Plan, for_seed, seeded_events}
-use Rattle.firmware_load.specs.Drawing.{drawn_event, behind_event, drawn_events}
+use Rattle.firmware_load.specs.Drawing.{event_left, drawn_event, behind_event, events_left}
 
--- none are left to draw
-pub none_left : (g : Lcg) → drawn_events 0 g ≡ []
-unfolding drawn_events
-none_left g = refl
+-- none are left where the count is 0
+pub none_left : (resets : Bool) (g : Lcg) → events_left resets 0 g ≡ []
+unfolding events_left
+none_left resets g = refl
 
--- of those that are left to draw the first one is the next
-pub one_left : (count : ℕ) (g : Lcg) → ¬ (count ≡ 0) → drawn_events count g ≡ drawn_event g ∷ drawn_events (count - 1) (behind_event g)
-unfolding drawn_events
-one_left zero g some = absurd (some refl)
-one_left (suc count) g some = ap (λ (n : ℕ). drawn_event g ∷ drawn_events n (behind_event g)) (omega arith)
+-- else the next one is the first, by the event that is drawn
+pub one_left : (resets : Bool) (count : ℕ) (g : Lcg) → ¬ (count ≡ 0)
+    → events_left resets count g ≡ event_left resets count (drawn_event g) ∷ events_left resets (count - 1) (behind_event g)
+unfolding events_left
+one_left resets zero g some = absurd (some refl)
+one_left resets (suc count) g some =
+    ap (λ (n : ℕ). event_left resets (suc count) (drawn_event g) ∷ events_left resets n (behind_event g)) (omega arith)
 
 -- an item of a list, and those behind it
 pub item_left : (events : List Event) (k : ℕ) (event : Event) → slice_get events k ≡ Some event → drop k events ≡ event ∷ drop (k + 1) events

@@ -1,6 +1,7 @@
 mod Drawn
 mod OfSeed
 mod Given
+mod Resets
 mod SoMany
 pub mod RoomOfLoads
 pub mod CommandsDone

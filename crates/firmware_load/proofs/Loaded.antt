@@ -1,11 +1,11 @@
 -- A whole load: it follows its plan, and is closed.
-use Rattle.std.proofs.Common.{◌≡◌, ℕ, ◌≤◌, ◌⊎◌, inl, inr, Bool, true, false, List, [], ◌++◌, Result, Ok, Err, arith, refl, sym, ap, subst, ◌∙◌}
+use Rattle.std.proofs.Common.{◌≡◌, ℕ, ◌≤◌, ◌⊎◌, inl, inr, Bool, true, false, List, [], ◌++◌, Result, Ok, Err, arith, sym, ap, ◌∙◌}
 use Rattle.std.proofs.lemmas.Bool.{cases_Bool, true≢false}
-use Rattle.std.proofs.lemmas.List.{append-nil}
 use Rattle.vt_outside.specs.Placement.{Range}
 use Rattle.vt_outside.specs.Stream.{next_count}
 use Rattle.zone_alloc.specs.Allocators.{AllocState}
 use Rattle.cfg_directory.specs.declared.item.Item.{Item}
+use Rattle.command_acts.specs.Allocators.{AreLawful}
 use Rattle.command_acts.specs.declared.fault.LoadFault.{LoadFault}
 use Rattle.command_acts.specs.declared.fault.LoadFault.TheVariants.{NoRoom}
 use Rattle.command_acts.specs.FilesInMemory.{placed_ranges}
@@ -14,10 +14,12 @@ use Rattle.command_acts.specs.Runs.{Answers}
 use Rattle.load_states.specs.declared.event.Event.{Event}
 use Rattle.load_states.specs.declared.stage.Stage.{Stage}
 use Rattle.load_states.specs.declared.stage.Stage.TheVariants.{Asks, Awaits, AtCommand, AwaitsSkip, AsksWrite, AwaitsWrite, Done, Refused}
-use Rattle.load_states.specs.Loads.{most_closing, stage_after}
+use Rattle.load_states.specs.Loads.{IsBegun, most_closing, stage_after}
 use Rattle.load_states.specs.Steps.{opening_stage}
-use Rattle.load_states.specs.LoadState.{LoadState, opening_of}
-use Rattle.load_states.specs.Runs.{EndsAfter, closing_events, has_ended}
+use Rattle.load_states.specs.LoadState.{LoadState, memory_of, opening_of}
+use Rattle.load_states.specs.Runs.{AnyLawful, closing_events, has_ended}
+use Rattle.load_states.proofs.Opening.{begun_keeps}
+use Rattle.load_states.proofs.PiecesParted.{run_since}
 use Rattle.load_states.proofs.WholeRuns.{loaded_over}
 use Rattle.firmware_load.specs.World.{IsLoadOver}
 use Rattle.firmware_load.specs.declared.loading.Loading.{Loading}
@@ -33,10 +35,11 @@ IsClosed May between last =
 
 -- A load that was begun, has followed its plan and was closed, is over.
 pub load_over : (May : Answers) (first between last : LoadState) (left_first left : List Event) (handed : List Range)
-    (answer : Result (Unit {0}) LoadFault) → IsOnRun May first [] first → Follows May first between left_first left
+    (answer : Result (Unit {0}) LoadFault) → AreLawful May (memory_of first).top → IsBegun (opening_of first) first → IsOnRun May first [] first
+    → Follows May first between left_first left
     → (has_ended between.stage ≡ true) ⊎ (left ≡ []) → IsClosed May between last → has_ended last.stage ≡ true
     → last.stage ≡ stage_after answer → handed ≡ placed_ranges last.placed → IsLoadOver May first left_first left handed answer last
-load_over May first between last left_first left handed answer on follows ends closes over stage placed =
+load_over May first between last left_first left handed answer lawful is on follows ends closes over stage placed =
     let so = follows first [] on in
     let taken = so.0 in
     let closed = closes first taken so.2 in
@@ -50,7 +53,9 @@ load_over May first between last left_first left handed answer on follows ends c
         | inl ended ↦ let none = closed.2 ended in absurd (omega (arith, some, none))
         | inr none ↦ none
       ];
-      ran = subst (λ (es : List Event). EndsAfter May es first last) (append-nil (taken ++ closing_events closing)) (closed.3.goes_on [] last (refl, over));
+      ran = (closed.3.ran, over);
+      since = run_since May (opening_of first) (taken ++ closing_events closing) first first last lawful is
+          (begun_keeps (AnyLawful (memory_of first).top) (opening_of first) first is).now closed.3.ran;
       leaves = loaded_over May (opening_of first) taken closing handed answer last closed.3.kept
           stage placed;
     }

@@ -1,12 +1,13 @@
 -- The events that the generator of a seed draws are those of the seed.
-use Rattle.std.proofs.Common.{◌≡◌, ℕ, zero, suc, ◌+◌, ◌%◌, List, ◌∷◌, arith, refl, ap, ap₂, ◌∙◌}
+use Rattle.std.proofs.Common.{◌≡◌, ℕ, zero, suc, ◌+◌, ◌%◌, ◌^◌, Bool, leb, List, ◌∷◌, arith, refl, ap, ap₂, ◌∙◌}
 use Rattle.rand_core.specs.Pcg32Seed.{pcg32_seed}
 use Rattle.rand_pcg.specs.Lcg.{Lcg, next_state, state_after}
 use Rattle.rand_pcg.specs.Pcg.{multiplier_64, pcg32, pcg32_of_seed}
 use Rattle.zone_alloc.specs.Policies.{generator_after, word_of}
 use Rattle.load_states.specs.declared.event.Event.{Event}
-use Rattle.firmware_load.specs.Schedules.{event_as, words_as, event_at, word_behind, events_from, seeded_events}
-use Rattle.firmware_load.specs.Drawing.{behind_as, drawn_event, behind_event, drawn_events}
+use Rattle.firmware_load.specs.Schedules.{event_as, words_as, event_at, word_behind, events_from, with_resets, seeded_events}
+use Rattle.firmware_load.specs.Drawing.{behind_as, drawn_event, behind_event, drawn_events, events_left}
+use Rattle.firmware_load.proofs.Resets.{of_seed}
 
 -- one step behind others is one step more
 step_behind : (w m p k s : ℕ) → next_state w m p (state_after w m p k s) ≡ state_after w m p (suc k) s
@@ -69,14 +70,15 @@ events_next seed k (suc count) g at =
     ap₂ (λ (event : Event) (events : List Event). event ∷ events) (event_next seed k g at)
     (events_next seed (word_behind seed k) count (behind_event g) (behind_next seed k g at))
 
--- a generator draws nothing for seed 0
-pub none_drawn : (seed : ℕ) (g : Lcg) → seed ≡ 0 → drawn_events 0 g ≡ seeded_events seed
-unfolding drawn_events seeded_events
-none_drawn zero g none = refl
-none_drawn (suc n) g none = absurd (omega (arith, none))
+-- seed 0 has none
+pub none_drawn : (seed : ℕ) (resets : Bool) (g : Lcg) → seed ≡ 0 → events_left resets 0 g ≡ seeded_events seed
+unfolding events_left seeded_events
+none_drawn zero resets g none = refl
+none_drawn (suc n) resets g none = absurd (omega (arith, none))
 
--- of another seed it draws 4,096 events
-pub all_drawn : (seed : ℕ) (g : Lcg) → ¬ (seed ≡ 0) → g ≡ pcg32_of_seed (pcg32_seed 16 seed) → drawn_events 4096 g ≡ seeded_events seed
+-- another seed has 4,096, its resets among them
+pub all_drawn : (seed : ℕ) (g : Lcg) → ¬ (seed ≡ 0) → g ≡ pcg32_of_seed (pcg32_seed 16 seed)
+    → events_left (leb (2 ^ 63) seed) 4096 g ≡ seeded_events seed
 unfolding seeded_events
 all_drawn zero g some is = absurd (some refl)
-all_drawn (suc n) g some is = events_next (suc n) 0 4096 g (is ∙ first_generator (suc n))
+all_drawn (suc n) g some is = of_seed (suc n) g ∙ ap (with_resets (suc n)) (events_next (suc n) 0 4096 g (is ∙ first_generator (suc n)))

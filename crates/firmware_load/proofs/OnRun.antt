@@ -1,10 +1,8 @@
 -- A load that is on its run, and what its allocator was asked on the way.
-use Rattle.std.proofs.Common.{◌≡◌, ℕ, ◌⊎◌, inl, inr, true, false, List, [], ◌∷◌, ◌++◌, Option, Some, None, append_assoc, refl, sym, ap, subst, ◌∙◌}
+use Rattle.std.proofs.Common.{◌≡◌, ℕ, ◌⊎◌, inl, inr, true, false, List, [], ◌∷◌, ◌++◌, Some, append_assoc, refl, sym, ap, subst, ◌∙◌}
 use Rattle.std.proofs.lemmas.Bool.{true≢false}
 use Rattle.std.proofs.lemmas.Option.{none-some}
-use Rattle.vt_outside.specs.Placement.{Range}
 use Rattle.vt_outside.specs.Stream.{next_count}
-use Rattle.zone_alloc.specs.declared.alloc.Request.{Request}
 use Rattle.zone_alloc.specs.Allocators.{AllocState}
 use Rattle.cfg_directory.specs.declared.item.Item.{Item}
 use Rattle.command_acts.specs.Allocators.{AreLawful}
@@ -15,22 +13,27 @@ use Rattle.load_states.specs.declared.event.Event.{Event}
 use Rattle.load_states.specs.declared.stage.Stage.{Stage}
 use Rattle.load_states.specs.declared.stage.Stage.TheVariants.{Asks, Awaits, AtCommand, AwaitsSkip, AsksWrite, AwaitsWrite, Done, Refused}
 use Rattle.load_states.specs.LoadState.{LoadState, Opening, memory_of, opening_of}
-use Rattle.load_states.specs.Runs.{AnyLawful, EndsAfter, StepsTo, has_ended, request_of}
+use Rattle.load_states.specs.Runs.{AnyLawful, RunsTo, StepsTo, has_ended}
+use Rattle.load_states.proofs.MoreAnswers.{lawful_more, steps_more}
 use Rattle.load_states.proofs.NoRoomAsked.{no_room_asks}
 use Rattle.load_states.proofs.Readings.{no_room_of}
 use Rattle.load_states.proofs.StepKeeps.{step_keeps, step_keeps_now}
 use Rattle.firmware_load.specs.World.{IsWithoutRoom, IsSound}
 use Rattle.firmware_load.specs.declared.loading.Loading.{Loading}
 use Rattle.firmware_load.specs.Inside.{load_of, IsInside, IsOnRun, AsksOnTheWay}
-use Rattle.firmware_load.proofs.StepInside.{asked_by}
 
--- one more event
+-- one more event of a run
+runs_more : (May : Answers) (events : List Event) (event : Event) (begun w next : LoadState) → RunsTo May events begun w → has_ended w.stage ≡ false
+    → StepsTo May event w next → RunsTo May (events ++ event ∷ []) begun next
+runs_more May [] event begun w next runs running steps =
+    subst (λ (v : LoadState). RunsTo May (event ∷ []) v next) runs (running, (next, steps, refl))
+runs_more May (first ∷ events) event begun w next runs running steps =
+    (runs.0, (runs.1.0, runs.1.1, runs_more May events event runs.1.0 w next runs.1.2 running steps))
+
 pub run_more : (May : Answers) (begun : LoadState) (events : List Event) (event : Event) (w next : LoadState) → AreLawful May (memory_of begun).top
     → IsOnRun May begun events w → has_ended w.stage ≡ false → StepsTo May event w next → IsOnRun May begun (events ++ event ∷ []) next
 run_more May begun events event w next lawful on running steps = record {
-  goes_on = λ rest last ends.
-      subst (λ (es : List Event). EndsAfter May es begun last) (sym (append_assoc events (event ∷ []) rest))
-      (on.goes_on (event ∷ rest) last (running, (next, steps, ends)));
+  ran = runs_more May events event begun w next on.ran running steps;
   kept = step_keeps May (opening_of begun) events event w next lawful on.kept steps;
 }
 
@@ -58,18 +61,6 @@ pub follows_all : (May : Answers) (first w : LoadState) (left_first left left_no
 follows_all May first w left_first left left_now follows none none_now =
     subst (Follows May first w left_first) (none ∙ sym none_now) follows
 
--- a lawful answer is one of any lawful allocator
-lawful_answer : (May : Answers) (top : ℕ) (handed : List Range) (request : Request) (answer : Option ℕ) → AreLawful May top → May handed request answer
-    → AnyLawful top handed request answer
-lawful_answer May top handed request None lawful may = tt
-lawful_answer May top handed request (Some place) lawful may = lawful handed request place may
-
--- a step whose answers are lawful is one of any lawful allocator
-pub lawful_steps : (May : Answers) (top : ℕ) (event : Event) (w next : LoadState) → AreLawful May top → StepsTo May event w next
-    → StepsTo (AnyLawful top) event w next
-lawful_steps May top event w next lawful steps =
-    asked_by May (AnyLawful top) event w next (request_of event w) (λ handed request answer may. lawful_answer May top handed request answer lawful may) steps
-
 -- a load that ends without room has ended
 no_room_ended : (s : Stage) (index : ℕ) → no_room_of s ≡ Some index → has_ended s ≡ true
 no_room_ended (Asks reading) index is = absurd (none-some index is)
@@ -94,7 +85,7 @@ pub step_asks : (May : Answers) (its : Opening) (event : Event) (before after : 
 step_asks May its event before after alloc_before alloc_after lawful inside running steps without sound =
     let own = subst (AreLawful May) inside.kept.top lawful in
     let kept = step_keeps_now (AnyLawful its.top) its event (load_of before) (load_of after) (λ handed request place free. free)
-    inside.kept (lawful_steps May its.top event (load_of before) (load_of after) own steps) in
+    inside.kept (steps_more May (AnyLawful its.top) (lawful_more May its.top own) event (load_of before) (load_of after) steps) in
     record {
       no_room = λ index is.
           elim (without index is) as (λ _. (before.stage ≡ Refused (NoRoom index))

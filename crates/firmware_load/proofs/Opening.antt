@@ -1,5 +1,5 @@
 -- What a load keeps when it begins.
-use Rattle.std.proofs.Common.{◌≡◌, ℕ, ◌≤◌, ◌∙◌, List, [], length, Result, Ok, Err, IfOk, vec_capacity, arith, sym, ap, ap₂, subst}
+use Rattle.std.proofs.Common.{◌≡◌, ℕ, ◌≤◌, ◌∙◌, List, [], length, Result, Ok, Err, IfOk, vec_capacity, arith, refl, sym, ap, ap₂, subst}
 use Rattle.std.specs.List.{AllByRecursion}
 use Rattle.vt_outside.specs.Name.{IsName}
 use Rattle.vt_bytes.specs.Memory.{IsTop, IsMemory, IsRam, at}
@@ -81,4 +81,4 @@ opening_inside_own l inside begun =
 
 -- A load that was just begun is at the start of its run, however places will be answered.
 pub opening_on_run : (May : Answers) (l : Loading) → IsBegun (opening_of (load_of l)) (load_of l) → IsOnRun May (load_of l) [] (load_of l)
-opening_on_run May l begun = record { goes_on = λ rest last ends. ends; kept = begun_keeps May (opening_of (load_of l)) (load_of l) begun }
+opening_on_run May l begun = record { ran = refl; kept = begun_keeps May (opening_of (load_of l)) (load_of l) begun }

@@ -1,6 +1,5 @@
 -- What a load keeps inside over a step.
-use Rattle.std.proofs.Common.{◌≡◌, ℕ, ◌≤◌, Bool, List, [], ◌∷◌, ◌++◌, length, Option, Some, None, MatchOption, IfSome, IfOk, Vec, Global, sym, ap, subst, ◌∙◌}
-use Rattle.vt_outside.specs.Placement.{Range, IsFree}
+use Rattle.std.proofs.Common.{◌≡◌, ℕ, ◌≤◌, Bool, List, [], ◌∷◌, ◌++◌, length, Option, Some, IfSome, IfOk, Vec, Global, sym, ap, subst, ◌∙◌}
 use Rattle.cfg_directory.specs.declared.item.Item.{Item}
 use Rattle.cfg_directory.specs.Files.{files_of}
 use Rattle.loader_script.specs.declared.refusing.FileInfo.{FileInfo}
@@ -8,39 +7,20 @@ use Rattle.loader_script.specs.Run.{infos_of}
 use Rattle.zone_alloc.specs.declared.alloc.Request.{Request}
 use Rattle.zone_alloc.specs.Allocators.{AllocState, Begun}
 use Rattle.command_acts.specs.Allocators.{AreZonesOf, MayAnswer}
-use Rattle.command_acts.specs.FilesInMemory.{placed_ranges}
 use Rattle.command_acts.specs.Runs.{Answers}
 use Rattle.command_acts.specs.Script.{script_in}
 use Rattle.command_acts.proofs.Goes.{answers_are_lawful}
 use Rattle.load_states.specs.declared.event.Event.{Event}
 use Rattle.load_states.specs.LoadState.{LoadState, Opening, memory_of}
 use Rattle.load_states.specs.Kept.{IsKept}
-use Rattle.load_states.specs.Runs.{AnyLawful, StepsTo, request_of}
+use Rattle.load_states.specs.Runs.{AnyLawful, StepsTo}
 use Rattle.load_states.specs.Steps.{step}
 use Rattle.firmware_load.specs.declared.loading.Loading.{Loading}
 use Rattle.firmware_load.specs.Inside.{load_of, world_in, StaysBegun, HasRooms, SameRooms}
 use Rattle.firmware_load.specs.World.{WorldState}
 use Rattle.firmware_load.proofs.LoadStates.{of_world}
-use Rattle.load_states.proofs.MoreAnswers.{MayMore, kept_more}
+use Rattle.load_states.proofs.MoreAnswers.{MayMore, kept_more, lawful_more, steps_more}
 use Rattle.load_states.proofs.StepKeeps.{step_keeps, step_keeps_now}
-
--- a step of which each answer is one that others may give too
-pub asked_by : (May Other : Answers) (event : Event) (w next : LoadState) (asked : Option Request)
-    → ((handed : List Range) (request : Request) (answer : Option ℕ) → May handed request answer → Other handed request answer)
-    → MatchOption asked (next ≡ step event None w)
-    (λ request. (answer : Option ℕ) × May (placed_ranges w.placed) request answer × (next ≡ step event answer w))
-    → MatchOption asked (next ≡ step event None w)
-    (λ request. (answer : Option ℕ) × Other (placed_ranges w.placed) request answer × (next ≡ step event answer w))
-asked_by May Other event w next None weaker steps = steps
-asked_by May Other event w next (Some request) weaker steps = (steps.0, weaker (placed_ranges w.placed) request steps.0 steps.1, steps.2)
-
--- an answer that an allocator of memory below a top may give is lawful
-any_lawful : {A : Type 0} (state_of : A → AllocState) (gives : A → Request → Option ℕ → Type 0) (begun : Begun)
-    (top : ℕ) → AreZonesOf top begun.zones → (handed : List Range)
-    (request : Request) (answer : Option ℕ) → MayAnswer state_of gives begun handed request answer
-    → AnyLawful top handed request answer
-any_lawful state_of gives begun top are handed request answer may =
-    subst (λ (range : Range). IfSome answer (λ place. IsFree range handed request.size request.align place)) (are request.zone) may.lawful
 
 -- a load has the rooms still that it had
 same_rooms : (items : List Item) (l next : Loading) → HasRooms items l → SameRooms l next → HasRooms items next
@@ -61,7 +41,7 @@ inside_after state_of gives begun l next event are steps same its inside =
     let zones : AreZonesOf its.top begun.zones = subst (λ t. AreZonesOf t begun.zones) inside.kept.top are in
     record {
       kept = step_keeps_now (AnyLawful its.top) its event w (load_of next) (λ handed request place free. free) inside.kept
-          (asked_by May (AnyLawful its.top) event w (load_of next) (request_of event w) (any_lawful state_of gives begun its.top zones) steps);
+          (steps_more May (AnyLawful its.top) (lawful_more May its.top (answers_are_lawful state_of gives begun its.top zones)) event w (load_of next) steps);
       rooms = same_rooms its.items l next inside.rooms same;
     }
 

@@ -25,13 +25,14 @@ use Rattle.load_states.specs.Kept.{KeepsNow}
 use Rattle.load_states.specs.Loads.{most_steps, most_closing}
 use Rattle.load_states.specs.LoadState.{LoadState, Opening, memory_of, opening_of, items_now, listed_named}
 use Rattle.load_states.specs.Runs.{AnyLawful, StepsTo, closing_events, has_ended, whole_piece}
+use Rattle.load_states.proofs.MoreAnswers.{lawful_more, steps_more}
 use Rattle.load_states.proofs.Ending.{step_goes, step_not_back, whole_piece_idle, steps_left_most}
 use Rattle.load_states.proofs.NamedItems.{listing, listed_as_named}
 use Rattle.load_states.proofs.Readings.{steps_left}
 use Rattle.load_states.proofs.StepKeeps.{step_keeps_now}
 use Rattle.firmware_load.specs.declared.loading.Loading.{Loading}
 use Rattle.firmware_load.specs.Inside.{load_of, KeepsInside, IsOnRun, IsTurn}
-use Rattle.firmware_load.proofs.OnRun.{run_more, lawful_steps}
+use Rattle.firmware_load.proofs.OnRun.{run_more}
 
 -- 1 while a transfer is in flight, whose look may still be in vain
 abbrev pub in_flight : Option Flight → ℕ
@@ -150,7 +151,8 @@ turn_less_inside May l next lawful inside running turn =
     let top = inside.0.top in
     turn_less (AnyLawful top) inside.0 (load_of l) (load_of next) (λ handed request place free. free) inside.1.kept running (record {
       middle = turn.middle;
-      first = lawful_steps May top Firmware (load_of l) turn.middle (subst (AreLawful May) inside.1.kept.top lawful) turn.first;
+      first = steps_more May (AnyLawful top) (lawful_more May top (subst (AreLawful May) inside.1.kept.top lawful)) Firmware (load_of l) turn.middle
+          turn.first;
       second = turn.second;
     })
 

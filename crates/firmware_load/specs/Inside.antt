@@ -25,7 +25,7 @@ use Rattle.load_states.specs.declared.stage.Stage.{Stage}
 use Rattle.load_states.specs.declared.stage.Stage.TheVariants.{Refused}
 use Rattle.load_states.specs.LoadState.{LoadState, Opening, opening_of}
 use Rattle.load_states.specs.Steps.{at_command}
-use Rattle.load_states.specs.Runs.{AnyLawful, EndsAfter, StepsTo, request_for, has_ended, whole_piece}
+use Rattle.load_states.specs.Runs.{AnyLawful, RunsTo, StepsTo, request_for, has_ended, whole_piece}
 use Rattle.load_states.specs.Kept.{IsKept, KeepsNow}
 use Rattle.load_states.specs.Touching.{OneMayLeaveTouched, MayTouchOver}
 use Rattle.firmware_load.specs.declared.guest.Guest.{Guest}
@@ -121,10 +121,9 @@ GoesByCommand May index entry w next =
     MatchOption (request_for entry w) (next ≡ at_command index (Some entry) None w)
     (λ request. (answer : Option ℕ) × May (placed_ranges w.placed) request answer × (next ≡ at_command index (Some entry) answer w))
 
--- A load is on its run: over these events from a load that was begun, none of which came behind the run's end. So however it ends from here
--- on, it ends from there on; and it keeps what a load keeps.
+-- A load is on its run: over these events from a load that was begun, none of which came behind the run's end; and it keeps what a load keeps.
 pub record IsOnRun (May : Answers) (begun : LoadState) (events : List Event) (w : LoadState) : Type 0 where
-  pub goes_on : (rest : List Event) (last : LoadState) → EndsAfter May rest w last → EndsAfter May (events ++ rest) begun last
+  pub ran : RunsTo May events begun w
   pub kept : IsKept May (opening_of begun) events w
 
 -- A turn: a step of the firmware and then, unless the load has ended, a piece as long as any transfer.

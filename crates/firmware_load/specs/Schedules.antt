@@ -1,5 +1,5 @@
 -- The events that schedules have for a seed.
-use Rattle.std.specs.Prelude.{⊤, ℕ, zero, suc, ◌+◌, ◌/◌, ◌%◌, ◌^◌, ◌<◌, ◌≤◌, List, [], ◌∷◌, nat_lt, if◌then◌else◌}
+use Rattle.std.specs.Prelude.{⊤, ℕ, zero, suc, ◌+◌, ◌/◌, ◌%◌, ◌^◌, ◌<◌, ◌≤◌, List, [], ◌∷◌, nat_lt, slice_set, if◌then◌else◌}
 use Rattle.zone_alloc.specs.Policies.{word_of}
 use Rattle.load_states.specs.declared.event.Event.{Event}
 use Rattle.load_states.specs.declared.event.Event.TheVariants.{Device, Firmware, Other, Reset}
@@ -54,10 +54,14 @@ unfoldable pub events_from : ℕ → ℕ → ℕ → List Event
 events_from seed k zero = []
 events_from seed k (suc count) = event_at seed k ∷ events_from seed (word_behind seed k) count
 
--- the events of a seed: none for 0, and for any other those that its words draw, 4,096 of them
+-- a seed of 2^63 or more resets the guest: events 16 and 48, counted from 0, are resets, in the place of those that were drawn there
+abbrev pub with_resets : ℕ → List Event → List Event
+with_resets seed events = if nat_lt seed (2 ^ 63) then events else slice_set (slice_set events 16 Reset) 48 Reset
+
+-- the events of a seed: none for 0, and for any other those that its words draw, 4,096 of them, but for its resets
 unfoldable pub seeded_events : ℕ → List Event
 seeded_events zero = []
-seeded_events (suc n) = events_from (suc n) 0 4096
+seeded_events (suc n) = with_resets (suc n) (events_from (suc n) 0 4096)
 
 -- an event that a seed may have: a piece has 1 to 4,096 bytes, and a byte is written below 1 MiB
 abbrev pub IsSeeded : Event → Type 0

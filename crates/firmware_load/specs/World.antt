@@ -13,6 +13,7 @@ use Rattle.load_states.specs.declared.stage.Stage.TheVariants.{Asks, Awaits, AtC
 use Rattle.command_acts.specs.Runs.{Answers}
 use Rattle.load_states.specs.Loads.{IsLoadedOver, most_closing}
 use Rattle.load_states.specs.LoadState.{LoadState, opening_of}
+use Rattle.load_states.specs.Pieces.{IsRunSince}
 use Rattle.load_states.specs.Runs.{EndsAfter, closing_events, request_of}
 use Rattle.load_states.specs.Touching.{MayTouchOver}
 use Rattle.guest_memory.specs.Touched.{TouchesOnly}
@@ -55,7 +56,8 @@ IsSound before after alloc_before alloc_after = ((index : ℕ) → (after.stage 
     → alloc_after.refusals ≡ alloc_before.refusals
 
 -- A whole load from one that was begun, over the events that it has taken of a plan and, where the plan has no more, over some that end it. It
--- is the run over these, no shorter one has ended, and it leaves what a whole load leaves.
+-- is the run over these, no shorter one has ended, and it leaves what a whole load leaves. What came before the last reset among them is
+-- forgotten, but for memory.
 pub record IsLoadOver (May : Answers) (begun : LoadState) (left_before left : List Event) (handed : List Range)
     (answer : Result (Unit {0}) LoadFault) (w : LoadState) : Type 0 where
   pub taken : List Event
@@ -64,6 +66,7 @@ pub record IsLoadOver (May : Answers) (begun : LoadState) (left_before left : Li
   pub few : closing ≤ most_closing (opening_of begun).items
   pub after_plan : 0 < closing → left ≡ []
   pub ran : EndsAfter May (taken ++ closing_events closing) begun w
+  pub since : IsRunSince May begun begun (taken ++ closing_events closing) w
   pub leaves : IsLoadedOver May (opening_of begun) taken handed answer w
 
 -- Of the frames of a memory below a top those alone were touched that the events which were taken of a plan let a load touch, where these

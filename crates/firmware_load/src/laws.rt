@@ -10,7 +10,8 @@ pub fn seeds_have_so_many_events()
     ensures some { (seed : ℕ) → 0 < seed → length (seeded_events seed) ≡ 4096 }
 {}
 
-/// Says which events a seed may have: a step of the firmware, a piece of 1 to 4,096 bytes, or a byte that is written below 1 MiB.
+/// Says which events a seed may have: a step of the firmware, a piece of 1 to 4,096 bytes, a byte that is written below 1 MiB, or a
+/// reset.
 pub fn seeded_events_are_small()
     ensures { (seed : ℕ) → AllByRecursion IsSeeded (seeded_events seed) }
 {}

@@ -1,7 +1,7 @@
 ghost use Rattle.std.specs.Prelude.{◌≡◌, []};
 ghost use Rattle.rand_pcg.specs.Pcg.{pcg32};
 ghost use Rattle.firmware_load.specs.Schedules.{write_by};
-ghost use Rattle.firmware_load.specs.Drawing.{drawn_event, behind_event};
+ghost use Rattle.firmware_load.specs.Drawing.{drawn_event, behind_event, is_reset_left, event_left};
 
 use crate::schedule::Schedule;
 use load_states::Event;
@@ -13,26 +13,32 @@ use std::marker::Model;
 /// How many events a seed other than 0 has.
 const EVENTS_OF_A_SEED: u32 = 4096;
 
+/// The least seed that resets the guest. Two of its events are resets, in the place of those that are drawn there.
+const LEAST_SEED_WITH_RESETS: u64 = 1 << 63;
+
 /// A schedule that draws the events of a seed from the words of `Pcg32::seed_from_u64` (`rand_pcg`) of this seed: its 32-bit outputs, in
 /// their order. Seed 0 has no events, and any other seed has 4,096. A word `w` draws, by `w % 4`: with 0 a step of the firmware, with 1 and
 /// 2 a piece of `1 + w / 4 % 4096` bytes, and with 3 a write, whose address is the next word modulo 0x100000 and whose byte is the one
-/// behind it modulo 256.
+/// behind it modulo 256. Of a seed of 2^63 or more, events 16 and 48, counted from 0, are resets of the guest in the place of those that
+/// are drawn there, and all words are drawn as for any other.
 #[derive(Debug, Drop)]
 pub struct SeededSchedule {
     // The words that come next.
     words: Pcg32,
     // How many events are to be drawn yet.
     to_draw: u32,
+    // Whether the seed resets the guest.
+    resets: bool,
 }
 
 impl Model for SeededSchedule {
     ghost use Rattle.std.specs.Prelude.{List};
     ghost use Rattle.load_states.specs.declared.event.Event.{Event};
-    ghost use Rattle.firmware_load.specs.Drawing.{drawn_events};
+    ghost use Rattle.firmware_load.specs.Drawing.{events_left};
 
     ghost Value = { List Event };
 
-    ghost view = { λ s. drawn_events s.to_draw s.words };
+    ghost view = { λ s. events_left s.resets s.to_draw s.words };
 }
 
 impl SeededSchedule {
@@ -43,6 +49,7 @@ impl SeededSchedule {
         SeededSchedule {
             words: Pcg32::seed_from_u64(0),
             to_draw: 0,
+            resets: false,
         }
     }
 }
@@ -55,15 +62,37 @@ impl Schedule for SeededSchedule {
     fn begin(&mut self, seed: u64) {
         self.words = Pcg32::seed_from_u64(seed);
         self.to_draw = if seed == 0 { 0 } else { EVENTS_OF_A_SEED };
+        self.resets = seed >= LEAST_SEED_WITH_RESETS;
     }
 
     fn next(&mut self) -> Option<Event> {
         if self.to_draw == 0 {
             return None;
         }
+        let event = take_event(&mut self.words, self.resets, self.to_draw);
         self.to_draw -= 1;
-        Some(draw(&mut self.words))
+        Some(event)
     }
+}
+
+// Draws the next event of a seed, of which so many are left, and returns it, or a reset in its place where the seed resets the guest then.
+fn take_event(words: &mut Pcg32, resets: bool, left: u32) -> Event
+    ensures event { result ≡ event_left resets left (drawn_event words.old) }
+    ensures words { words.new ≡ behind_event words.old }
+{
+    let drawn = draw(words);
+    if resets && is_reset(left) {
+        Event::Reset
+    } else {
+        drawn
+    }
+}
+
+// Whether the next event of a seed that resets the guest is a reset, where so many are left: whether it is event 16 or 48.
+fn is_reset(left: u32) -> bool
+    ensures { result ≡ is_reset_left left }
+{
+    left == EVENTS_OF_A_SEED - 16 || left == EVENTS_OF_A_SEED - 48
 }
 
 // Draws the next event from `words`, and takes the words that it is drawn from: three for a write, and one for any other.

@@ -121,9 +121,10 @@ impl World {
     }
 
     /// Takes the events of `plan` until the load has ended, and after their end a step of the firmware and a piece as long as any
-    /// transfer, in turn, so that it always ends. The load was just begun; `place` was begun with the zones of this memory, and has
-    /// handed nothing out since. It is asked once for each Allocate that isn't refused: for the zone and the align of the command, and
-    /// the file's size. It takes no memory.
+    /// transfer, in turn, so that it always ends. A reset begins the load anew, and gives back to `place` what it has handed out; what
+    /// came before the last one is then forgotten, but for memory. The load was just begun; `place` was begun with the zones of this
+    /// memory, and has handed nothing out since. It is asked once for each Allocate that isn't refused: for the zone and the align of the
+    /// command, and the file's size. It takes no memory.
     ///
     /// Returns `NoScript` where no file has the script's name, `ScriptLength` where its length is no script's, `Command` at the first
     /// command that is refused, with its first cause, and `NoRoom` at the first one for whose file `place` has no room. No list of

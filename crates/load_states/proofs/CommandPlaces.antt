@@ -236,7 +236,8 @@ place_keeps May its w index name align zone place lawful kept before none may =
     let within = slice_get_within w.script index (Allocate name align zone) before.there in
     let room = room_at its.items w.script index w.placed before.script.script within in
     let starts = starts_on its.top r w.attached kept.top kept.device kept.memory before.idle.idle before.idle.finished (omega (arith, room, kept.room))
-    (file_can (items_now w) its.top name item p kept.device.items found.1 refl placed.some placed.new.ram (zoned_in its.top p (subst IsTop kept.top kept.memory.top) placed.zone))
+    (file_can (items_now w) its.top name item p kept.device.items found.1 refl placed.some placed.new.ram
+    (zoned_in its.top p (subst IsTop kept.top kept.memory.top) placed.zone))
     (inl (refl, file_select_small (items_now w) name item kept.device.items found.1, refl)) in
     let listed = listed_there (items_now w) w.listed name item (listed_as_now May its w kept before.script.listed) found.1 in
     let here : LoadState = record w { placed = w.placed ++ p ∷ [] } in

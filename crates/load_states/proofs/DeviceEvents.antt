@@ -132,7 +132,8 @@ writing_leads May its bytes index w kept keeps =
     (subst (λ t. CanWrite items_before t descriptor_at transfer) (sym kept.top) can) keeps.2 in
     let outside : (address : ℕ) → is_work address ≡ false → at after.memory address ≡ at (memory_of w) address =
     λ address other. moved.2 address (beside_word address other) in
-    let same : files_in after.memory w.placed ≡ files_now w = files_same its.top (memory_of w) after.memory w.placed kept.top kept.loading.apart (zoned_files kept)
+    let same : files_in after.memory w.placed ≡ files_now w =
+    files_same its.top (memory_of w) after.memory w.placed kept.top kept.loading.apart (zoned_files kept)
     (λ address ram guarded other. outside address other) in
     let shaped : (a : Attached) → IsWriteAwaited items_before number before descriptor_at transfer a → HaveOneShape items_before a.device.items = λ a awaited.
     written_items items_before number before its.top descriptor_at transfer a known.lawful.distinct can size awaited in (

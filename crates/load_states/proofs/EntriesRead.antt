@@ -59,7 +59,7 @@ all_listed items size whole =
 -- The firmware takes entries: it asks for more, or looks for the script among all files.
 pub entries_are_taken : (May : Answers) (its : Opening) (w : LoadState) (size taken : ℕ) → KeepsNow May its w →
     (has : HasEntries its.items size taken w) → IsOver its.items (with_entries size has.pieces) descriptor_at
-    (piece_read 0x19 4 size has.pieces) w.attached → KeepsOn May its w (entries_taken size taken (asked (size - taken)) w)
+    (piece_read 0x19 4 size has.pieces) w.attached → KeepsOn May its w (entries_taken size taken (asked (size - taken)) (buffered (asked (size - taken)) w) w)
 entries_are_taken May its w size taken kept has over =
     let count = asked (size - taken) in
     let now : List Listed = take ((taken + count) / 64) (listed_of its.items) in

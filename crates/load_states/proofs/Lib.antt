@@ -37,3 +37,13 @@ pub mod MoreAnswers
 pub mod WholeRuns
 pub mod Ending
 pub mod NoRoomAsked
+pub mod DevicesAlike
+pub mod LooksAlike
+pub mod StartsAlike
+pub mod TakenAlike
+pub mod StepsAlike
+pub mod RunsAlike
+pub mod PiecesParted
+pub mod MovedBytes
+pub mod StepsPaced
+pub mod OnePace

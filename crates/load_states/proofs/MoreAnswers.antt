@@ -1,5 +1,5 @@
 -- What a load keeps it keeps where places may be answered in more ways.
-use Rattle.std.proofs.Common.{◌≡◌, ℕ, [], List, Option, Result, Ok, Err, refl, sym, subst}
+use Rattle.std.proofs.Common.{◌≡◌, ℕ, [], List, Option, None, Some, Result, Ok, Err, refl, sym, subst}
 use Rattle.std.specs.Prelude.{IfOk}
 use Rattle.vt_outside.specs.Placement.{Range}
 use Rattle.cfg_directory.specs.declared.item.Item.{Item}
@@ -8,6 +8,8 @@ use Rattle.loader_script.specs.declared.entry.Entry.{Entry}
 use Rattle.vt_outside.specs.File.{File}
 use Rattle.loader_script.specs.Run.{Progress, End, opening}
 use Rattle.command_acts.specs.declared.fault.LoadFault.{LoadFault}
+use Rattle.command_acts.specs.Allocators.{AreLawful}
+use Rattle.command_acts.specs.FilesInMemory.{placed_ranges}
 use Rattle.command_acts.specs.Runs.{Answers, EndsWith, IsRun, done, refused, without_room, allocated, carried, result_of}
 use Rattle.command_acts.specs.Script.{script_in}
 use Rattle.zone_alloc.specs.declared.alloc.Request.{Request}
@@ -17,6 +19,7 @@ use Rattle.load_states.specs.declared.reading.Reading.{Reading}
 use Rattle.load_states.specs.declared.stage.Stage.TheVariants.{Asks, Awaits, AtCommand, AwaitsSkip, AsksWrite, AwaitsWrite, Done, Refused}
 use Rattle.load_states.specs.Kept.{KeepsNow, IsKept, StageKeeps, IsNext, IsAwaiting, IsPointing, HasEnded, Knows, read_by}
 use Rattle.load_states.specs.LoadState.{LoadState, Opening, items_now, progress_of}
+use Rattle.load_states.specs.Runs.{AnyLawful, StepsBy, StepsTo, request_of}
 use Rattle.load_states.proofs.Known.{Still, known_in}
 
 -- whatever one may answer so may the other
@@ -117,3 +120,21 @@ now_more May More more its w kept = record {
 pub kept_more : (May More : Answers) → MayMore May More → (its : Opening) (events : List Event) (w : LoadState) → IsKept May its events w
     → IsKept More its events w
 kept_more May More more its events w kept = record { now = now_more May More more its w kept.now; others = kept.others }
+
+-- A step whose answers may be given is one whose answers others may give too.
+asked_more : (May More : Answers) (event : Event) (w next : LoadState) (asked : Option Request) → MayMore May More → StepsBy May event w next asked
+    → StepsBy More event w next asked
+asked_more May More event w next None more steps = steps
+asked_more May More event w next (Some request) more steps = (steps.0, more (placed_ranges w.placed) request steps.0 steps.1, steps.2)
+
+pub steps_more : (May More : Answers) → MayMore May More → (event : Event) (w next : LoadState) → StepsTo May event w next → StepsTo More event w next
+steps_more May More more event w next steps = asked_more May More event w next (request_of event w) more steps
+
+-- A lawful answer is one of any lawful allocator.
+lawful_answer : (May : Answers) (top : ℕ) (handed : List Range) (request : Request) (answer : Option ℕ) → AreLawful May top → May handed request answer
+    → AnyLawful top handed request answer
+lawful_answer May top handed request None lawful may = tt
+lawful_answer May top handed request (Some place) lawful may = lawful handed request place may
+
+pub lawful_more : (May : Answers) (top : ℕ) → AreLawful May top → MayMore May (AnyLawful top)
+lawful_more May top lawful handed request answer may = lawful_answer May top handed request answer lawful may

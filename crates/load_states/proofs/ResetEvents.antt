@@ -63,7 +63,10 @@ beside_zones : (top address : ℕ) (placed : List PlacedFile) → is_high top ad
 beside_zones top address [] high segment zones = tt
 beside_zones top address (p ∷ placed) high segment zones = (
   elim zones.0 as (λ _. IsBeside address p) [
-    | inl lies ↦ elim (not_high top address high) as (λ _. IsBeside address p) [ inl l ↦ inl (omega (arith, l, lies.0)) | inr l ↦ inr (omega (arith, l, lies.1)) ]
+    | inl lies ↦ elim (not_high top address high) as (λ _. IsBeside address p) [
+      | inl l ↦ inl (omega (arith, l, lies.0))
+      | inr l ↦ inr (omega (arith, l, lies.1))
+    ]
     | inr lies ↦ elim segment as (λ _. IsBeside address p) [ inl l ↦ inl (omega (arith, l, lies.0)) | inr l ↦ inr (omega (arith, l, lies.1)) ]
   ],
   beside_zones top address placed high segment zones.1,

@@ -124,4 +124,5 @@ directory_taken May its w kept idle finished script placed begun =
     let found = option_map listing (named its.items loader_name) in
     subst (λ (o : Option Listed). KeepsOn May its w (after o)) (sym (listed_as_named its.items loader_name))
     (kept_with May its w (listed_of its.items) w.script (stage_for found) kept
-    (stage_found May its.items (after found) (named its.items loader_name) kept.lawful refl (record { idle = idle; finished = finished }) refl script placed begun))
+    (stage_found May its.items (after found) (named its.items loader_name) kept.lawful refl (record { idle = idle; finished = finished })
+    refl script placed begun))

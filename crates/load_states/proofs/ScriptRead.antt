@@ -92,7 +92,8 @@ script_asks d select size taken pieces small taken_is at_piece =
 -- The firmware takes commands: it asks for more, or comes to the first one.
 pub commands_are_taken : (May : Answers) (its : Opening) (w : LoadState) (select size taken : ℕ) → KeepsNow May its w →
     (has : HasCommands its.items select size taken w) → IsOver its.items (with_commands its.items select size has.pieces) descriptor_at
-    (piece_read select 0 size has.pieces) w.attached → KeepsOn May its w (commands_taken select size taken (asked (size - taken)) w)
+    (piece_read select 0 size has.pieces) w.attached → KeepsOn May its w
+    (commands_taken select size taken (asked (size - taken)) (buffered (asked (size - taken)) w) w)
 commands_are_taken May its w select size taken kept has over =
     let count = asked (size - taken) in
     let loader = its_loader May its w select size taken kept has in

@@ -6,3 +6,5 @@ pub mod Moves
 pub mod Kept
 pub mod Loads
 pub mod Touching
+pub mod Pieces
+pub mod Pace

@@ -1,5 +1,6 @@
 -- Whole runs of the load, over any list of events.
-use Rattle.std.specs.Prelude.{◌≡◌, ◌==◌, ◌&&◌, not, if◌then◌else◌, ℕ, zero, suc, Bool, true, false, List, [], ◌∷◌, slice_get, Option, None, MatchOption, IfSome}
+use Rattle.std.specs.Prelude.{◌≡◌, ◌==◌, ◌&&◌, not, if◌then◌else◌, ℕ, zero, suc, Bool, true, false, List, [], ◌∷◌, slice_get, Option, None}
+use Rattle.std.specs.Prelude.{MatchOption, IfSome, IsSomeAnd}
 use Rattle.std.specs.Option.{option_map_or}
 use Rattle.loader_script.specs.declared.entry.Entry.{Entry}
 use Rattle.loader_script.specs.declared.refusing.Cause.{Cause}
@@ -40,15 +41,24 @@ request_of (Device bytes) w = None
 request_of (Other address byte) w = None
 request_of Reset w = None
 
--- The load goes on from one state to the next by an event: the allocator's answer is one that it may give, where it is asked.
-abbrev pub StepsTo : Answers → Event → LoadState → LoadState → Type 0
-StepsTo May event w next =
-    MatchOption (request_of event w) (next ≡ step event None w)
+-- The load goes on from one state to the next by an event, with what is asked of an allocator: its answer is one that it may give.
+abbrev pub StepsBy : Answers → Event → LoadState → LoadState → Option Request → Type 0
+StepsBy May event w next asked =
+    MatchOption asked (next ≡ step event None w)
     (λ request. (answer : Option ℕ) × May (placed_ranges w.placed) request answer × (next ≡ step event answer w))
+
+-- and with what the event asks
+abbrev pub StepsTo : Answers → Event → LoadState → LoadState → Type 0
+StepsTo May event w next = StepsBy May event w next (request_of event w)
 
 -- any answer that is lawful: a place that is given is free in the zone that was asked for
 abbrev pub AnyLawful : ℕ → Answers
 AnyLawful top handed request answer = IfSome answer (λ place. IsFree (zone_range top request.zone) handed request.size request.align place)
+
+-- and one that gives a place each time
+abbrev pub GivesLawful : ℕ → Answers
+GivesLawful top handed request answer =
+    IsSomeAnd answer (λ place. IsFree (zone_range top request.zone) handed request.size request.align place)
 
 -- no answer: no place was asked for yet
 abbrev pub NoAnswer : Answers
@@ -65,11 +75,19 @@ has_ended (AwaitsSkip index) = false
 has_ended (AsksWrite index) = false
 has_ended (AwaitsWrite index) = false
 
--- The run over events that ends the load with the last of them: it hasn't ended before.
+-- The run over events, none of which comes behind the load's end. Whether the load has ended behind the last of them isn't said.
+abbrev pub RunsTo : Answers → List Event → LoadState → LoadState → Type 0
+RunsTo May [] w last = last ≡ w
+RunsTo May (event ∷ events) w last =
+    (has_ended w.stage ≡ false) × ((next : LoadState) × StepsTo May event w next × RunsTo May events next last)
+
+-- the run over events that ends the load with the last of them
 abbrev pub EndsAfter : Answers → List Event → LoadState → LoadState → Type 0
-EndsAfter May [] w last = (last ≡ w) × (has_ended w.stage ≡ true)
-EndsAfter May (event ∷ events) w last =
-    (has_ended w.stage ≡ false) × ((next : LoadState) × StepsTo May event w next × EndsAfter May events next last)
+EndsAfter May events w last = RunsTo May events w last × (has_ended last.stage ≡ true)
+
+-- no run over events has ended, however places are answered
+abbrev pub NeverEnds : Answers → List Event → LoadState → Type 0
+NeverEnds May events w = (last : LoadState) → RunsTo May events w last → has_ended last.stage ≡ false
 
 -- Events that end a load when a plan has no more: a step of the firmware and a piece as long as any transfer, in turn, so many of them.
 abbrev pub whole_piece : Event

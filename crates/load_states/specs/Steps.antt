@@ -97,19 +97,19 @@ stage_for (Some file) =
     if not (is_script_length file.size) then Refused fault.ScriptLength
     else (if file.size == 0 then AtCommand 0 else Asks (read.Commands file.select file.size 0))
 
--- entries of the directory were read, so many bytes, and all of them or only some
-abbrev pub entries_taken : ℕ → ℕ → ℕ → LoadState → LoadState
-entries_taken size taken count w =
-    let listed = w.listed ++ listed_in (count / 64) (buffered count w) in
+-- entries of the directory were read, so many bytes, which are these, and all of them or only some
+abbrev pub entries_taken : ℕ → ℕ → ℕ → List ℕ → LoadState → LoadState
+entries_taken size taken count bytes w =
+    let listed = w.listed ++ listed_in (count / 64) bytes in
     record w {
       listed = listed;
       stage = if taken + count == size then stage_for (listed_named listed loader_name) else Asks (read.Entries size (taken + count));
     }
 
--- commands of the script were read
-abbrev pub commands_taken : ℕ → ℕ → ℕ → ℕ → LoadState → LoadState
-commands_taken select size taken count w = record w {
-  script = w.script ++ entries_of (count / 128) (buffered count w);
+-- commands of the script were read, so many bytes, which are these
+abbrev pub commands_taken : ℕ → ℕ → ℕ → ℕ → List ℕ → LoadState → LoadState
+commands_taken select size taken count bytes w = record w {
+  script = w.script ++ entries_of (count / 128) bytes;
   stage = if taken + count == size then AtCommand 0 else Asks (read.Commands select size (taken + count));
 }
 
@@ -117,11 +117,14 @@ commands_taken select size taken count w = record w {
 abbrev pub passed : ℕ → LoadState → LoadState
 passed index w = record w { stage = AtCommand (suc index) }
 
+-- a file of the directory is placed
+abbrev pub with_placed : List ℕ → ℕ → Listed → LoadState → LoadState
+with_placed name place file w = record w { placed = w.placed ++ record { name = name; place = place; size = file.size } ∷ [] }
+
 -- A file is placed, and asked for. (A file that isn't listed is refused before.)
 abbrev pub placed_at : ℕ → List ℕ → ℕ → Option Listed → LoadState → LoadState
 placed_at index name place None w = passed index w
-placed_at index name place (Some file) w =
-    asks (read.File index) (record w { placed = w.placed ++ record { name = name; place = place; size = file.size } ∷ [] })
+placed_at index name place (Some file) w = asks (read.File index) (with_placed name place file w)
 
 -- The skip to where a WritePointer writes is asked for, in the file that it writes. (A file that isn't listed is refused before.)
 abbrev pub skips : ℕ → ℕ → Option Listed → LoadState → LoadState
@@ -161,8 +164,8 @@ at_command index (Some entry) answer w = commanded index entry (cause_of entry (
 -- What the firmware takes of a transfer that is over: from the buffer, or the file, which stands at its place.
 abbrev pub taken_of : Reading → LoadState → LoadState
 taken_of read.Count w = counted (be (buffered 4 w)) w
-taken_of (read.Entries size taken) w = entries_taken size taken (asked (size - taken)) w
-taken_of (read.Commands select size taken) w = commands_taken select size taken (asked (size - taken)) w
+taken_of (read.Entries size taken) w = let count = asked (size - taken) in entries_taken size taken count (buffered count w) w
+taken_of (read.Commands select size taken) w = let count = asked (size - taken) in commands_taken select size taken count (buffered count w) w
 taken_of (read.File index) w = passed index w
 
 -- the number that a WritePointer writes: the place of a file and an offset in it, low byte first

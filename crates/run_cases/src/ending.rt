@@ -1,9 +1,9 @@
 //! What a case tells of its run for itself alone: the world and the places in which it is made, its plan, and the world at its end.
 
 use crate::fault::Fault;
-use crate::numbers::{address_of, number_of, numbers_of};
+use crate::numbers::{Numbers, address_of, each_of, number_of, numbers_of};
+use crate::plan::Entry;
 use cfg_dma::{Finished, Kind};
-use firmware_load::Event;
 use std::alloc::Global;
 use vt_outside::{Bytes, List};
 
@@ -29,7 +29,9 @@ pub(crate) struct Ending {
     pub(crate) again: bool,
     pub(crate) places: bool,
     pub(crate) refuses: List<u32>,
-    pub(crate) plan: Option<List<Event>>,
+    /// For which numbers the run is made.
+    pub(crate) each: Option<Numbers>,
+    pub(crate) plan: Option<List<Entry>>,
     pub(crate) state: Option<String>,
     pub(crate) fault: Option<String>,
     pub(crate) top: Option<u64>,
@@ -45,6 +47,7 @@ impl Ending {
             again: false,
             places: false,
             refuses: List::new(alloc),
+            each: None,
             plan: None,
             state: None,
             fault: None,
@@ -66,6 +69,7 @@ impl Ending {
             ("again", None) => self.again = true,
             ("places", None) => self.places = true,
             ("refuses", Some(calls)) => self.refuses = numbers_of(alloc, calls)?,
+            ("each", Some(numbers)) => self.each = Some(each_of(numbers)?),
             _ => return Ok(false),
         }
         Ok(true)

@@ -1,8 +1,9 @@
 //! The program `run_cases`: makes the runs of the top call that files of cases tell, and prints which of them end otherwise than they are to.
 //!
-//! Its words are the names of the files. Of each file it prints how many cases it has, and above that line one for each case that ends
-//! otherwise: the part that differs, and the case's name. Its status is 0 where all cases end as they are to. A file that isn't as a file of
-//! cases is ends it with a line on standard error that tells the file, the number of the line and what is wrong there.
+//! Its words are the names of the files. Of each file it prints how many cases it has, among which one that is run for many numbers counts for each
+//! of them, and above that line one for each case that ends otherwise: the part that differs, the case's name, and where the case is run for numbers
+//! the first one for which it ends so. Its status is 0 where all cases end as they are to. A file that isn't as a file of cases is ends it with a
+//! line on standard error that tells the file, the number of the line and what is wrong there.
 //!
 //! # Files of cases
 //!
@@ -17,6 +18,8 @@
 //! again                the run is made in the world of the case before, and not in one in which nothing was begun
 //! refuses N ..         the calls of the allocator that are refused, from 0 on
 //! places               the allocator is that of the case before, which goes on counting its calls
+//! each FIRST LAST STEP
+//!                      the run is made for the number FIRST, and for each that comes by STEP behind the one before, up to LAST
 //! state WORD           how far the world is at the end: idle, running, done or refused
 //! fault TEXT           why the world's load was refused, as LoadFault is written: NoRoom { index: 0 }
 //! top ADDRESS          where the memory ends, of a load that is done or refused; an address has hexadecimal digits
@@ -30,6 +33,8 @@
 //!   device N             a piece of N bytes
 //!   other ADDRESS BYTE   a byte that another processor writes
 //!   reset                the guest is reset
+//!   turns N BYTES        N events, a step of the firmware and a piece of so many bytes in turn
+//!   turns each BYTES     so many of these as is the number for which the run is made, and none where `each` isn't told
 //!   times N              the events of the plan so far, N times over
 //! input, output, says  begins a stream: standard input, standard output or standard error
 //!   room N               how many bytes a read gives at most, or for how many bytes there is room; where it isn't told, 65,536
@@ -117,8 +122,8 @@ fn run_file(rt: &HostRuntime, name: &str) -> Result<bool, Fault> {
 fn run_read(rt: &HostRuntime, name: &str, cases: &mut Cases) -> Result<bool, Fault> {
     let text = fs::read_to_string(rt, name).map_err(|_| Fault::Stream)?;
     let all = run_cases(rt, text.as_str(), cases)?;
-    let count = cases.count();
-    println!(rt; "{name}: {count} cases").map_err(|_| Fault::Stream)?;
+    let runs = cases.runs();
+    println!(rt; "{name}: {runs} cases").map_err(|_| Fault::Stream)?;
     Ok(all)
 }
 
@@ -152,12 +157,17 @@ fn run_line(rt: &HostRuntime, line: &str, cases: &mut Cases, rig: &mut Rig) -> R
     match cases.end(rt.alloc(), rig)? {
         None => Ok(true),
         Some(part) => {
-            tell(rt, cases.name(), part)?;
+            tell(rt, cases, part)?;
             Ok(false)
         }
     }
 }
 
-fn tell(rt: &HostRuntime, name: &str, part: &str) -> Result<(), Fault> {
-    println!(rt; "{part} differs, at {name}").map_err(|_| Fault::Stream)
+fn tell(rt: &HostRuntime, cases: &Cases, part: &str) -> Result<(), Fault> {
+    let name = cases.name();
+    match cases.number() {
+        Some(number) => println!(rt; "{part} differs, at {name}, for {number}"),
+        None => println!(rt; "{part} differs, at {name}"),
+    }
+    .map_err(|_| Fault::Stream)
 }

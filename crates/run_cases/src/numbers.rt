@@ -12,6 +12,36 @@ pub(crate) fn number_of(text: &str) -> Result<u32, Fault> {
     text.parse::<u32>().map_err(|_| Fault::BadValue)
 }
 
+/// The numbers for which a case is run: so many, from the first one on, with the same step from each to the next.
+#[derive(Clone, Copy)]
+pub(crate) struct Numbers {
+    first: u32,
+    step: u32,
+    pub(crate) count: u32,
+}
+
+impl Numbers {
+    /// The number at a place, counted from 0.
+    pub(crate) fn number(self, place: u32) -> u32 {
+        self.first.saturating_add(place.saturating_mul(self.step))
+    }
+}
+
+/// The numbers that a first one, a last one and a step tell. The last one is among them where the steps come to it.
+pub(crate) fn each_of(text: &str) -> Result<Numbers, Fault> {
+    let (first, text) = text.split_once(' ').ok_or(Fault::BadValue)?;
+    let (last, step) = text.split_once(' ').ok_or(Fault::BadValue)?;
+    let first = number_of(first)?;
+    let step = number_of(step)?;
+    let length = number_of(last)?.checked_sub(first).ok_or(Fault::BadValue)?;
+    let steps = length.checked_div(step).ok_or(Fault::BadValue)?;
+    Ok(Numbers {
+        first,
+        step,
+        count: steps.saturating_add(1),
+    })
+}
+
 pub(crate) fn numbers_of(alloc: Global, line: &str) -> Result<List<u32>, Fault> {
     let mut numbers = List::new(alloc);
     for number in line.split(' ') {

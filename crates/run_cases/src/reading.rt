@@ -6,8 +6,8 @@ use crate::comparing::part_that_differs;
 use crate::ending::{Ending, Holder, item_of, memory_of};
 use crate::fault::Fault;
 use crate::kept::Kept;
-use crate::numbers::{byte_of, count_of, number_of};
-use crate::plan::take_event;
+use crate::numbers::{Numbers, byte_of, count_of, number_of};
+use crate::plan::take_entry;
 use crate::running::{Ran, Rig, run};
 use std::alloc::Global;
 use std::mem;
@@ -41,6 +41,10 @@ pub(crate) struct Cases {
     /// Whether a case is begun.
     open: bool,
     line: u64,
+    /// How many runs are made.
+    runs: u64,
+    /// The number of the run that was made last, where its case tells for which numbers it is run.
+    number: Option<u32>,
 }
 
 impl Cases {
@@ -56,12 +60,19 @@ impl Cases {
             over: None,
             open: false,
             line: 0,
+            runs: 0,
+            number: None,
         }
     }
 
-    /// Returns how many cases are begun.
-    pub(crate) fn count(&self) -> usize {
-        self.names.len()
+    /// Returns how many runs are made.
+    pub(crate) fn runs(&self) -> u64 {
+        self.runs
+    }
+
+    /// Returns the number of the run that was made last, where its case tells for which numbers it is run.
+    pub(crate) fn number(&self) -> Option<u32> {
+        self.number
     }
 
     /// Returns the number of the line that was taken last, from 1 on.
@@ -218,7 +229,7 @@ impl Cases {
         match self.part {
             Part::Stream(place) => self.case.stream(place).take(alloc, word, rest),
             Part::Plan => match &mut self.ending.plan {
-                Some(events) => take_event(alloc, events, word, rest),
+                Some(entries) => take_entry(alloc, entries, word, rest),
                 None => Ok(false),
             },
             _ => Ok(false),
@@ -283,7 +294,7 @@ impl Cases {
         }
     }
 
-    /// Ends the case: makes its run, and returns the part that is otherwise than the case tells, if one is.
+    /// Ends the case: makes its runs, up to the first one that ends otherwise than the case tells, and returns the part that is otherwise.
     pub(crate) fn end(
         &mut self,
         alloc: Global,
@@ -298,7 +309,36 @@ impl Cases {
         }
         self.open = false;
         self.part = Part::None;
-        let ran = run(alloc, &self.case, &self.ending, rig)?;
+        match self.ending.each {
+            Some(numbers) => self.make_runs(alloc, numbers, rig),
+            None => self.make_run(alloc, None, rig),
+        }
+    }
+
+    fn make_runs(
+        &mut self,
+        alloc: Global,
+        numbers: Numbers,
+        rig: &mut Rig,
+    ) -> Result<Option<&'static str>, Fault> {
+        for place in 0..numbers.count {
+            let number = Some(numbers.number(place));
+            if let Some(part) = self.make_run(alloc, number, rig)? {
+                return Ok(Some(part));
+            }
+        }
+        Ok(None)
+    }
+
+    fn make_run(
+        &mut self,
+        alloc: Global,
+        number: Option<u32>,
+        rig: &mut Rig,
+    ) -> Result<Option<&'static str>, Fault> {
+        self.runs = self.runs.saturating_add(1);
+        self.number = number;
+        let ran = run(alloc, &self.case, &self.ending, number.unwrap_or(0), rig)?;
         let part = part_that_differs(alloc, &self.case, &self.ending, &ran, &rig.world);
         let kept = self.keep_output(alloc, &ran);
         drop(ran);
@@ -329,6 +369,7 @@ fn is_told_once(word: &str) -> bool {
             | "again"
             | "places"
             | "refuses"
+            | "each"
             | "plan"
             | "state"
             | "fault"

@@ -2,6 +2,7 @@
 
 use crate::case::Case;
 use crate::ending::Ending;
+use crate::plan::events_of;
 use crate::streams::{CaseSink, CaseSource};
 use firmware_load::{ListSchedule, Schedule, SeededSchedule};
 use std::alloc::Global;
@@ -58,16 +59,17 @@ impl Ran {
     }
 }
 
-/// Makes the run of a case.
+/// Makes the run of a case for a number.
 pub(crate) fn run(
     alloc: Global,
     case: &Case,
     ending: &Ending,
+    number: u32,
     rig: &mut Rig,
 ) -> Result<Ran, OutOfMemory> {
     rig.prepare(ending)?;
     let mut ran = Ran::of(alloc, case)?;
-    match run_planned(alloc, case, ending, rig, &mut ran) {
+    match run_planned(alloc, case, ending, number, rig, &mut ran) {
         Ok(()) => Ok(ran),
         Err(fault) => {
             drop(ran);
@@ -80,13 +82,15 @@ fn run_planned(
     alloc: Global,
     case: &Case,
     ending: &Ending,
+    number: u32,
     rig: &mut Rig,
     ran: &mut Ran,
 ) -> Result<(), OutOfMemory> {
     match &ending.plan {
         None => run_over(alloc, case, &mut SeededSchedule::new(), rig, ran),
-        Some(events) => {
-            let mut plan = ListSchedule::new(events.copy()?);
+        Some(entries) => {
+            let events = events_of(alloc, entries.as_slice(), number)?;
+            let mut plan = ListSchedule::new(events);
             run_over(alloc, case, &mut plan, rig, ran);
             drop(plan);
         }

@@ -28,6 +28,8 @@ mod lengths;
 #[cfg(test)]
 mod lists;
 #[cfg(test)]
+mod minimal;
+#[cfg(test)]
 mod most_writes;
 #[cfg(test)]
 mod others;

@@ -1,7 +1,7 @@
 //! A schedule that has a list of events for every seed.
 
 use crate::giving::{are_given, none_is_left};
-use firmware_load::Event::{Device, Firmware, Other};
+use firmware_load::Event::{Device, Firmware, Other, Reset};
 use firmware_load::{Event, ListSchedule, Schedule};
 use std::alloc::Global;
 use std::process::Abort;
@@ -23,15 +23,37 @@ static EVENTS: [Event; 5] = [
 fn a_list(rt: HostRuntime) -> Result<(), Fail> {
     let mut schedule = listed(rt.alloc(), &EVENTS)?;
     none_is_left(&rt, &mut schedule);
-    are_given_by_each_seed(&rt, &mut schedule, &[0, 1, 0xFFFF_FFFF_FFFF_FFFF]);
+    are_given_by_each_seed(&rt, &mut schedule, &EVENTS);
     drop(schedule);
     Ok(())
 }
 
-fn are_given_by_each_seed(rt: &impl Abort, schedule: &mut ListSchedule, seeds: &[u64]) {
-    for seed in seeds {
+// Resets at the first place, at the last, one behind the other, and between others.
+static RESETS: [Event; 7] = [
+    Reset,
+    Firmware,
+    Reset,
+    Reset,
+    Other { addr: 0, byte: 0 },
+    Device(1),
+    Reset,
+];
+
+#[test]
+fn a_list_with_resets(rt: HostRuntime) -> Result<(), Fail> {
+    let mut schedule = listed(rt.alloc(), &RESETS)?;
+    are_given_by_each_seed(&rt, &mut schedule, &RESETS);
+    drop(schedule);
+    Ok(())
+}
+
+// Seeds with resets of their own, and others: a list has the same events for each.
+const SEEDS: [u64; 4] = [0, 1, 0x8000_0000_0000_0000, 0xFFFF_FFFF_FFFF_FFFF];
+
+fn are_given_by_each_seed(rt: &impl Abort, schedule: &mut ListSchedule, events: &[Event]) {
+    for seed in &SEEDS {
         schedule.begin(*seed);
-        are_given(rt, schedule, &EVENTS);
+        are_given(rt, schedule, events);
         none_is_left(rt, schedule);
     }
 }

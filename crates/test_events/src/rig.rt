@@ -385,8 +385,8 @@ fn contains(rt: &impl Abort, device: &Device, content: &Content<'_>) {
     assert_eq!(rt; item.bytes.as_slice(), bytes, "of {select}");
 }
 
-// Memory holds these bytes.
-fn are_held(rt: &impl Abort, memory: &GuestMemory, left: &[Held]) {
+/// Memory holds these bytes.
+pub(crate) fn are_held(rt: &impl Abort, memory: &GuestMemory, left: &[Held]) {
     for held in left {
         is_held(rt, memory, held);
     }

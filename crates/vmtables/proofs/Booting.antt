@@ -1,7 +1,6 @@
 -- A machine's image that was loaded is a machine that is booted.
-use Rattle.std.proofs.Common.{◌≡◌, ℕ, ◌≤◌, ◌+◌, ◌<◌, List, [], ◌++◌, map, Option, Some, None, Result, Ok, Err, IfOk, IfErr, OnOk, IsSomeAnd}
-use Rattle.std.proofs.Common.{refl, ap, sym, subst, ◌∙◌, append_assoc, append-nil, arith}
-use Rattle.std.specs.List.{flat_map}
+use Rattle.std.proofs.Common.{◌≡◌, ℕ, ◌≤◌, ◌<◌, List, map, Option, Some, None, Result, Ok, Err, IfOk, IfErr, OnOk, IsSomeAnd}
+use Rattle.std.proofs.Common.{refl, ap, sym, subst, ◌∙◌}
 use Rattle.std.specs.Result.{IsErrAnd}
 use Rattle.std.proofs.lemmas.Option.{cond_some}
 use Rattle.vt_outside.specs.Placement.{Range, IsFree}
@@ -10,16 +9,12 @@ use Rattle.vt_bytes.specs.Memory.{Memory, is_ram, at, seen}
 use Rattle.guest_memory.specs.Bytes.{HoldsBytes}
 use Rattle.machine_desc.specs.declared.machine.Machine.{Machine}
 use Rattle.loader_script.specs.declared.entry.Entry.{Entry}
-use Rattle.vt_outside.specs.File.{File}
 use Rattle.loader_script.specs.Left.{range_of}
-use Rattle.loader_script.specs.Run.{Placed, Progress, End, Done, Command, NoRoom, opening, place_of, run}
+use Rattle.loader_script.specs.Run.{End, Done, Command, NoRoom, opening, run}
 use Rattle.cfg_directory.specs.declared.item.Item.{Item}
 use Rattle.cfg_directory.specs.Files.{files_of}
-use Rattle.image_files.specs.Places.{ArePlaces}
-use Rattle.image_files.specs.Linked.{AreLinked}
-use Rattle.image_files.specs.Script.{allocation, linking}
-use Rattle.vm_image.specs.Image.{telling, image_files, image_script, image_items}
-use Rattle.vm_image.specs.Promised.{top_of, told_files, HoldsFiles}
+use Rattle.vm_image.specs.Image.{image_script, image_items}
+use Rattle.vm_image.specs.Promised.{top_of, HoldsFiles}
 use Rattle.vm_image.specs.Built.{IsBuilt}
 use Rattle.acpi_model.specs.Found.{ShowsBytes}
 use Rattle.zone_alloc.specs.declared.alloc.Request.{Request}
@@ -31,9 +26,8 @@ use Rattle.image_files.specs.Items.{image_limit}
 use Rattle.command_acts.specs.Allocators.{AreZonesOf}
 use Rattle.command_acts.specs.declared.fault.LoadFault.{LoadFault}
 use Rattle.command_acts.specs.declared.fault.LoadFault.TheVariants as load
-use Rattle.command_acts.specs.Runs.{Answers, EndsWith, IsRun, at_files, with_places, request_at, result_of}
+use Rattle.command_acts.specs.Runs.{Answers, IsRun, request_at, result_of}
 use Rattle.command_acts.specs.Script.{script_in}
-use Rattle.command_acts.proofs.PlainRuns.{starts}
 use Rattle.load_states.specs.declared.event.Event.{Event}
 use Rattle.load_states.specs.Loads.{HasRun, IsLoadedOver}
 use Rattle.load_states.specs.LoadState.{Opening, begun_with, memory_of, files_now, progress_of}
@@ -44,63 +38,11 @@ use Rattle.vmtables.specs.Calls.{Answering, Seen}
 use Rattle.vmtables.specs.Loading.{IsImageLoaded, IsRefusedFree, FailsToLoad, ended_early, not_begun}
 use Rattle.vmtables.specs.declared.fault.Fault.{Fault}
 use Rattle.vmtables.specs.declared.fault.Fault.TheVariants as fault
-use Rattle.vmtables.proofs.ImageRuns.{Extends, GivesFree, IsStuck, later_commands, later_place_none, extends}
+use Rattle.vmtables.proofs.ImageRunEnds.{EndsSo, IsLawfulRun, ended_with, extended_of, lawful_so, room, room_of}
+use Rattle.vmtables.proofs.ImageRuns.{GivesFree}
+use Rattle.vmtables.proofs.NeverEnded.{pieces_unended}
 use Rattle.vmtables.proofs.PlacedFiles.{holds_now, beside_each}
-use Rattle.vmtables.proofs.PlacesMore.{room_from}
 use Rattle.vmtables.proofs.ScriptRead.{script_read}
-
--- how far a run is in which two are the same
-abbrev ending : End → Progress → End × Progress
-ending end p = (end, p)
-
-its_progress : (a b : End) (p q : Progress) → ending a p ≡ ending b q → p ≡ q
-its_progress a b p q is = ap (λ (e : End × Progress). e.1) is
-
--- A run that isn't without room isn't refused, and its places are lawful. Of the files of fw_cfg it writes the one that tells the host where
--- the id of the generation is.
-pub record IsLawfulRun (m : Machine) (places : List ℕ) (end : End) (final : Progress) : Type 0 where
-  pub done : end ≡ Done
-  pub files : final.files ≡ told_files m final.placed
-  pub lawful : ArePlaces (top_of m) [] (image_files m) places
-  pub linked : AreLinked (place_of final.placed) (image_files m) places final.placed
-
--- a machine's script: its Allocates, and what is behind them
-script_parts : (m : Machine) → image_script m ≡ flat_map allocation (image_files m) ++ later_commands m
-script_parts m = append_assoc (flat_map allocation (image_files m)) (linking (image_files m)) (telling m.generation)
-
-extended_of : (m : Machine) (items : List Item) (script : List Entry) (built : IsBuilt m items script) (May : Answers) (end : End) (final : Progress)
-    → GivesFree May (top_of m) → EndsWith May 0 (image_script m) (opening (files_of (image_items m)) []) end final
-    → Extends May (top_of m) (files_of (image_items m)) (image_script m) 0 [] (image_files m) [] final.placed end
-extended_of m items script built May end final free ends =
-    subst (λ those. Extends May (top_of m) (files_of (image_items m)) those 0 [] (image_files m) [] final.placed end) (sym (script_parts m))
-    (extends May (top_of m) (files_of (image_items m)) (later_commands m) (later_place_none m) free (image_files m) [] 0 [] end final
-    (rw built.items_are at built.there) refl (room_from (top_of m) (image_files m) built.room)
-    (subst (λ those. EndsWith May 0 those (opening (files_of (image_items m)) []) end final) (script_parts m) ends))
-
-lawful_so : (m : Machine) (items : List Item) (script : List Entry) (built : IsBuilt m items script) (May : Answers) (handed : List Range) (end : End)
-    (final : Progress) → GivesFree May (top_of m) → IsRun May (files_of (image_items m)) (image_script m) handed end final
-    → ((at : ℕ) → end ≡ NoRoom at → ⊥) → IsLawfulRun m (map (λ (r : Range). r.start) handed) end final
-lawful_so m items script built May handed end final free ran room =
-    let placed : List Placed = final.placed in
-    let extended : Extends May (top_of m) (files_of (image_items m)) (image_script m) 0 [] (image_files m) [] placed end =
-    extended_of m items script built May end final free ran.answered in
-    let same : map (λ (r : Range). r.start) handed ≡ extended.given =
-    ap (map (λ (r : Range). r.start)) ran.handed_are ∙ starts placed ∙ extended.stand in
-    let loaded = built.loaded (extended.given ++ extended.extra) extended.lawful in
-    let both : ending end (with_places final extended.extra) ≡ ending Done (at_files (told_files m loaded.0) loaded.0 []) =
-    sym (ran.goes_on room extended.extra) ∙ ap (λ ps. run (files_of (image_items m)) (image_script m) (ps ++ extended.extra)) same ∙ loaded.2 in
-    let left = its_progress end Done _ _ both in
-    let none : extended.extra ≡ [] = ap (λ (p : Progress). p.places) left in
-    let files : placed ≡ loaded.0 = ap (λ (p : Progress). p.placed) left in
-    let given : extended.given ++ extended.extra ≡ map (λ (r : Range). r.start) handed =
-    ap (λ ps. extended.given ++ ps) none ∙ append-nil extended.given ∙ sym same in
-    record {
-      done = ap (λ (e : End × Progress). e.0) both;
-      files = ap (λ (p : Progress). p.files) left ∙ ap (told_files m) (sym files);
-      lawful = subst (ArePlaces (top_of m) [] (image_files m)) given extended.lawful;
-      linked = subst (λ ps. AreLinked (place_of placed) (image_files m) ps placed) given
-          (subst (λ fs. AreLinked (place_of fs) (image_files m) (extended.given ++ extended.extra) fs) (sym files) loaded.1);
-    }
 
 -- places that are given are free
 abbrev pub AllFree : Answering → Type 0
@@ -167,14 +109,16 @@ booted Gives setting m items script before after free built small script_read lo
     let run : HasRun May (image_items m) (image_script m) after.place.handed (Ok tt) world =
     run_of m May after.place.handed (Ok tt) world script_read leaves.ran in
     let done : run.0 ≡ Done = ended_done run.0 run.2 in
+    let frees : GivesFree May (top_of m) = gives_free Gives after.place.begun (top_of m) free loaded.zones in
     let is : IsLawfulRun m (map (λ (r : Range). r.start) after.place.handed) run.0 (progress_of world) =
-    lawful_so m items script built May after.place.handed run.0 (progress_of world)
-    (gives_free Gives after.place.begun (top_of m) free loaded.zones) run.1 (has_room run.0 done) in
+    lawful_so m items script built May after.place.handed run.0 (progress_of world) frees run.1 (has_room run.0 done) in
     let holds : HoldsFiles (memory_of world) (files_now world) =
     holds_files May (begun_with (image_items m) (top_of m) setting.fill) loaded.load.taken after.place.handed (Ok tt) world leaves bytes_held in
     record {
       small = small;
       loaded = loaded;
+      unended = pieces_unended m items script built script_read May setting.fill loaded.begun loaded.load.since.model loaded.load.since.pieces
+          loaded.load.since.since frees loaded.was_begun loaded.load.since.ran;
       script = script_read;
       ran = subst (λ end. IsRun May (files_of (image_items m)) (image_script m) after.place.handed end (progress_of world)) done run.1;
       files = is.files;
@@ -185,33 +129,6 @@ booted Gives setting m items script before after free built small script_read lo
       cleared = leaves.cleared refl;
       shown = built.shown (map (λ (r : Range). r.start) after.place.handed) (files_now world) (memory_of world) is.lawful is.linked leaves.top holds;
     }
-
--- A load that ended with a fault: no command is refused, and there is a script, so that it is for want of room at a command, whose request
--- was refused though a place is free.
-pub data EndsSo (May : Answers) (top : ℕ) (loaded : List File) (script : List Entry) (placed : List Placed) (why : LoadFault) : Type 0 where
-  room : (index : ℕ) → why ≡ load.NoRoom index → IsRefusedFree May top (map range_of placed) (request_at loaded script index)
-      → EndsSo May top loaded script placed why
-
--- a load that answered with a fault
-abbrev ended_with : LoadFault → Result (Unit {0}) LoadFault
-ended_with why = Err why
-
-same_fault : (a b : LoadFault) → ended_with a ≡ ended_with b → a ≡ b
-same_fault a b is = cc
-
-room_of : (May : Answers) (top : ℕ) (loaded : List File) (script : List Entry) (placed : List Placed) (end : End) (why : LoadFault)
-    → ended_with why ≡ result_of end → (((at : ℕ) → end ≡ NoRoom at → ⊥) → end ≡ Done)
-    → ((at : ℕ) → end ≡ NoRoom at → IsStuck May top loaded script 0 placed at) → EndsSo May top loaded script placed why
-room_of May top loaded script placed Done why is lawful stuck = absurd (cc)
-room_of May top loaded script placed (Command index cause) why is lawful stuck =
-    let done : Command index cause ≡ Done = lawful (λ at without. absurd (cc)) in
-    absurd (cc)
-room_of May top loaded script placed (NoRoom index) why is lawful stuck =
-    let at = stuck index refl in
-    let behind : index ≡ 0 + at.behind = at.at_is in
-    let same : at.behind ≡ index = omega arith in
-    room index (same_fault why (load.NoRoom index) is)
-    (subst (λ k. IsRefusedFree May top (map range_of placed) (request_at loaded script k)) same at.refusal)
 
 pub fails_for_room : (Gives : Answering) (setting : Setting) (m : Machine) (items : List Item) (script : List Entry) (why : LoadFault) (before after : Seen)
     → AllFree Gives → IsBuilt m items script → script_in (image_items m) ≡ Ok (image_script m)

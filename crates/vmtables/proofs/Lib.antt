@@ -7,6 +7,8 @@ pub mod Endings
 pub mod Ends
 pub mod Given
 pub mod ImageRuns
+pub mod ImageRunEnds
+pub mod NeverEnded
 pub mod ItemsLoaded
 pub mod PlacedFiles
 pub mod Listed

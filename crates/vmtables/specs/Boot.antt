@@ -1,5 +1,6 @@
 -- What `boot` does.
 use Rattle.std.specs.Prelude.{◌≡◌, ℕ, ◌<◌, ◌≤◌, false, List, [], Ok, Err, map}
+use Rattle.std.specs.List.{AllByRecursion}
 use Rattle.vt_outside.specs.Placement.{Range}
 use Rattle.machine_desc.specs.declared.machine.Machine.{Machine}
 use Rattle.desc_toml.specs.Reading.{Reads}
@@ -20,7 +21,7 @@ use Rattle.vt_words.specs.declared.setting.Setting.{Setting}
 use Rattle.load_states.specs.Guarded.{is_work}
 use Rattle.load_states.specs.Kept.{IsCleared, IsTold}
 use Rattle.load_states.specs.LoadState.{memory_of, items_now, files_now, progress_of}
-use Rattle.load_states.specs.Runs.{left_by_others}
+use Rattle.load_states.specs.Runs.{GivesLawful, NeverEnds, left_by_others}
 use Rattle.vmtables.specs.Calls.{Answering, Made, Seen}
 use Rattle.vmtables.specs.Described.{CannotBeDescribed}
 use Rattle.vmtables.specs.Dumped.{IsDumpOf}
@@ -32,10 +33,12 @@ use Rattle.vmtables.specs.declared.fault.Fault.TheVariants as fault
 -- script is its script, which is carried out whole with the files at lawful places, and memory holds them. Of the files of fw_cfg it writes
 -- only the one that tells the host where the id of the generation is, where there is an id. The rest is as the other processors left it over the
 -- events that were taken, but for the firmware's work range, which holds the fill byte; of high memory that is said where no reset is among them.
--- Memory shows, from its RSDP and its anchor, exactly the machine's inventory.
+-- Whatever lawful places its files had been given before a reset, the load hadn't ended there. Memory shows, from its RSDP and its anchor, exactly
+-- the machine's inventory.
 pub record IsMachineBooted (Gives : Answering) (setting : Setting) (machine : Machine) (before after : Seen) : Type 0 where
   pub small : total_size (image_items machine) ≤ image_limit
   pub loaded : IsImageLoaded Gives (image_items machine) (top_of machine) setting (Ok tt) before after
+  pub unended : AllByRecursion (λ piece. NeverEnds (GivesLawful (top_of machine)) piece loaded.begun) loaded.load.since.pieces
   pub script : script_in (image_items machine) ≡ Ok (image_script machine)
   pub ran : IsRun (Gives after.place.begun) (files_of (image_items machine)) (image_script machine) after.place.handed Done (progress_of loaded.world)
   pub files : files_of (items_now loaded.world) ≡ told_files machine (files_now loaded.world)

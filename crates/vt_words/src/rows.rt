@@ -48,7 +48,7 @@ const SEED: OptionSchema = valued!(
     "N",
     Form::Number(0, u64::MAX),
     Value::Number(0),
-    "the seed of the load's events and of the places of scatter; 0 has no events"
+    "the seed of the load's events and of the places of scatter; 0 has no events, and from 2^63 on two of them reset the guest"
 );
 
 // A flag: its name, and what it is where it's left out, or none where it must be given.

@@ -1,5 +1,6 @@
 use Rattle.command_acts.specs.Allocators.{MayAnswer}
 use Rattle.command_acts.specs.Runs.{Answers}
+use Rattle.command_acts.proofs.Goes.{answers_are_lawful}
 use Rattle.load_states.specs.LoadState.{begun_with}
 use Rattle.firmware_load.specs.Inside.{load_of}
 use Rattle.firmware_load.proofs.Loaded.{IsClosed, load_over, asks_in_all, without_room}
@@ -18,7 +19,9 @@ returns-clause-loaded g c =
     rw c.follow.ensures.begun at c.close.ensures.follows in
     load_over May (load_of c.args.self.now) (load_of c.follow.new.self) (load_of c.close.new.self) (g.C.Schedule.plan c.args.plan.now).left
     (g.C.Schedule.plan c.follow.new.plan).left (g.A.ZoneAlloc.state c.close.new.place).handed c.answer.result
-    (opening_on_run May c.args.self.now c.requires.fresh) c.follow.ensures.follows c.follow.ensures.over closed c.close.ensures.over
+    (answers_are_lawful g.A.ZoneAlloc.state g.A.ZoneAlloc.gives (g.A.ZoneAlloc.state c.args.place.now).begun c.args.self.now.guest.memory.memory.top
+    c.requires.zones) c.requires.fresh (opening_on_run May c.args.self.now c.requires.fresh) c.follow.ensures.follows
+    c.follow.ensures.over closed c.close.ensures.over
     c.answer.ensures c.close.ensures.handed
 
 pub returns-clause-no_room : goal.returns-clause-no_room
