@@ -15,6 +15,7 @@ The dump has at most BYTES bytes; an input may have 67,108,864. KIND is one of t
                 what an input may have, and fewer in proportion
   tables        an XSDT that names as many tables as it may, 256 where BYTES is what an input may have and fewer in proportion, one within
                 the other, each up to the top of memory, which has bytes at random in as many rows as fit; each sums to zero
+  legacy        the same tables, which an RSDT names, for `--legacy`
 """
 
 import pathlib
@@ -24,18 +25,18 @@ import sys
 sys.path.append(str(pathlib.Path(__file__).resolve().parent.parent / "tools"))  # whose modules the benchmark shares
 
 from endings import Refused, ended, number_of
-from made_roots import HEADER, anchor_of, pointer_to, summed, table_of, xsdt_of
+from made_roots import HEADER, anchor_of, legacy_pointer_to, pointer_to, rsdt_of, summed, table_of, xsdt_of
 from memory_dump import LOWER_WINDOW, UPPER_WINDOW_SIZE, Memory, dump_text
 
 MOST_BYTES = 64 << 20  # of an input
 LEAST_BYTES = 1 << 16  # of which each kind can be made
-MOST_TABLES = 256  # of an XSDT
+MOST_TABLES = 256  # of an XSDT, and of an RSDT
 TOP = 64 << 20
 HIGH = TOP - UPPER_WINDOW_SIZE
 
 HEADER_LINE, ROW_LINE, END_LINE = 21, 42, 4
 
-ANCHOR, RSDP, XSDT = 0xF0000, 0xE0000, 0x1000
+ANCHOR, RSDP, ROOT = 0xF0000, 0xE0000, 0x1000
 
 
 def most_rows(size, others=0):
@@ -83,9 +84,17 @@ def structures(size):
 
 
 def with_xsdt(addresses, fill=0):
+    return with_root(pointer_to(ROOT), xsdt_of(addresses), fill)
+
+
+def with_rsdt(addresses):
+    return with_root(legacy_pointer_to(ROOT), rsdt_of(addresses))
+
+
+def with_root(pointer, root, fill=0):
     memory = Memory(TOP, fill)
-    memory.write(RSDP, pointer_to(XSDT))
-    memory.write(XSDT, xsdt_of(addresses))
+    memory.write(RSDP, pointer)
+    memory.write(ROOT, root)
     return memory
 
 
@@ -110,15 +119,19 @@ def nested_header(number, length):
     return summed(HEADER.pack(f"T{number:03}".encode(), length, 1, 0, b"NESTED", b"ONE MORE", 1, b"LIST", 1).ljust(48, b"\0"), 9)
 
 
-def tables(size):
+def tables(size, rooted=with_xsdt):
     count = max(1, MOST_TABLES * size // MOST_BYTES)
     addresses = [HIGH + 48 * at for at in range(count)]
-    memory = with_xsdt(addresses)
+    memory = rooted(addresses)
     headers = [nested_header(number, TOP - address) for number, address in enumerate(addresses)]
     taken = min(16 * most_rows(size, others=len(memory.rows)), UPPER_WINDOW_SIZE)
     last = summed(headers[-1] + at_random(taken - 48 * count), 9)
     memory.put(HIGH, b"".join(headers[:-1]) + last)
     return dump_text(memory)
+
+
+def legacy(size):
+    return tables(size, with_rsdt)
 
 
 KINDS = {
@@ -130,6 +143,7 @@ KINDS = {
     "entries": entries,
     "fill": fill,
     "tables": tables,
+    "legacy": legacy,
 }
 
 

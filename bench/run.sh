@@ -2,9 +2,10 @@
 # Compares `vmtables boot` and `vmtables build` for each description of examples/ and for great ones, `vmtables load` for large
 # containers and for one of a machine of QEMU, `vmtables decode` and `decode --list` for the dumps of descriptions and for a long one, and
 # `vmtables gen` for two numbers of processors, with other programs or one another, run side by side in one run; and so `aml_again`, which reads
-# AML terms and writes them again. It prints ratios, what ours takes over what the other program takes, for `gen` the instructions too where
-# perf or valgrind counts them, and for some inputs the peak of memory in MiB. Then it prints what `decode` and `decode --list` take of dumps that
-# make much work, by many rows or tables, or by a great DSDT. Nothing is proved or judged here.
+# AML terms and writes them again. It prints ratios, what ours takes over what the other program takes, for `gen`, and for a guest of QEMU that is
+# listed with `--legacy` and without it, the instructions too where perf or valgrind counts them, and for some inputs the peak of memory in MiB.
+# Then it prints what `decode` and `decode --list` take of dumps that make much work, by many rows or tables, or by a great DSDT. Nothing is proved
+# or judged here.
 #
 # usage: bench/run.sh [ROUNDS]     each program is run ROUNDS times, 11 if nothing is said; medians are compared
 #
@@ -27,6 +28,7 @@ most_input=$((64 << 20))   # bytes of the longest dumps that make much work, and
 parts=(1 10 100)
 terms=(names packages) # kinds of bench/aml.py
 hostile=(random unbroken rows reverse structures entries fill tables) # kinds of bench/dumps.py
+legacy=legacy                                                         # one of them that is read with --legacy
 devices=(bridge processors)            # descriptions of bench/descriptions.py, of devices of which a DSDT tells
 dsdts=(names zeros scopes)             # kinds of bench/dsdts.py, and how many bytes the DSDT of each has
 dsdt_sizes=($((4 << 20)) $((1 << 20)))
@@ -133,30 +135,51 @@ add_gen() {
     against "the program's --version" /dev/null "$program" --version
 }
 
-# instructions WORD..: how many instructions the program runs in user mode, told by perf or else by valgrind; nothing where neither tells it.
+# instructions INPUT WORD..: how many instructions the program runs in user mode, told by perf or else by valgrind; nothing where neither tells it.
 instructions() {
-    local told=
+    local told input=$1
+    shift
+    told=
     if command -v perf >/dev/null; then
-        perf stat -x, -e instructions:u -o "$work/counted" "$program" "$@" >/dev/null 2>&1 </dev/null
+        perf stat -x, -e instructions:u -o "$work/counted" "$program" "$@" >/dev/null 2>&1 <"$input"
         told=$(awk -F, '$3 ~ /^instructions/ && $1 ~ /^[0-9]+$/ { print $1 }' "$work/counted")
     fi
     if [ -z "$told" ] && command -v valgrind >/dev/null; then
-        told=$(valgrind --tool=callgrind --callgrind-out-file=/dev/null "$program" "$@" 2>&1 >/dev/null </dev/null |
+        told=$(valgrind --tool=callgrind --callgrind-out-file=/dev/null "$program" "$@" 2>&1 >/dev/null <"$input" |
             sed -n 's/.*Collected : \([0-9]*\).*/\1/p')
     fi
     echo "$told"
 }
 
+# compare_instructions INPUT WORDS WORDS: those with the first words beside those with the others, of which blanks stand between.
 compare_instructions() {
-    local many few
-    many=$(instructions gen "${processors[0]}")
-    few=$(instructions gen "${processors[1]}")
-    if [ -z "$many" ] || [ -z "$few" ]; then
+    local first second words
+    read -ra words <<<"$2"
+    first=$(instructions "$1" "${words[@]}")
+    read -ra words <<<"$3"
+    second=$(instructions "$1" "${words[@]}")
+    if [ -z "$first" ] || [ -z "$second" ]; then
         echo "skipped: instructions, which neither perf nor valgrind tells"
         return
     fi
-    awk -v many="$many" -v few="$few" -v what="gen ${processors[0]} over gen ${processors[1]}" \
-        'BEGIN { printf "instructions of %s: %d over %d, %.3f\n", what, many, few, many / few }'
+    awk -v first="$first" -v second="$second" -v what="$2 over $3" \
+        'BEGIN { printf "instructions of %s: %d over %d, %.3f\n", what, first, second, first / second }'
+}
+
+# A guest of QEMU, whose ACPI tables have an RSDP of revision 0, listed with them and without.
+compare_guest() {
+    python3 "$root/bench/guests.py" pc "$work/guest.dump" >/dev/null 2>&1 || { echo "skipped: a guest of QEMU"; return; }
+    compare_instructions "$work/guest.dump" "decode --list --legacy" "decode --list"
+}
+
+# The tables of an RSDT, as many as are read, beside the same of an XSDT.
+add_roots() {
+    local name="list legacy" kind
+    for kind in tables "$legacy"; do
+        python3 "$root/bench/dumps.py" "$kind" "$most_input" "$work/$kind.dump" || exit 1
+    done
+    against "decode --list --legacy" "$work/$legacy.dump" "$program" decode --list --legacy
+    against "decode --list of the tables of an XSDT" "$work/tables.dump" "$program" decode --list
 }
 
 # add_devices NAME: a description of devices, of whose DSDT iasl makes a text, and a DSDT again of that.
@@ -334,12 +357,12 @@ compare_all_memory() {
     done
 }
 
-# measure_dump WRITER KIND BYTES WHAT: what both commands take of a dump that makes much work, of the kind that a program of this folder writes
-# for so many bytes, and what they say.
+# measure_dump WRITER KIND BYTES WHAT [OPTION]: what both commands take of a dump that makes much work, of the kind that a program of this folder
+# writes for so many bytes, and what they say.
 measure_dump() {
     python3 "$root/bench/$1" "$2" "$3" "$work/hostile.dump" || exit 1
-    measure_command "$4" decode
-    measure_command "$4" decode --list
+    measure_command "$4" decode "${@:5}"
+    measure_command "$4" decode --list "${@:5}"
     rm -f "$work/hostile.dump"
 }
 
@@ -352,7 +375,7 @@ measure_command() {
     says=$(head -1 "$work/said")
     awk -v kind="$what" -v words="$*" -v given="$(stat -c %s "$work/hostile.dump")" -v held="$guest_memory" -v status="$status" \
         -v says="${says:-$(wc -l <"$work/output") lines, $(stat -c %s "$work/output") bytes}" '{
-            printf "%-11s %-13s %10.2f %10.1f %8.2f %10.1f %6d  %s\n", kind, words, given / 2 ^ 20, held / 2 ^ 20, $1, $2 / 1024, status, says
+            printf "%-11s %-22s %10.2f %10.1f %8.2f %10.1f %6d  %s\n", kind, words, given / 2 ^ 20, held / 2 ^ 20, $1, $2 / 1024, status, says
         }' "$work/peak"
     rm -f "$work/output"
 }
@@ -360,11 +383,14 @@ measure_command() {
 measure_dumps() {
     local kind part size
     echo "decode and decode --list of dumps that make much work, run once; sizes in MiB"
-    printf '%-11s %-13s %10s %10s %8s %10s %6s  %s\n' dump command input "guest RAM" seconds peak status says
+    printf '%-11s %-22s %10s %10s %8s %10s %6s  %s\n' dump command input "guest RAM" seconds peak status says
     for kind in "${hostile[@]}"; do
         for part in "${parts[@]}"; do
             measure_dump dumps.py "$kind" $((most_input / part)) "$kind"
         done
+    done
+    for part in "${parts[@]}"; do
+        measure_dump dumps.py "$legacy" $((most_input / part)) "$legacy" --legacy
     done
     for kind in "${dsdts[@]}"; do
         for size in "${dsdt_sizes[@]}"; do
@@ -395,6 +421,7 @@ done
 add_decode
 add_gen
 add_long_list
+add_roots
 python3 "$root/bench/containers.py" "$work" || exit 1
 for container in large full many random; do
     add_container "$work/$container.container"
@@ -415,7 +442,8 @@ for kind in "${terms[@]}"; do
     add_terms "$kind"
 done
 python3 "$root/bench/compare.py" "$rounds" "$work/programs" "$work/output"
-compare_instructions
+compare_instructions /dev/null "gen ${processors[0]}" "gen ${processors[1]}"
+compare_guest
 if [ -x /usr/bin/time ]; then
     compare_all_memory
     measure_dumps

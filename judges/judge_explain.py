@@ -28,12 +28,13 @@ import explain
 from containers import SCRIPT, allocate, container
 from endings import refused
 from explain import KEYS, LINES, NotALine, explained, index_text, letters_of
-from made_roots import pointer_to
+from made_roots import legacy_pointer_to, pointer_to
 from memory_dump import Memory, dump_text
 
 FORMATS = ROOT / "docs/FORMATS.md"
 SHOWN = 12  # of the faults
 NO_LINE = ""  # what status 0 has
+NO_RAM = 0xA0000  # an address
 MOST_INPUT = 64 << 20
 
 # How the tables with a number and a name begin, and what the tool has of them. Behind these two columns stand what it means and what it tells.
@@ -329,10 +330,10 @@ def missed(tried):
     return sorted({number for number, changed in tried if not faults_of(changed)})
 
 
-def bad_memory():
-    """A memory whose root pointer leads to no RAM."""
+def bad_memory(pointer):
+    """A memory with a root pointer, which leads to no RAM."""
     memory = Memory(64 << 20, 0)
-    memory.write(0xF0000, pointer_to(0xA0000))
+    memory.write(0xF0000, pointer)
     return dump_text(memory)
 
 
@@ -352,8 +353,13 @@ ENDS = [
     (["load"], container([(SCRIPT, b"1")]), 5),
     (["load"], container([(SCRIPT, allocate("none"))]), 5),
     (["decode"], b"", 6),
-    (["decode"], bad_memory(), 7),
+    (["decode"], bad_memory(pointer_to(NO_RAM)), 7),
     (["decode"], dump_text(Memory(64 << 20, 0)), 7),
+    (["decode", "--legacy", "--legacy"], b"", 2),
+    (["decode", "--legacy"], b"", 6),
+    (["decode", "--legacy"], bad_memory(pointer_to(NO_RAM)), 7),
+    (["decode", "--legacy"], bad_memory(legacy_pointer_to(NO_RAM)), 7),
+    (["decode", "--list", "--legacy"], bad_memory(legacy_pointer_to(0)), 7),
     (["boot"], bytes(MOST_INPUT + 1), 10),
 ]
 

@@ -4,8 +4,9 @@ of the product: it serves the checks of judges/run.sh alone.
 
 usage: judge_list.py PROGRAM dump DUMP          a dump that `boot` made
        judge_list.py PROGRAM machine MACHINE    the memory of a machine of QEMU, pc or q35, once its firmware is through
+       judge_list.py PROGRAM guest DUMP         the memory of such a machine, as a dump
+       judge_list.py PROGRAM loaded CONTAINER   the memory that `load` leaves of the files that such a machine gives its firmware
        judge_list.py PROGRAM templates          tables that iasl makes of its own templates
-       judge_list.py PROGRAM files CONTAINER    the tables in the files that a machine of QEMU gives its firmware
 
 PROGRAM stands for ./vmtables. What must hold:
 
@@ -13,13 +14,12 @@ PROGRAM stands for ./vmtables. What must hold:
   pointer of revision 2 leads to is there once, by the signature and the length that iasl tells;
 - a DSDT behind an FADT has a second line, with its length, where iasl's text of it has anything but scopes, devices and names of plain values;
   that of a dump gets one where its first device becomes a thermal zone;
-- a machine's memory, saved by the monitor's pmemsave and made a dump by tools/make_dump.py, has the structures of its firmware, and no ACPI
-  tables, since its root pointer has revision 0; without `smbios-entry-point-type=64` it has no structures, since its anchor has 31 bytes;
-- with a root pointer of revision 2 and an XSDT in it that names its DSDT and the tables of its RSDT, but for the FADT, each of them is
-  listed; with the FADT too, which is shorter than 276 bytes, this is fault 3 at its address; where zeros make it as long as that, what it
-  leads to is listed;
+- a machine's memory, saved by the monitor's pmemsave and made a dump by tools/make_dump.py, and that of its files once they are loaded, is listed as it
+  is: with `--legacy` there is each table to which its root pointer of revision 0 and its RSDT lead, among them the FADT, which is shorter than 276
+  bytes, and what that leads to; without it there is none. It has the structures of its firmware, or none without
+  `smbios-entry-point-type=64`, since its anchor has 31 bytes then;
 - all tables of iasl's templates are listed, but those of LEFT_OUT, and behind an FADT a FACS and a DSDT, too, also one that iasl compiles of
-  each kind of value; and so are those in a machine's files, once they sum to zero, but for the FADT and the FACS.
+  each kind of value.
 
 Then some bits are flipped (judges/listed.py), each of which must be found.
 
@@ -36,11 +36,10 @@ sys.path.append(str(pathlib.Path(__file__).resolve().parent.parent / "tools"))  
 
 from judge_aml import compiled, names
 from endings import ended, refused
-from listed import SHOWN, NoTool, NotTold, end_faults, judged, list_of, told_by
-from fw_cfg_files import NotAContainer, read_container_file
-from made_roots import free_place, put_root, summed, table_of
+from listed import LEGACY_LIST, LIST, SHOWN, NoTool, NotTold, end_faults, judged, list_of, told_by
+from made_roots import put_root, summed, table_of
 from memory_dump import UPPER_WINDOW_SIZE, Memory, NotADump, NotFound, acpi_table, led_addresses, listed_tables
-from memory_dump import number_at, read_dump, read_dump_file, root_pointer, root_table
+from memory_dump import read_dump, read_dump_file, root_pointer, root_table
 from qemu_machine import MACHINES, Machine, NoAnswer
 
 MAKE_DUMP = pathlib.Path(__file__).resolve().parent.parent / "tools" / "make_dump.py"
@@ -61,10 +60,6 @@ MORE = {"pc": [], "q35": NODES}
 LEFT_OUT = [b"RSD ", b"FACS", b"S3PT", b"FACP"]
 
 FADT_TEMPLATE_FAULT = "tables: acpi fault 5 at 0000000000000001"
-
-FADT_LENGTH = 276  # the least length of an FADT that is read
-
-TABLES = "etc/acpi/tables"  # the file of a machine that has them
 
 # How a device begins, and a thermal zone, of which all else is spelled alike (ACPI 6.5, 20.2.5.2).
 DEVICE, THERMAL_ZONE = b"\x5b\x82", b"\x5b\x85"
@@ -90,20 +85,9 @@ def rooted(memory, entries):
     return other
 
 
-def named_by_root(memory):
-    """The addresses of a machine's tables by their signatures, as its root pointer of revision 0 leads to them, and of its DSDT."""
-    pointer = root_pointer(memory)
-    if pointer is None or pointer[15] >= 2:
-        raise NotFound("the machine has no root pointer of revision 0")
-    root = root_table(memory, pointer)
-    addresses = [number_at(root, entry, 4) for entry in range(36, len(root), 4)]
-    named = {memory.read(address, 4, "a signature"): address for address in addresses}
-    return named | {b"DSDT": number_at(memory.read(named[b"FACP"] + 40, 4, "the address of the DSDT"), 0, 4)}
-
-
-def judge_memory(program, what, memory):
+def judge_memory(program, what, memory, options=LIST):
     """The faults of a memory's list, each with what the memory is; and a line that says what is right, where nothing is wrong."""
-    faults, count = judged(program, memory)
+    faults, count = judged(program, memory, options)
     return [f"{what}: {fault}" for fault in faults], f"{what}: {count} lines"
 
 
@@ -134,30 +118,32 @@ def judge_dump(program, dump):
         yield judge_memory(program, "with a thermal zone", with_thermal_zone(memory, address))
 
 
-def with_long_fadt(memory, address):
-    """The memory with the FADT at the address written anew, with zeros behind it up to the least length that is read, and where that is. It
-    isn't where put_root looks for a place first, since rows of zeros look free.
-    """
-    other, table = memory.copy(), bytearray(acpi_table(memory, address).ljust(FADT_LENGTH, b"\0"))
-    table[4:8] = FADT_LENGTH.to_bytes(4, "little")
-    place = free_place(memory, memory.top - UPPER_WINDOW_SIZE // 2, memory.top, FADT_LENGTH)
-    other.write(place, summed(table, 9))
-    return other, place
+def judge_as_it_is(program, what, memory):
+    """A machine's memory, listed in both forms. It must have a root pointer of revision 0."""
+    pointer = root_pointer(memory)
+    if pointer is None or pointer[15] >= 2:
+        raise NotFound(f"{what} has no root pointer of revision 0")
+    yield judge_memory(program, f"{what} with --legacy", memory, LEGACY_LIST)
+    yield judge_memory(program, f"{what} without it", memory)
 
 
 def judge_machine(program, machine_name):
     memory = read_dump(machine_dump(machine_name, NEW_ANCHOR))
     if memory.find(b"_SM3_", 0xF0000, 0x100000) is None:
         raise NotFound("the machine has no SMBIOS anchor of 24 bytes")
-    yield judge_memory(program, "its memory", memory)
-    tables = named_by_root(memory)
-    fadt = tables.pop(b"FACP")
-    yield judge_memory(program, "with an XSDT", rooted(memory, tables.values()))
-    short = f"tables: acpi fault 3 at {fadt:016x}"
-    yield judge_end(program, "with its FADT", rooted(memory, [*tables.values(), fadt]), short)
-    other, place = with_long_fadt(memory, fadt)
-    yield judge_memory(program, "with a longer FADT", rooted(other, [*tables.values(), place]))
-    yield judge_memory(program, "with an anchor of 31 bytes", read_dump(machine_dump(machine_name, [])))
+    yield from judge_as_it_is(program, "its memory", memory)
+    yield from judge_as_it_is(program, "that of one with an anchor of 31 bytes", read_dump(machine_dump(machine_name, [])))
+
+
+def judge_guest(program, dump):
+    yield from judge_as_it_is(program, "its memory", read_dump_file(dump))
+
+
+def judge_loaded(program, container):
+    run = subprocess.run([program, "load"], input=pathlib.Path(container).read_bytes(), capture_output=True)
+    if run.returncode != 0:
+        raise NotADump(f"{container} isn't loaded: {run.stderr.decode('latin-1').strip()}")
+    yield from judge_as_it_is(program, "the memory of its files", read_dump(run.stdout))
 
 
 def templates():
@@ -208,28 +194,7 @@ def judge_templates(program):
     yield judge_memory(program, "with a DSDT of each kind of value", rooted(memory, [fadt_at]))
 
 
-def tables_in(content):
-    """The tables that stand one behind the other, up to zeros, each with a header and its length (ACPI 6.5, 5.2.6)."""
-    at = 0
-    while content[at : at + 4].strip(b"\0"):
-        size = number_at(content, at + 4, 4)
-        yield content[at : at + size]
-        at += size
-
-
-def judge_files(program, container):
-    files = read_container_file(container)
-    if TABLES not in files:
-        raise NotAContainer(f"{container} has no file {TABLES}")
-    made = {table[:4]: table for table in tables_in(files[TABLES])}
-    memory = Memory(64 << 20, 0)
-    addresses = placed(memory, [summed(table, 9) for signature, table in made.items() if signature not in LEFT_OUT])
-    yield judge_memory(program, "the tables of its files", rooted(memory, addresses))
-    (fadt,) = placed(memory, [summed(made[b"FACP"], 9)])
-    yield judge_end(program, "its FADT", rooted(memory, [fadt]), f"tables: acpi fault 3 at {fadt:016x}")
-
-
-JUDGES = {"dump": judge_dump, "machine": judge_machine, "templates": judge_templates, "files": judge_files}
+JUDGES = {"dump": judge_dump, "machine": judge_machine, "guest": judge_guest, "loaded": judge_loaded, "templates": judge_templates}
 
 
 def report(findings):
@@ -251,13 +216,13 @@ def main(program, kind, *words):
     except (NoTool, NoAnswer) as refusal:
         print(f"judge_list.py: {refusal}", file=sys.stderr)
         return 3
-    except (OSError, NotADump, NotAContainer, NotFound, NotTold) as refusal:
+    except (OSError, NotADump, NotFound, NotTold) as refusal:
         return refused(refusal)
 
 
 def is_lawful(words):
     match words:
-        case [_, "dump", _] | [_, "files", _] | [_, "templates"]:
+        case [_, "dump", _] | [_, "guest", _] | [_, "loaded", _] | [_, "templates"]:
             return True
         case [_, "machine", machine]:
             return machine in MACHINES
@@ -266,5 +231,5 @@ def is_lawful(words):
 
 if __name__ == "__main__":
     if not is_lawful(sys.argv[1:]):
-        sys.exit("usage: judge_list.py PROGRAM dump DUMP|machine MACHINE|templates|files CONTAINER")
+        sys.exit("usage: judge_list.py PROGRAM dump DUMP|machine MACHINE|guest DUMP|loaded CONTAINER|templates")
     sys.exit(ended(main, sys.argv[1:]))

@@ -10,6 +10,8 @@ PROGRAM stands for ./vmtables. Each DESCRIPTION is booted by two policies. It mu
 - the dumps of the descriptions with a few bytes changed by a seed, in anchors, structures, tables, entries and terms, most of them with sums mended;
 - such dumps with a byte of their text another, missing or there twice.
 
+The small dump has an RSDP of revision 0, too; and every fourth dump is listed with `--legacy` as well.
+
 SEED is another seed, and PERCENT how many of the dumps that are drawn, 100 where nothing is said.
 
 Status 0: all of this holds; 1: something doesn't, each with a line; 2: a description is none, or PROGRAM can't be run.
@@ -22,17 +24,19 @@ import sys
 from calls import Comparison, Program, Seeds
 from endings import Refused, ended
 from every_table import mend
-from made_roots import anchor_of, pointer_to, summed, table_of, xsdt_of
+from made_roots import anchor_of, legacy_pointer_to, pointer_to, rsdt_of, summed, table_of, xsdt_of
 from memory_dump import Memory, dump_text, number_at, read_dump
-from plain.lists import listed
+from plain.lists import LEGACY, listed
 
 TOP = 64 << 20
-SMALL_ROWS = {0x1000: xsdt_of([0x1040]), 0x1040: table_of(b"OTHR", b"ABC"), 0x2000: b"\x7f\x04\0\x7f\0\0"}
+SMALL_ROWS = {0x1000: xsdt_of([0x1040]), 0x1040: table_of(b"OTHR", b"ABC"), 0x1070: rsdt_of([0x1040]), 0x2000: b"\x7f\x04\0\x7f\0\0"}
+POINTERS = {0xE0000: pointer_to(0x1000), 0xE0030: legacy_pointer_to(0x1070)}
 BYTES = b"\x00\x09\x0a\x0d\x20/0159:@AFTaefgnz\x7f\xff"  # what a byte of a text is changed to
 BOOTS = [[], ["--policy", "scatter", "--seed", "3", "--fill", "a5"]]
 DRAWN = 4_000
 LEAST = 3  # how often each fault of a dump must come
 READ = "read"
+ALSO_LEGACY = 4  # one of so many dumps is listed with the option, too
 
 # Bytes that tell much where they are lengths, types, opcodes or characters.
 TELLING = bytes.fromhex("00010203040708090f1024282c7f80fffe5c5e820a0c0d1112")
@@ -44,9 +48,9 @@ def outcome_of(wanted):
 
 
 def small_dump():
-    """A dump with an anchor, an RSDP, and what they lead to."""
+    """A dump with an anchor, an RSDP of each form, and what they lead to."""
     memory = Memory(TOP, 0)
-    for address, content in {**SMALL_ROWS, 0xE0000: pointer_to(0x1000), 0xF0000: anchor_of(0x2000, 6)}.items():
+    for address, content in {**SMALL_ROWS, **POINTERS, 0xF0000: anchor_of(0x2000, 6)}.items():
         memory.write(address, content)
     return dump_text(memory)
 
@@ -229,8 +233,10 @@ def main(program, *words):
     seeds = Seeds(words[at + 1 :])
     dumps = [dump for description in words[:at] for dump in booted(program, description)]
     comparison = Comparison(Program(program, "decode", "--list"), outcome_of, READ, listed)
-    for what, dump in all_dumps(seeds, dumps):
+    for number, (what, dump) in enumerate(all_dumps(seeds, dumps)):
         comparison.compare(what, dump)
+        if number % ALSO_LEGACY == 0:
+            comparison.compare(f"{what}, with {LEGACY}", dump, LEGACY)
     faults = [f"dump: fault {number}" for number in range(1, 7)]
     return comparison.report("dumps", comparison.lacking([READ, *faults], LEAST))
 

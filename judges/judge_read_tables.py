@@ -177,10 +177,17 @@ KINDS = ["FACP", "APIC", "SRAT", "SLIT", "MCFG", "HPET", "SSDT", "OTHR"]
 
 
 class Drawing:
-    """Draws memories by a random generator: an RSDP, an XSDT, and the tables that it names one behind the other, most of them well formed."""
+    """Draws memories by a random generator: an RSDP, a root, and the tables that it names one behind the other, most of them well formed. The root is an
+    XSDT, and an FADT has 276 bytes, unless another drawing says otherwise.
+    """
+
+    root, width, pointer_to = b"XSDT", 8, staticmethod(pointer_to)
 
     def __init__(self, draws):
         self.draws = draws
+
+    def fadt_size(self):
+        return 276
 
     def is_one_of(self, count):
         return self.draws.randrange(count) == 0
@@ -190,10 +197,10 @@ class Drawing:
         kinds = self.draws.sample(KINDS, self.draws.randrange(len(KINDS) + 1)) + self.draws.choices(KINDS[-2:], k=self.draws.randrange(5))
         kinds += self.draws.choices(KINDS, k=1) if self.is_one_of(4) else []
         self.draws.shuffle(kinds)
-        size = 36 + 8 * len(kinds)
+        size = 36 + self.width * len(kinds)
         self.content = bytearray(size)
-        entries = [self.pushed(kind) for kind in kinds]
-        self.content[:size] = self.finished(b"XSDT", b"".join(entry.to_bytes(8, "little") for entry in entries))
+        entries = [self.cut(self.pushed(kind)) for kind in kinds]
+        self.content[:size] = self.finished(self.root, b"".join(entry.to_bytes(self.width, "little") for entry in entries))
         if self.is_one_of(6):
             self.change()
         return self.rooted()
@@ -201,8 +208,12 @@ class Drawing:
     def rooted(self):
         memory = Memory(TOP, 0)
         memory.write(self.base, bytes(self.content[: LOW_END - self.base]))
-        memory.write(POINTER, pointer_to(self.pointer(self.base)))
+        memory.write(POINTER, self.pointer_to(self.cut(self.pointer(self.base))))
         return memory
+
+    def cut(self, address):
+        """The part of an address that an entry of the root has room for."""
+        return address % (1 << 8 * self.width)
 
     def pointer(self, address):
         """An address, or seldom another one."""
@@ -238,13 +249,14 @@ class Drawing:
         return self.draws.choice([max(0, size - self.draws.randrange(8)), size + self.draws.randrange(8), self.draws.randrange(64), self.draws.getrandbits(32)])
 
     def fadt(self, _kind):
-        body = bytearray(self.draws.randbytes(240))
-        facs = self.base + len(self.content) + 276
+        size = self.fadt_size()
+        body = bytearray(self.draws.randbytes(max(size, 276) - 36))
+        facs = self.base + len(self.content) + size
         for narrow, wide, target in ((0, 96, facs), (4, 104, facs + 64)):
             kind = self.draws.randrange(8)
             body[narrow : narrow + 4] = (0 if kind == 0 else self.pointer(target) & 0xFFFFFFFF).to_bytes(4, "little")
             body[wide : wide + 8] = (0 if kind < 4 else self.pointer(target)).to_bytes(8, "little")
-        return self.finished(b"FACP", bytes(body))
+        return self.finished(b"FACP", bytes(body[: size - 36]))
 
     def facs(self):
         facs = bytearray(b"FACS\x40\0\0\0" + self.draws.randbytes(56))

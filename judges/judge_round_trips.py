@@ -11,6 +11,8 @@ descriptions here (judges/machines.py), and a thousand machines that a seed draw
 - both dumps are the same bytes;
 - what is printed says, read by Python's tomllib, the value of each key of the description and the default of each other one, and no more;
 - it is spelled as docs/FORMATS.md says, with keys in ascending order and tables behind those that are none;
+- `decode --legacy` prints the same of the memory in the form of ACPI 1.0, with an FADT of a drawn length from 116 bytes on; but where the value for a
+  reset isn't in these it prints 0 for it, and where the register isn't it tells item 4, since the flags tell of one;
 - `decode` of a boot with another policy, fill byte and seed prints the same text;
 - what `gen` prints is what the dump and the container of the written description have.
 
@@ -35,7 +37,10 @@ sys.path.append(str(pathlib.Path(__file__).resolve().parent.parent / "tools"))  
 from described import read_description
 from endings import ended
 from fw_cfg_files import COMMAND_SIZE, SCRIPT, NotAContainer, read_container
+from legacy_memory import SECOND, SHORTEST, WHOLE, WITH_RESET, WITH_RESET_VALUE, legacy_memory
+from listed import end_faults, list_of
 from machines import Drawing, description, generated, is_table, printed, told
+from memory_dump import dump_text, read_dump
 
 PROCESSORS = [1, 63, 64, 65, 300, 4096]
 DRAWN, SEED = 1000, 7
@@ -102,9 +107,26 @@ def trip_faults(program, machine, text):
     try:
         dump = output(program, ["boot"], text)
         text = output(program, ["decode"], dump)
-        return [*text_faults(machine, text), *dump_faults(dump, output(program, ["boot"], text))]
+        return [*text_faults(machine, text), *dump_faults(dump, output(program, ["boot"], text)), *legacy_faults(program, machine, dump)]
     except Failed as refusal:
         return [str(refusal)]
+
+
+def legacy_faults(program, machine, dump):
+    """The faults of a machine whose tables have the form of ACPI 1.0, with an FADT of a length that its dump draws."""
+    draws = random.Random(dump)
+    size = draws.choice([SHORTEST, WITH_RESET - 1, WITH_RESET, WITH_RESET_VALUE, SECOND, WHOLE - 1, draws.randrange(SHORTEST, WHOLE)])
+    legacy = dump_text(legacy_memory(read_dump(dump), size, draws.randrange(256)))
+    power = told(machine).get("power", {"reset": 0})
+    if power["reset"] != 0 and size < WITH_RESET:
+        faults = end_faults(list_of(program, legacy, ("--legacy",)), 7, "tables: not this profile, item 4")
+    elif power["reset"] != 0 and size < WITH_RESET_VALUE:
+        without = copy.deepcopy(machine)
+        without["power"]["reset_value"] = 0
+        faults = text_faults(without, output(program, ["decode", "--legacy"], legacy))
+    else:
+        faults = text_faults(machine, output(program, ["decode", "--legacy"], legacy))
+    yield from (f"with an FADT of {size} bytes: {fault}" for fault in faults)
 
 
 def other_boot_faults(program, text):

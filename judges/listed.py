@@ -1,6 +1,8 @@
 """What other programs tell of a guest's memory, as the lines that `vmtables decode --list` prints of it: dmidecode of the SMBIOS
 structures, and iasl of the ACPI tables; and the judging of a list by that. What the judges of lists share.
 
+The list has the tables of an XSDT, to which a root pointer of revision 2 leads, or with `--legacy` those of an RSDT, to which one of revision 0 does.
+
 A list is judged once more wherever one of these bits is flipped in the memory that the program is given: of the handles of the first and
 the last structure, of the root pointer, and of the last byte of each table that has a sum, the DSDT behind an FADT among them. The list must
 then differ, or tell the table's address, or else the judge is none.
@@ -17,7 +19,8 @@ import tempfile
 sys.path.append(str(pathlib.Path(__file__).resolve().parent.parent / "tools"))  # whose modules the judges share
 
 from dump_tables import smbios_files
-from memory_dump import acpi_table, dump_text, led_addresses, led_tables, listed_tables, number_at, root_pointer, root_table
+from memory_dump import acpi_table, dump_text, led_addresses, led_tables, listed_addresses, listed_tables, number_at
+from memory_dump import root_address, root_pointer, root_table
 
 # The signatures of tables that have a record, in the order of the list. The tables behind an FADT are told from it alone.
 KNOWN = [b"XSDT", b"FACP", b"FACS", b"DSDT", b"APIC", b"SRAT", b"SLIT", b"MCFG", b"HPET"]
@@ -37,6 +40,8 @@ PLAIN = {"DefinitionBlock", "Package", "Buffer", "EisaId", "ToUUID", "Unicode", 
 
 SHOWN = 5  # of the faults
 
+LIST, LEGACY_LIST = ("--list",), ("--list", "--legacy")  # options of a list
+
 Listed = collections.namedtuple("Listed", "status out said")
 Told = collections.namedtuple("Told", "signature length foreign")
 
@@ -49,7 +54,7 @@ class NotTold(Exception):
     """A tool ends with a fault, or tells something else than it was asked."""
 
 
-def list_of(program, memory, options=("--list",)):
+def list_of(program, memory, options=LIST):
     """How `decode --list`, or `decode` with other options, of a memory ends. Bytes that are no memory's are given as they are."""
     given = memory if isinstance(memory, bytes) else dump_text(memory)
     run = subprocess.run([program, "decode", *options], input=given, capture_output=True)
@@ -113,17 +118,25 @@ def shown(text):
     return "".join(chr(byte) if 0x20 <= byte <= 0x7E else "?" for byte in text)
 
 
-def table_lines(memory):
-    """The lines of the ACPI tables, from the least root pointer on. One of revision 0 leads to none of them."""
+def pointer_of(memory, options):
+    """The least root pointer, where it is of the form that a list by these options reads, or None."""
     pointer = root_pointer(memory)
-    if pointer is None or pointer[15] < 2:
+    return pointer if pointer is not None and (pointer[15] < 2) == (options == LEGACY_LIST) else None
+
+
+def table_lines(memory, options):
+    """The lines of the ACPI tables, from the least root pointer on. The first one is named XSDT in either form."""
+    pointer = pointer_of(memory, options)
+    if pointer is None:
         return ["acpi none"]
     root = root_table(memory, pointer)
     named = listed_tables(memory, root)
     led = [table for fadt in named if fadt[:4] == b"FACP" for table in led_tables(memory, fadt)]
     told = told_tables([root, *led, *named])
-    (root_told, led_told, named_told) = told[:1], told[1 : 1 + len(led)], told[1 + len(led) :]
-    known = [one.signature for one in root_told + led_told] + [one.signature for one in named_told if one.signature in NAMED]
+    (root_told, led_told, named_told) = told[0], told[1 : 1 + len(led)], told[1 + len(led) :]
+    if root_told.signature != root[:4]:
+        raise NotTold(f"iasl tells of {root_told.signature!r} in place of {root[:4]!r}")
+    known = [b"XSDT", *(one.signature for one in led_told), *(one.signature for one in named_told if one.signature in NAMED)]
     rest = [one for one in led_told if one.foreign] + [one for one in named_told if one.signature not in NAMED]
     return [
         f"acpi {shown(pointer[9:15])}",
@@ -132,8 +145,8 @@ def table_lines(memory):
     ]
 
 
-def told_lines(memory):
-    return structure_lines(memory) + table_lines(memory)
+def told_lines(memory, options=LIST):
+    return structure_lines(memory) + table_lines(memory, options)
 
 
 def list_faults(listed, told):
@@ -158,25 +171,24 @@ def sum_fault(address):
     return f"tables: acpi fault 2 at {address:016x}"
 
 
-def flips(memory):
-    """Addresses of bits that a list shows, where they are flipped."""
+def flips(memory, options):
+    """Addresses of bits that a list by these options shows, where they are flipped."""
     at = memory.find(b"_SM3_", 0xF0000, 0x100000)
     if at is not None:
         anchor = memory.read(at, 24, "the SMBIOS anchor")
         size, table = number_at(anchor, 0x0C, 4), number_at(anchor, 0x10, 8)
         yield from (table + 2, table + size - 4)
-    pointer = root_pointer(memory)
-    if pointer is not None and pointer[15] >= 2:
+    if pointer_of(memory, options) is not None:
         yield memory.find(b"RSD PTR ", 0xE0000, 0x100000) + 9
 
 
-def summed_tables(memory):
-    """The address and the last byte's of each table with a sum, from a root pointer of revision 2 on."""
-    pointer = root_pointer(memory)
-    if pointer is None or pointer[15] < 2:
+def summed_tables(memory, options):
+    """The address and the last byte's of each table with a sum, from the root pointer on that a list by these options reads."""
+    pointer = pointer_of(memory, options)
+    if pointer is None:
         return
     root = root_table(memory, pointer)
-    addresses = [number_at(pointer, 24, 8), *(number_at(root, entry, 8) for entry in range(36, len(root), 8))]
+    addresses = [root_address(pointer), *listed_addresses(root)]
     fadts = [table for table in listed_tables(memory, root) if table[:4] == b"FACP"]
     addresses += [address for fadt in fadts for address in led_addresses(fadt)]
     for address in addresses:
@@ -185,18 +197,18 @@ def summed_tables(memory):
             yield address, address + len(table) - 1
 
 
-def missed_flips(program, memory, told):
+def missed_flips(program, memory, told, options):
     """The bits whose flipping doesn't change what is said as it should."""
-    for at in flips(memory):
-        if not [*list_faults(list_of(program, memory.flipped(at)), told)]:
+    for at in flips(memory, options):
+        if not [*list_faults(list_of(program, memory.flipped(at), options), told)]:
             yield f"no judge: nothing is wrong with a bit flipped at {at:#x}"
-    for address, last in summed_tables(memory):
-        for fault in end_faults(list_of(program, memory.flipped(last)), 7, sum_fault(address)):
+    for address, last in summed_tables(memory, options):
+        for fault in end_faults(list_of(program, memory.flipped(last), options), 7, sum_fault(address)):
             yield f"with a bit flipped at {last:#x}: {fault}"
 
 
-def judged(program, memory):
-    """Returns what is wrong with the list of a memory, and how many lines it should have."""
-    told = told_lines(memory)
-    faults = [*list_faults(list_of(program, memory), told)]
-    return faults or [*missed_flips(program, memory, told)], len(told)
+def judged(program, memory, options=LIST):
+    """Returns what is wrong with the list of a memory by these options, and how many lines it should have."""
+    told = told_lines(memory, options)
+    faults = [*list_faults(list_of(program, memory, options), told)]
+    return faults or [*missed_flips(program, memory, told, options)], len(told)

@@ -15,11 +15,11 @@
 # kernel of Linux boots on the memory of two descriptions, and what it finds there must be what is described (linux_guest.py). Containers must
 # come back as they are from the folders that tools/container.py makes of them (judge_container.py). Second readers and writers, which are made of
 # docs/FORMATS.md alone (judges/plain), work out what `decode --list`, `build`, `load` and `aml_again` have to say of a great many inputs, hostile
-# ones among them (judge_read_dumps.py, judge_read_tables.py, judge_read_structures.py, judge_builds.py, judge_loads.py, judge_terms.py); and the
-# dumps of some seeds, with resets and without, have hashes that one more program worked out (judge_seeds.py). Last, the commands that README.md
-# and docs/USES.md show must print what these say. Beside these stand two judges of what the program says of itself: tools/explain.py has to say
-# each line that docs/FORMATS.md lists (judge_explain.py), and docs/vmtables.1, which mandoc reads, what `--help` says (judge_help.py). Nothing is
-# proved here.
+# ones among them (judge_read_dumps.py, judge_read_tables.py, judge_read_legacy.py, judge_read_structures.py, judge_builds.py, judge_loads.py,
+# judge_terms.py); and the dumps of some seeds, with resets and without, have hashes that one more program worked out (judge_seeds.py). Last, the
+# commands that README.md and docs/USES.md show must print what these say. Beside these stand two judges of what the program says of itself:
+# tools/explain.py has to say each line that docs/FORMATS.md lists (judge_explain.py), and docs/vmtables.1, which mandoc reads, what `--help` says
+# (judge_help.py). Nothing is proved here.
 #
 # And each allocation of some commands is refused, and each of their reads and writes fails, one at a time, which they must say (judge_memory.py).
 #
@@ -348,7 +348,7 @@ judge_machine() {
     judge_load 3072 a5 --fill a5 --top 3072
     judge_guest "$1"
     judge_list machine "$1"
-    judge_list files "$folder/container"
+    judge_list loaded "$folder/container"
 }
 
 # judge_plainly JUDGE WORD..: has a second reader judge what a program makes of a great many inputs.
@@ -364,6 +364,7 @@ judge_all_plainly() {
     echo "$description"
     judge_plainly judge_read_dumps.py "$program" examples/*.toml
     judge_plainly judge_read_tables.py "$program"
+    judge_plainly judge_read_legacy.py "$program"
     judge_plainly judge_read_structures.py "$program"
     judge_plainly judge_builds.py "$program" examples/*.toml "$work"/{greatest,bridge,processors}.toml
     judge_plainly judge_loads.py "$program" examples/*.toml

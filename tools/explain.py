@@ -94,7 +94,7 @@ ACPI_FAULTS = {
     2: Named("BadSum", "the bytes of a table don't sum to zero", "the table"),
     3: Named("BadLength", "the length that a table tells isn't one of its form", "the table"),
     4: Named("BadEntry", "an entry of an `APIC` or an `SRAT` is shorter than those of its type, or runs past its table's end", "the entry"),
-    5: Named("WrongSignature", "another signature stands where an XSDT, a FACS or a DSDT is due", "the table"),
+    5: Named("WrongSignature", "another signature stands where an XSDT, or with `--legacy` an RSDT, a FACS or a DSDT is due", "the table"),
     6: Named("TwiceGiven", "a table of the same signature was read before", "the table"),
 }
 
@@ -110,7 +110,7 @@ ITEMS = {
     0: Named("", "nothing: the candidate breaks a rule"),
     1: Named("", "the top; whether there is an anchor, and its version and document revision", "`top_mib`"),
     2: Named("", "the structures", "firmware, system, chassis, sockets, slots, the maker's texts, modules, ranges"),
-    3: Named("", "whether there is an RSDP; its OEM id; the header of the XSDT", "`oem_id`, `oem_table_id`"),
+    3: Named("", "whether there is an RSDP; its OEM id; the header of the XSDT, or with `--legacy` of the RSDT", "`oem_id`, `oem_table_id`"),
     4: Named("", "FADT and FACS", "power management, but for clock and keyboard"),
     5: Named(
         "",
@@ -313,7 +313,7 @@ LINES = [
         "tables: not this profile, item N",
         7,
         "The tables have no fault, but no machine that can be described has them. The first item that fails is {N}, in which is compared: "
-        "{N_means}. `decode --list` lists such a memory.",
+        "{N_means}. `decode --list` lists such a memory. Both read an RSDP of revision 0 or 1 with `--legacy`, and one of 2 or above without it.",
         {"N": ITEMS},
     ),
     Line("write fault", 8, "Standard output failed; it took a part of the text from its front, perhaps all."),

@@ -1,5 +1,5 @@
-"""A root pointer of revision 2 and an XSDT (ACPI 6.5, 5.2.5.3 and 5.2.8) to put into a memory, tables for it to name (5.2.6), and an SMBIOS
-anchor (DSP0134 5.2.2): what the judges of lists and the benchmark share.
+"""A root pointer of revision 2 and an XSDT (ACPI 6.5, 5.2.5.3 and 5.2.8) to put into a memory, or one of revision 0 and an RSDT (5.2.7), tables for
+it to name (5.2.6), and an SMBIOS anchor (DSP0134 5.2.2): what the judges of lists and the benchmark share.
 """
 
 import struct
@@ -8,6 +8,7 @@ from memory_dump import UPPER_WINDOW_SIZE, NotFound, byte_sum
 
 HEADER = struct.Struct("<4sIBB6s8sI4sI")
 POINTER = struct.Struct("<8sB6sBIIQB3x")
+LEGACY_POINTER = struct.Struct("<8sB6sBI")
 ANCHOR = struct.Struct("<5sBBBBBBxIQ")
 
 MAKER, MAKERS_TABLE, CREATOR = b"JUDGES", b"OF LISTS", b"LIST"
@@ -32,6 +33,14 @@ def xsdt_of(entries):
 def pointer_to(xsdt):
     pointer = POINTER.pack(b"RSD PTR ", 0, MAKER, 2, 0, POINTER.size, xsdt, 0)
     return summed(summed(pointer[:20], 8) + pointer[20:], 32)
+
+
+def rsdt_of(entries):
+    return table_of(b"RSDT", b"".join(entry.to_bytes(4, "little") for entry in entries))
+
+
+def legacy_pointer_to(rsdt, revision=0):
+    return summed(LEGACY_POINTER.pack(b"RSD PTR ", 0, MAKER, revision, rsdt), 8)
 
 
 def anchor_of(table, size):

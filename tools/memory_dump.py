@@ -148,9 +148,14 @@ def acpi_table(memory, address):
     return memory.read(address, size, what)
 
 
+def root_address(pointer):
+    """The address that a root pointer names, of 8 bytes, or in revision 0 of 4."""
+    return number_at(pointer, 24, 8) if pointer[15] >= 2 else number_at(pointer, 16, 4)
+
+
 def root_table(memory, pointer):
     """The table that a root pointer names: the XSDT (5.2.8), or in revision 0 the RSDT (5.2.7)."""
-    table = acpi_table(memory, number_at(pointer, 24, 8) if pointer[15] >= 2 else number_at(pointer, 16, 4))
+    table = acpi_table(memory, root_address(pointer))
     wanted = b"XSDT" if pointer[15] >= 2 else b"RSDT"
     if table[:4] != wanted:
         raise NotFound(f"the RSDP leads to {table[:4]!r}, where {wanted!r} should stand")
@@ -170,9 +175,9 @@ def listed_tables(memory, root):
 
 
 def led_addresses(fadt):
-    """The addresses to which an FADT (5.2.9) leads: of the FACS and of the DSDT, by the wide pointers where these aren't zero."""
+    """The addresses to which an FADT (5.2.9) leads: of the FACS and of the DSDT, by the wide pointers where it has them and these aren't zero."""
     for narrow, wide in ((36, 132), (40, 140)):
-        address = number_at(fadt, wide, 8) or number_at(fadt, narrow, 4)
+        address = (number_at(fadt, wide, 8) if wide + 8 <= len(fadt) else 0) or number_at(fadt, narrow, 4)
         if address != 0:
             yield address
 

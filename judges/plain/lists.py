@@ -1,26 +1,29 @@
-"""The list of what a memory shows (docs/FORMATS.md, "The list"): `decode --list` of a dump."""
+"""The list of what a memory shows (docs/FORMATS.md, "The list"): `decode --list` of a dump, with `--legacy` or without."""
 
 from plain.dumps import read_dump
 from plain.ended import Refused
 from plain.structures import read_structures
-from plain.tables import read_tables
+from plain.tables import LEGACY_FORM, XSDT_FORM, read_tables
 
 # The tables with a record, in the order of the list.
 RECORDED = (b"XSDT", b"FACP", b"FACS", b"DSDT", b"APIC", b"SRAT", b"SLIT", b"MCFG", b"HPET")
 
 
-def listed(content):
-    """How `decode --list` of a dump ends: its status, its list, and its line."""
+LEGACY = "--legacy"  # the option by which the tables are those of the legacy form
+
+
+def listed(content, *options):
+    """How `decode --list` of a dump ends, with more options behind: its status, its list, and its line."""
     try:
-        return listed_memory(read_dump(content))
+        return listed_memory(read_dump(content), *options)
     except Refused as refusal:
         return refusal.status, b"", refusal.said
 
 
-def listed_memory(memory):
-    """How `decode --list` of a memory's dump ends."""
+def listed_memory(memory, *options):
+    """How `decode --list` of a memory's dump ends, with more options behind."""
     try:
-        tables = read_tables(memory)  # a fault of these comes first
+        tables = read_tables(memory, LEGACY_FORM if LEGACY in options else XSDT_FORM)  # a fault of these comes first
         structures = read_structures(memory)
     except Refused as refusal:
         return refusal.status, b"", refusal.said

@@ -9,8 +9,15 @@ from plain.views import bytes_at, number_in, rows_with, sums_to_zero
 STATUS = 7
 OUTSIDE_RAM, BAD_SUM, BAD_LENGTH, BAD_ENTRY, WRONG_SIGNATURE, TWICE_GIVEN = range(1, 7)
 
-POINTERS, POINTERS_END, POINTER_SIZE = 0xE0000, 0x100000, 36
+POINTERS, POINTERS_END = 0xE0000, 0x100000
 HEADER_SIZE, FACS_SIZE, ID_SIZE = 36, 64, 16
+
+# A form of the tables: the revisions that an RSDP may have, how many bytes of it are looked at, and how many from its first on sum to zero; the root's
+# signature, where the RSDP has its address and how many bytes that has, which an entry of the root has, too; and the least length of an FADT.
+Form = collections.namedtuple("Form", "revisions pointer_size sums root root_at width least_fadt")
+XSDT_FORM = Form(range(2, 256), 36, (20, 36), b"XSDT", 24, 8, 276)
+LEGACY_FORM = Form(range(2), 20, (20,), b"RSDT", 16, 4, 116)
+
 MOST_ENTRIES, MOST_NODES = 256, 1024
 
 # The tables of which there may be one, and where the entries of two of them begin, with the least length of each type.
@@ -23,8 +30,8 @@ ENTRIES = {
 SYSTEM_BUS = ("\\", (b"_SB_",))
 GENERATION, ADDRESS = ("", (b"VGEN",)), ("", (b"ADDR",))
 
-# The maker; the signatures that were read, of tables that have a record; the length of a DSDT that spells no terms, or None; and the signature
-# and the length of each table of another signature.
+# The maker; the signatures that were read, of tables that have a record, where that of the root is XSDT in each form; the length of a DSDT that
+# spells no terms, or None; and the signature and the length of each table of another signature.
 Tables = collections.namedtuple("Tables", "maker signatures foreign others")
 
 
@@ -32,35 +39,37 @@ def refused(fault, address):
     return Refused(STATUS, f"tables: acpi fault {fault} at {address:016x}")
 
 
-def read_tables(memory):
-    """The tables, or None where no valid RSDP stands."""
-    pointer = valid_pointer(memory)
-    return None if pointer is None else Walk(memory).tables(pointer)
+def read_tables(memory, form):
+    """The tables of a form, or None where no valid RSDP stands."""
+    pointer = valid_pointer(memory, form)
+    return None if pointer is None else Walk(memory, form).tables(pointer)
 
 
-def valid_pointer(memory):
-    """The bytes of the least valid RSDP, or None."""
+def valid_pointer(memory, form):
+    """The bytes of the least valid RSDP of a form, or None."""
     for address in rows_with(memory, b"RSD PTR ", POINTERS, POINTERS_END):
-        if address + POINTER_SIZE <= POINTERS_END:
-            pointer = bytes_at(memory, address, POINTER_SIZE)
-            if pointer[15] >= 2 and sums_to_zero(pointer[:20]) and sums_to_zero(pointer):
+        if address + form.pointer_size <= POINTERS_END:
+            pointer = bytes_at(memory, address, form.pointer_size)
+            if pointer[15] in form.revisions and all(sums_to_zero(pointer[:count]) for count in form.sums):
                 return pointer
     return None
 
 
 class Walk:
-    """Goes over the tables in the order in which they are read."""
+    """Goes over the tables of a form in the order in which they are read."""
 
-    def __init__(self, memory):
+    def __init__(self, memory, form):
         self.memory = memory
+        self.form = form
         self.signatures = {b"XSDT"}
         self.foreign = None
         self.others = []
 
     def tables(self, pointer):
-        xsdt = self.headed(number_in(pointer, 24, 8), due=b"XSDT")
-        for entry in range(HEADER_SIZE, len(xsdt), 8):
-            address = number_in(xsdt, entry, 8)
+        width = self.form.width
+        root = self.headed(number_in(pointer, self.form.root_at, width), due=self.form.root)
+        for entry in range(HEADER_SIZE, len(root), width):
+            address = number_in(root, entry, width)
             if address != 0:
                 self.named(address)
         return Tables(pointer[9:15], self.signatures, self.foreign, self.others)
@@ -83,14 +92,14 @@ class Walk:
         return table
 
     def is_lawful(self, address, length, signature, due):
-        """Whether the length of a table is one of its form. What an entry of the XSDT names is no XSDT and no DSDT, whatever its signature is."""
-        if due == b"XSDT":
-            return length >= HEADER_SIZE and length % 8 == HEADER_SIZE % 8 and length <= HEADER_SIZE + 8 * MOST_ENTRIES
+        """Whether the length of a table is one of its form. What an entry of the root names is no root and no DSDT, whatever its signature is."""
+        if due == self.form.root:
+            return length in range(HEADER_SIZE, HEADER_SIZE + self.form.width * MOST_ENTRIES + 1, self.form.width)
         if due is None and signature == b"SLIT":
             return self.has_distances(address, length)
         if due is None and signature == b"MCFG":
             return length >= 44 and (length - 44) % 16 == 0
-        least = {b"FACP": 276, b"APIC": 44, b"SRAT": 48, b"HPET": 56}
+        least = {b"FACP": self.form.least_fadt, b"APIC": 44, b"SRAT": 48, b"HPET": 56}
         return length >= (least.get(signature, HEADER_SIZE) if due is None else HEADER_SIZE)
 
     def has_distances(self, address, length):
@@ -99,7 +108,7 @@ class Walk:
         return nodes <= MOST_NODES and length >= 44 + nodes * nodes
 
     def named(self, address):
-        """Reads a table that an entry of the XSDT names, and what it leads to."""
+        """Reads a table that an entry of the root names, and what it leads to."""
         table = self.headed(address)
         signature = table[:4]
         if signature not in ONCE:
@@ -111,8 +120,8 @@ class Walk:
         if signature in ENTRIES:
             test_entries(address, table, *ENTRIES[signature])
         if signature == b"FACP":
-            self.led(number_in(table, 132, 8) or number_in(table, 36, 4), self.facs)
-            self.led(number_in(table, 140, 8) or number_in(table, 40, 4), self.dsdt)
+            self.led(field_in(table, 132, 8) or field_in(table, 36, 4), self.facs)
+            self.led(field_in(table, 140, 8) or field_in(table, 40, 4), self.dsdt)
 
     def led(self, address, read):
         if address != 0:
@@ -139,6 +148,11 @@ class Walk:
         identity = id_address(terms)
         if identity is not None and bytes_at(self.memory, identity, ID_SIZE) is None:
             raise refused(OUTSIDE_RAM, identity)
+
+
+def field_in(table, offset, size):
+    """The number in a field of a table, which is 0 where the field isn't wholly inside the table's length."""
+    return number_in(table, offset, size) if offset + size <= len(table) else 0
 
 
 def test_entries(address, table, start, least):

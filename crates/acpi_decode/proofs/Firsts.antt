@@ -1,5 +1,5 @@
 -- The first test that fails: there is one at most, and none where each test passes.
-use Rattle.std.proofs.Common.{◌≡◌, ◌⊎◌, inl, inr, true, false, List, [], ◌∷◌, ◌++◌, refl, sym, ◌∙◌}
+use Rattle.std.proofs.Common.{◌≡◌, ◌⊎◌, inl, inr, true, false, List, [], ◌∷◌, ◌++◌, refl, sym, subst, ◌∙◌, Result, Err, IfErr}
 use Rattle.std.proofs.lemmas.Bool.{cases_Bool}
 use Rattle.vt_bytes.proofs.AtMostOne.{IsOne}
 use Rattle.acpi_decode.specs.declared.fault.AcpiFault.{AcpiFault}
@@ -58,3 +58,8 @@ passes_more test tests (inl passes) (inr (fault, is)) = inr (fault, inr (passes,
 pub passes_or_fails : (tests : List Test) → Pass tests ⊎ ((fault : AcpiFault) × FirstFails tests NoFault fault)
 passes_or_fails [] = inl tt
 passes_or_fails (test ∷ tests) = passes_more test tests (cases_Bool test.0) (passes_or_fails tests)
+
+-- the fault that an exit tells
+pub fault_at : {T : Type 0} (P : AcpiFault → Type 0) (result : Result T AcpiFault) (told fault : AcpiFault) → result ≡ Err told → told ≡ fault → P fault
+    → IfErr result P
+fault_at P result told fault is same holds = subst (λ r. IfErr r P) (sym is) (subst P (sym same) holds)

@@ -1,4 +1,4 @@
--- What the RSDP and the XSDT alone tell stays as tables are added.
+-- What the RSDP and the root alone tell stays as tables are added.
 use Rattle.std.proofs.Common.{◌≡◌, refl}
 use Rattle.acpi_model.specs.declared.acpi.AcpiTables.{AcpiTables}
 use Rattle.acpi_model.specs.declared.acpi.FadtTargets.{FadtTargets}

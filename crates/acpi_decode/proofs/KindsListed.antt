@@ -4,8 +4,9 @@ use Rattle.std.specs.List.{find}
 use Rattle.std.specs.Str.{bytes_eq}
 use Rattle.std.proofs.lemmas.Bool.{cases_Bool}
 use Rattle.std.proofs.lemmas.Slice.Eq.{bytes_eq-Decides}
+use Rattle.acpi_model.specs.declared.form.Form.{Form}
 use Rattle.acpi_model.specs.Kinds.{Kind}
-use Rattle.acpi_model.specs.Acpi.{kind_of as kind_for}
+use Rattle.acpi_model.specs.Acpi.{kind_by as kind_for}
 use Rattle.acpi_decode.specs.declared.kind.KnownKind.{KnownKind}
 use Rattle.acpi_decode.specs.declared.kind.KnownKind.TheVariants.{Fadt, Madt, Srat, Slit, Mcfg, Hpet}
 use Rattle.acpi_decode.specs.KnownKinds.{kind_of, known_kinds}
@@ -22,15 +23,16 @@ found_among f test (item ∷ items) found is =
     ]
 
 -- the kind of a signature is one of them, and has it
-pub known_as : (signature : List ℕ) (kind : Kind) → kind_for signature ≡ Some kind → (k : KnownKind) × (kind_of k ≡ kind) × (signature ≡ kind.signature)
-known_as signature kind is =
-    let found = found_among kind_of (λ (one : Kind). bytes_eq signature one.signature) known_kinds kind is in
+pub known_as : (form : Form) (signature : List ℕ) (kind : Kind) → kind_for form signature ≡ Some kind
+    → (k : KnownKind) × (kind_of form k ≡ kind) × (signature ≡ kind.signature)
+known_as form signature kind is =
+    let found = found_among (kind_of form) (λ (one : Kind). bytes_eq signature one.signature) known_kinds kind is in
     (found.0, found.1, (bytes_eq-Decides signature kind.signature).0 found.2)
 
-pub is_known : (k : KnownKind) → kind_for (kind_of k).signature ≡ Some (kind_of k)
-is_known Fadt = refl
-is_known Madt = refl
-is_known Srat = refl
-is_known Slit = refl
-is_known Mcfg = refl
-is_known Hpet = refl
+pub is_known : (form : Form) (k : KnownKind) → kind_for form (kind_of form k).signature ≡ Some (kind_of form k)
+is_known form Fadt = refl
+is_known form Madt = refl
+is_known form Srat = refl
+is_known form Slit = refl
+is_known form Mcfg = refl
+is_known form Hpet = refl

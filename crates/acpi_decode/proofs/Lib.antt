@@ -13,11 +13,13 @@ pub mod Dsdts
 pub mod ReadDsdts
 pub mod LedTo
 pub mod KnownAt
-pub mod FadtRows
+pub mod RowsRead
+pub mod ShortFadts
+pub mod FadtPointers
 pub mod Linked
 pub mod TableFaults
 pub mod Kept
-pub mod Xsdts
+pub mod RootStands
 pub mod Meanings
 pub mod RamJoined
 pub mod Roots
@@ -26,6 +28,7 @@ pub mod ReadSlit
 pub mod ReadMcfg
 pub mod ReadTables
 pub mod Takings
+pub mod NamedRoot
 pub mod NamedInTurn
 pub mod Walks
 pub mod ReadBytes

@@ -1,8 +1,8 @@
 -- Bytes that were read: what stands at a part of them, and the numbers that they spell.
-use Rattle.std.proofs.Common.{◌≡◌, ℕ, ◌+◌, ◌<◌, ◌≤◌, true, List, [], ◌++◌, length, slice_index, take, Some, arith, ap, sym, ◌∙◌}
+use Rattle.std.proofs.Common.{◌≡◌, ℕ, ◌+◌, ◌-◌, ◌<◌, ◌≤◌, true, List, [], ◌++◌, length, slice_index, take, drop, replicate, Some, arith, ap, sym, subst, ◌∙◌}
 use Rattle.std.proofs.Math.Seq.{take-add}
 use Rattle.std.specs.Option.{option_map, unwrap_or}
-use Rattle.std.proofs.lemmas.List.{drop_more}
+use Rattle.std.proofs.lemmas.List.{drop_more, length-take-le, length-replicate, drop-replicate}
 use Rattle.vt_bytes.specs.Numbers.{le}
 use Rattle.vt_bytes.specs.Parts.{part}
 use Rattle.vt_bytes.specs.View.{View, bytes_in, number_in}
@@ -61,3 +61,13 @@ pub number_found : (view : View) (address count : ℕ) (bytes : List ℕ) (offse
     → offset + width ≤ count → number ≡ le (part bytes offset width) → number ≡ number_at view (address + offset) width
 number_found view address count bytes offset width number there within is =
     ap (λ o. unwrap_or o 0) (sym (number_read view address count bytes offset width number there within is))
+
+-- bytes that are read into zeros
+pub padded_read : (view : View) (address size all : ℕ) (bytes : List ℕ) → size ≤ all
+    → bytes_in view address (length (take size (replicate {A = ℕ} all 0))) ≡ Some bytes
+    → bytes ++ drop size (replicate all 0) ≡ bytes_from view address size ++ replicate (all - size) 0
+padded_read view address size all bytes few there =
+    let zeros : List ℕ = replicate all 0 in
+    let count : length (take size zeros) ≡ size = length-take-le size zeros (omega (arith, few, length-replicate {A = ℕ} all 0)) in
+    ap (λ b. b ++ drop size (replicate all 0)) (bytes_read view address size bytes (subst (λ n. bytes_in view address n ≡ Some bytes) count there))
+    ∙ ap (λ z. bytes_from view address size ++ z) (drop-replicate size all 0)

@@ -2,6 +2,7 @@
 use Rattle.std.proofs.Common.{◌≡◌, ℕ, ◌+◌, ◌-◌, true, List, [], Some, None, arith, refl, sym, subst}
 use Rattle.vt_bytes.specs.View.{View}
 use Rattle.vt_layout.specs.Entries.{Entry, Types, EntriesShown}
+use Rattle.acpi_model.specs.declared.form.Form.{Form}
 use Rattle.acpi_model.specs.declared.acpi.Table.{Table}
 use Rattle.acpi_model.specs.Kinds.{Kind, EndsWith}
 use Rattle.acpi_decode.specs.declared.kind.KnownKind.{KnownKind}
@@ -13,11 +14,11 @@ use Rattle.acpi_decode.proofs.InRam.{front_ram}
 use Rattle.acpi_decode.proofs.Rooms.{shape_with_room}
 
 -- it is RAM as far as its rows go
-pub rows_ram : (k : KnownKind) (view : View) (address length : ℕ) → length ≡ total_at view address → is_ram view address length ≡ true
-    → has_room (kind_of k) view address ≡ true → is_ram view address (front_of (kind_of k) view address) ≡ true
-rows_ram k view address length told ram room =
-    let form = shape_with_room (kind_of k) view address room in
-    front_ram view address length (front_of (kind_of k) view address) ram (omega (arith, told, form.1.front, form.1.enough))
+pub rows_ram : (form : Form) (k : KnownKind) (view : View) (address length : ℕ) → length ≡ total_at view address → is_ram view address length ≡ true
+    → has_room (kind_of form k) view address ≡ true → is_ram view address (front_of (kind_of form k) view address) ≡ true
+rows_ram form k view address length told ram room =
+    let fit = shape_with_room (kind_of form k) view address room in
+    front_ram view address length (front_of (kind_of form k) view address) ram (omega (arith, told, fit.1.front, fit.1.enough))
 
 -- with entries that fill it behind so many bytes
 pub read_with_entries : (kind : Kind) (types : Types) (front : ℕ) (view : View) (address length : ℕ) (t : Table) → kind.types ≡ Some types

@@ -4,7 +4,7 @@ use Rattle.std.specs.List.{AllByRecursion, list_all}
 use Rattle.std.proofs.Common.{refl, ap, ◌∙◌}
 use Rattle.std.proofs.lemmas.Bool.{and_parts, false≢true}
 use Rattle.vt_layout.specs.declared.row.Row.{Row}
-use Rattle.vt_layout.specs.declared.row.Row.TheVariants.{Number, BigEndian, Bytes, Named, StringNumber, AtLeast, Ignored, Reserved, Pointer, Sum}
+use Rattle.vt_layout.specs.declared.row.Row.TheVariants.{Number, BigEndian, Bytes, Named, StringNumber, Ignored, Reserved, Pointer, Sum}
 use Rattle.vt_layout.specs.Rows.{shape_of, shape}
 use Rattle.vt_layout.specs.Reading.{IsReadable}
 
@@ -16,7 +16,6 @@ pub record IsBlank (rows : List Row) : Type 0 where
 -- whether any bytes can be a row
 abbrev pub is_readable_row : Row → Bool
 is_readable_row (Named name) = false
-is_readable_row (AtLeast width value) = false
 is_readable_row (Pointer width target offset) = false
 is_readable_row (Sum covers) = false
 is_readable_row row = true
@@ -29,7 +28,6 @@ readable_row (StringNumber number) is = tt
 readable_row (Ignored width value) is = tt
 readable_row (Reserved width) is = tt
 readable_row (Named name) is = absurd (false≢true is)
-readable_row (AtLeast width value) is = absurd (false≢true is)
 readable_row (Pointer width target offset) is = absurd (false≢true is)
 readable_row (Sum covers) is = absurd (false≢true is)
 

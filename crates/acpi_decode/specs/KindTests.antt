@@ -5,25 +5,31 @@ use Rattle.std.specs.Str.{bytes_eq}
 use Rattle.vt_bytes.specs.View.{View}
 use Rattle.vt_layout.specs.declared.row.Row.{Row}
 use Rattle.vt_layout.specs.Rows.{size}
+use Rattle.acpi_model.specs.declared.form.Form.{Form}
 use Rattle.acpi_model.specs.declared.acpi.Table.{Table}
 use Rattle.acpi_model.specs.declared.link.FadtLinks.{FadtLinks}
 use Rattle.acpi_model.specs.declared.link.Link.TheVariants.{Address}
 use Rattle.acpi_model.specs.Kinds.{Kind}
 use Rattle.acpi_model.specs.Found.{facs_address, dsdt_address}
-use Rattle.acpi_model.specs.Acpi.{kind_of, is_first}
+use Rattle.acpi_model.specs.Acpi.{kind_by, is_first}
 use Rattle.acpi_decode.specs.declared.fault.AcpiFault.TheVariants.{BadLength, TwiceGiven}
 use Rattle.acpi_decode.specs.Seen.{number_at, signature_at, total_at}
 use Rattle.acpi_decode.specs.Tests.{Test}
 use Rattle.acpi_decode.specs.TableTests.{header_tests, whole_tests, facs_tests}
 use Rattle.acpi_decode.specs.IdTests.{read_dsdt_tests}
 
+-- the number of so many bytes at an offset in the table at an address, or 0 where it doesn't lie wholly inside it
+abbrev pub number_inside : View → ℕ → ℕ → ℕ → ℕ
+number_inside view address offset width =
+    if nat_le (offset + width) (total_at view address) then number_at view (address + offset) width else 0
+
 -- the pointers of the FADT at an address (5.2.9)
 abbrev pub links_at : View → ℕ → FadtLinks
 links_at view address = record {
-  firmware_ctrl = Address (number_at view (address + 36) 4);
-  dsdt = Address (number_at view (address + 40) 4);
-  x_firmware_ctrl = Address (number_at view (address + 132) 8);
-  x_dsdt = Address (number_at view (address + 140) 8);
+  firmware_ctrl = Address (number_inside view address 36 4);
+  dsdt = Address (number_inside view address 40 4);
+  x_firmware_ctrl = Address (number_inside view address 132 8);
+  x_dsdt = Address (number_inside view address 140 8);
 }
 
 -- the tests of what an address leads to, which is nothing where it is 0
@@ -58,5 +64,5 @@ body_tests (Some kind) view address before =
     ∷ whole_tests view address ++ (is_first kind.signature before, TwiceGiven address) ∷ tests_behind kind.signature view address
 
 -- the tests of the table at an address, behind those that were found before
-abbrev pub table_tests : View → ℕ → List Table → List Test
-table_tests view address before = header_tests view address ++ body_tests (kind_of (signature_at view address)) view address before
+abbrev pub table_tests : Form → View → ℕ → List Table → List Test
+table_tests form view address before = header_tests view address ++ body_tests (kind_by form (signature_at view address)) view address before

@@ -11,6 +11,7 @@ pub mod EntryHeads
 pub mod Due
 pub mod KnownKinds
 pub mod Read
+pub mod ShortFadts
 pub mod Allocations
 pub mod Taken
 pub mod Blank

@@ -1,5 +1,5 @@
 -- The table of a kind that bytes are.
-use Rattle.std.specs.Prelude.{◌≡◌, ℕ, zero, suc, ◌+◌, ◌-◌, ◌/◌, List, [], ◌∷◌, ◌++◌, drop}
+use Rattle.std.specs.Prelude.{◌≡◌, ℕ, zero, suc, ◌+◌, ◌-◌, ◌/◌, List, [], ◌∷◌, ◌++◌, drop, if◌then◌else◌}
 use Rattle.std.specs.Option.{unwrap_or}
 use Rattle.vt_bytes.specs.View.{View}
 use Rattle.vt_layout.specs.declared.row.Row.{Row}
@@ -11,6 +11,8 @@ use Rattle.acpi_records.specs.declared.header.Head.{Head}
 use Rattle.acpi_records.specs.declared.facs.Facs.{Facs}
 use Rattle.acpi_records.specs.Header.{head_fields, head_made}
 use Rattle.acpi_records.specs.Facs.{facs_fields, facs_made}
+use Rattle.acpi_model.specs.declared.form.Form.{Form}
+use Rattle.acpi_model.specs.Form.{address_size}
 use Rattle.acpi_model.specs.declared.acpi.Table.{Table}
 use Rattle.acpi_model.specs.declared.link.FadtLinks.{FadtLinks}
 use Rattle.acpi_model.specs.declared.link.Link.TheVariants.{Address}
@@ -44,17 +46,17 @@ abbrev pub table_at : Kind → View → ℕ → List Entry → Table
 table_at kind view address entries =
     table_of_rows kind (rows_from (unwrap_or (shape_at kind view address) []) (bytes_from view address (front_of kind view address))) entries
 
--- so many numbers of 8 bytes from an address on
-abbrev pub numbers_at : View → ℕ → ℕ → List ℕ
-numbers_at view address zero = []
-numbers_at view address (suc count) = number_at view address 8 ∷ numbers_at view (address + 8) count
+-- so many numbers of so many bytes from an address on
+abbrev pub numbers_at : ℕ → View → ℕ → ℕ → List ℕ
+numbers_at width view address zero = []
+numbers_at width view address (suc count) = number_at view address width ∷ numbers_at width view (address + width) count
 
--- how many entries an XSDT of so many bytes has, and the tables that the one at an address names
-abbrev pub entry_count : ℕ → ℕ
-entry_count total = (total - 36) / 8
+-- how many entries a root of so many bytes has, and the tables that the one at an address names
+abbrev pub entry_count : Form → ℕ → ℕ
+entry_count form total = if form.extended then (total - 36) / 8 else (total - 36) / 4
 
-abbrev pub named_at : View → ℕ → List ℕ
-named_at view xsdt = given (numbers_at view (xsdt + 36) (entry_count (total_at view xsdt)))
+abbrev pub named_at : Form → View → ℕ → List ℕ
+named_at form view root = given (numbers_at (address_size form) view (root + 36) (entry_count form (total_at view root)))
 
 -- A table of a kind is read at an address: its entries fill it, and it is the one that its bytes are.
 abbrev pub IsRead : Kind → View → ℕ → Table → Type 0

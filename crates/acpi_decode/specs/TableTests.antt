@@ -2,6 +2,8 @@
 use Rattle.std.specs.Prelude.{ℕ, ◌+◌, ◌-◌, ◌*◌, ◌%◌, ◌&&◌, ◌==◌, Bool, nat_le, List, [], ◌∷◌, ◌++◌, codes}
 use Rattle.std.specs.Str.{bytes_eq}
 use Rattle.vt_bytes.specs.View.{View}
+use Rattle.acpi_model.specs.declared.form.Form.{Form}
+use Rattle.acpi_model.specs.Form.{address_size, root_signature}
 use Rattle.acpi_model.specs.Xsdt.{most_entries}
 use Rattle.acpi_decode.specs.declared.fault.AcpiFault.TheVariants.{OutsideRam, WrongSignature, BadLength, BadSum}
 use Rattle.acpi_decode.specs.Seen.{is_ram, sum_at, signature_at, total_at}
@@ -24,12 +26,13 @@ due_tests signature has_length view address =
     ++ (bytes_eq (signature_at view address) signature, WrongSignature address)
     ∷ (has_length (total_at view address), BadLength address) ∷ whole_tests view address
 
--- An XSDT may have so many bytes: its header, and entries of 8 bytes, at most as many as are read (5.2.8).
-abbrev pub is_xsdt_length : ℕ → Bool
-is_xsdt_length total = nat_le 36 total && (((total - 36) % 8 == 0) && nat_le total (36 + 8 * most_entries))
+-- A root may have so many bytes: its header, and entries of the size of an address, at most as many as are read (5.2.7, 5.2.8).
+abbrev pub is_root_length : Form → ℕ → Bool
+is_root_length form total =
+    nat_le 36 total && (((total - 36) % address_size form == 0) && nat_le total (36 + address_size form * most_entries))
 
-abbrev pub xsdt_tests : View → ℕ → List Test
-xsdt_tests view address = due_tests (codes "XSDT") is_xsdt_length view address
+abbrev pub root_tests : Form → View → ℕ → List Test
+root_tests form view address = due_tests (root_signature form) (is_root_length form) view address
 
 -- a DSDT has a header, and behind it its definition block, of which nothing more is tested (5.2.11.1)
 abbrev pub dsdt_tests : View → ℕ → List Test

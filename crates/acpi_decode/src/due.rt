@@ -2,23 +2,23 @@ ghost use Rattle.std.specs.Prelude.{◌≡◌, IfOk, IfErr};
 ghost use Rattle.std.specs.Str.{bytes_eq};
 ghost use Rattle.acpi_decode.specs.Seen.{total_at};
 ghost use Rattle.acpi_decode.specs.Tests.{FirstFails, NoFault, Pass};
-ghost use Rattle.acpi_decode.specs.TableTests.{due_tests, is_xsdt_length};
+ghost use Rattle.acpi_decode.specs.TableTests.{due_tests, is_root_length};
 ghost use Rattle.acpi_decode.specs.Due.{due_signature, has_due_length};
 
 use crate::fault::AcpiFault;
 use crate::front::test_header;
 use crate::view::MemView;
 use crate::whole::test_whole;
-use acpi_model::HEADER_SIZE;
+use acpi_model::{Form, HEADER_SIZE};
 
-// The most entries of an XSDT that are read.
+// The most entries of a root that are read.
 const MOST_ENTRIES: u32 = 256;
 
 /// A table that is due at an address.
 #[derive(Clone, Copy)]
 pub(crate) enum Due {
-    /// The XSDT, to which the RSDP leads.
-    Xsdt,
+    /// The root of a form, to which the RSDP leads.
+    Root(Form),
     /// The DSDT, to which an FADT leads.
     Dsdt,
 }
@@ -29,7 +29,7 @@ impl Due {
         ensures { result ≡ bytes_eq signature.now (due_signature self) }
     {
         match self {
-            Due::Xsdt => signature == b"XSDT",
+            Due::Root(form) => *signature == form.root_signature(),
             Due::Dsdt => signature == b"DSDT",
         }
     }
@@ -39,19 +39,20 @@ impl Due {
         ensures { result ≡ has_due_length self length }
     {
         match self {
-            Due::Xsdt => is_xsdt_length(length),
+            Due::Root(form) => is_root_length(form, length),
             Due::Dsdt => length >= HEADER_SIZE,
         }
     }
 }
 
-// Whether an XSDT may have `length` bytes: a header, and entries of 8 bytes.
-fn is_xsdt_length(length: u32) -> bool
-    ensures { result ≡ is_xsdt_length length }
+// Whether a root may have `length` bytes: a header, and entries of the size of an address.
+fn is_root_length(form: Form, length: u32) -> bool
+    ensures { result ≡ is_root_length form length }
 {
+    let size = form.address_size();
     length >= HEADER_SIZE
-        && (length - HEADER_SIZE) % 8 == 0
-        && length <= HEADER_SIZE + 8 * MOST_ENTRIES
+        && (length - HEADER_SIZE) % size == 0
+        && length <= HEADER_SIZE + size * MOST_ENTRIES
 }
 
 /// Tests that the table that is due stands at `address`, and returns how many bytes it has. The errors are, in this order, `OutsideRam`

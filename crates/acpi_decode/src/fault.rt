@@ -12,12 +12,12 @@ pub enum AcpiFault {
     OutsideRam(u64),
     /// The bytes of the table don't sum to zero.
     BadSum(u64),
-    /// The table tells fewer bytes than its form needs. Of an XSDT also: its entries aren't whole, or are more than 256. Of a SLIT: it
+    /// The table tells fewer bytes than its form needs. Of an XSDT or an RSDT also: its entries aren't whole, or are more than 256. Of a SLIT: it
     /// tells more than 1,024 nodes. Of an MCFG: its allocations aren't whole. Of a FACS: it tells more or fewer than 64 bytes.
     BadLength(u64),
     /// The entry at this address is shorter than those of its type, or runs past the end of its table.
     BadEntry(u64),
-    /// An XSDT, a FACS or a DSDT is due, and another signature stands there.
+    /// An XSDT, an RSDT, a FACS or a DSDT is due, and another signature stands there.
     WrongSignature(u64),
     /// A table of the same kind was found before this one.
     TwiceGiven(u64),

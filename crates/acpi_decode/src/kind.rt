@@ -1,4 +1,5 @@
 ghost use Rattle.std.specs.Prelude.{◌≡◌};
+ghost use Rattle.acpi_model.specs.Form.{xsdt_form};
 ghost use Rattle.acpi_decode.specs.KnownKinds.{kind_of, known_kind};
 
 /// The kinds of tables that are read as records, each of another signature.
@@ -25,7 +26,7 @@ const KINDS: [KnownKind; 6] = [
 impl KnownKind {
     // Its signature.
     fn signature(self) -> [u8; 4]
-        ensures { result ≡ (kind_of self).signature }
+        ensures { result ≡ (kind_of xsdt_form self).signature }
     {
         match self {
             KnownKind::Fadt => *b"FACP",

@@ -1,37 +1,28 @@
-ghost use Rattle.acpi_model.specs.Rsdp.{HasRsdp, IsRsdp};
+ghost use Rattle.acpi_model.specs.Rsdp.{HasRsdpBy, IsRsdpBy};
 
+use crate::number::read_address;
 use crate::view::MemView;
-use acpi_model::rsdp_rows;
-use vt_layout::{Row, read_bytes, read_u64};
+use acpi_model::Form;
 
-// How many bytes the RSDP has (ACPI 6.5, 5.2.5.3).
-const RSDP_SIZE: u32 = 36;
-
-// The indices of the maker's id and of the XSDT's address among its rows.
-const OEM_ID_ROW: usize = 2;
-
-const XSDT_ROW: usize = 6;
+// Where the maker's id stands in the RSDP (ACPI 6.5, 5.2.5.3).
+const OEM_ID_PLACE: u64 = 9;
 
 /// What the RSDP tells.
 #[derive(Clone, Copy)]
 pub(crate) struct Root {
     /// The maker's id.
     pub(crate) oem_id: [u8; 6],
-    /// The address of the XSDT.
-    pub(crate) xsdt: u64,
+    /// The address of the root.
+    pub(crate) root: u64,
 }
 
-/// Reads the RSDP at `rsdp`, where a valid one must stand.
-pub(crate) fn read_root<V: MemView>(view: &V, rsdp: u64) -> Root
-    requires { HasRsdp (V.seen view.now) rsdp }
-    ensures { IsRsdp (V.seen view.now) rsdp result.oem_id result.xsdt }
+/// Reads the RSDP at `rsdp`, where a valid one of the form `form` must stand.
+pub(crate) fn read_root<V: MemView>(view: &V, form: Form, rsdp: u64) -> Root
+    requires { HasRsdpBy form (V.seen view.now) rsdp }
+    ensures { IsRsdpBy form (V.seen view.now) rsdp result.oem_id result.root }
 {
-    let mut bytes = [0; RSDP_SIZE as usize];
-    view.copy_out(rsdp, &mut bytes);
-    let rows = rsdp_rows(&[0; 6], Row::Number(8, 0));
-    let oem_id = read_bytes(&bytes, &rows, OEM_ID_ROW);
-    Root {
-        oem_id: *oem_id.as_array().unwrap(),
-        xsdt: read_u64(&bytes, &rows, XSDT_ROW),
-    }
+    let mut oem_id = [0; 6];
+    view.copy_out(rsdp + OEM_ID_PLACE, &mut oem_id);
+    let root = read_address(view, form, rsdp + form.root_place());
+    Root { oem_id, root }
 }

@@ -1,17 +1,17 @@
 ghost use Rattle.std.specs.Prelude.{◌≡◌, ◌⊎◌, Ok, Err, IfOk, IfErr};
-ghost use Rattle.acpi_model.specs.Rsdp.{HasRsdp};
+ghost use Rattle.acpi_model.specs.Rsdp.{HasRsdp, HasRsdpBy};
 ghost use Rattle.acpi_decode.specs.declared.fault.AcpiFault.{AcpiFault};
 ghost use Rattle.acpi_decode.specs.declared.fault.AcpiFault.TheVariants.{OutOfMemory as NoMemory};
 ghost use Rattle.acpi_decode.specs.declared.walked.Walked.{Walked};
-ghost use Rattle.acpi_decode.specs.Faults.{IsWalked, First, OrNoMemory};
+ghost use Rattle.acpi_decode.specs.Faults.{IsWalked, IsWalkedBy, First, FirstBy, OrNoMemory};
 
 use crate::due::{Due, test_due};
 use crate::fault::AcpiFault;
 use crate::head::read_head;
 use crate::root::read_root;
+use crate::root_entries::take_tables;
 use crate::view::MemView;
-use crate::xsdt::take_tables;
-use acpi_model::AcpiTables;
+use acpi_model::{AcpiTables, Form, XSDT_FORM};
 use std::alloc::Global;
 use vt_outside::List;
 
@@ -46,18 +46,40 @@ pub fn walk<V: MemView>(alloc: Global, view: &V, rsdp: u64) -> Result<Walked, Ac
     ensures refused { IfErr result (λ fault. (fault ≡ NoMemory) ⊎ First (V.seen view.now) rsdp fault) }
     ensures refuses { (fault : AcpiFault) → First (V.seen view.now) rsdp fault → OrNoMemory result (Err fault) }
 {
-    walk_from(alloc, view, rsdp)
+    walk_from(alloc, view, XSDT_FORM, rsdp)
 }
 
-// Does the same. That there is one reading, and so nothing else is told, isn't said here yet.
-fn walk_from<V: MemView>(alloc: Global, view: &V, rsdp: u64) -> Result<Walked, AcpiFault>
-    requires { HasRsdp (V.seen view.now) rsdp }
-    ensures shown { IfOk result (IsWalked (V.seen view.now) rsdp) }
-    ensures refused { IfErr result (λ fault. (fault ≡ NoMemory) ⊎ First (V.seen view.now) rsdp fault) }
+/// Does the same by the form `form`, from a valid RSDP of that form on: its root stands in the place of the XSDT, and an FADT has as many
+/// bytes as the form tells at least.
+pub fn walk_from<V: MemView>(
+    alloc: Global,
+    view: &V,
+    form: Form,
+    rsdp: u64,
+) -> Result<Walked, AcpiFault>
+    requires { HasRsdpBy form (V.seen view.now) rsdp }
+    ensures shown { IfOk result (IsWalkedBy form (V.seen view.now) rsdp) }
+    ensures shows { (walked : Walked) → IsWalkedBy form (V.seen view.now) rsdp walked → OrNoMemory result (Ok walked) }
+    ensures refused { IfErr result (λ fault. (fault ≡ NoMemory) ⊎ FirstBy form (V.seen view.now) rsdp fault) }
+    ensures refuses { (fault : AcpiFault) → FirstBy form (V.seen view.now) rsdp fault → OrNoMemory result (Err fault) }
 {
-    let root = read_root(view, rsdp);
-    let length = test_due(view, Due::Xsdt, root.xsdt)?;
-    let head = read_head(alloc, view, root.xsdt)?;
+    read_from(alloc, view, form, rsdp)
+}
+
+// Does the same by the form `form`. That there is one reading, and so nothing else is told, isn't said here yet.
+fn read_from<V: MemView>(
+    alloc: Global,
+    view: &V,
+    form: Form,
+    rsdp: u64,
+) -> Result<Walked, AcpiFault>
+    requires { HasRsdpBy form (V.seen view.now) rsdp }
+    ensures shown { IfOk result (IsWalkedBy form (V.seen view.now) rsdp) }
+    ensures refused { IfErr result (λ fault. (fault ≡ NoMemory) ⊎ FirstBy form (V.seen view.now) rsdp fault) }
+{
+    let root = read_root(view, form, rsdp);
+    let length = test_due(view, Due::Root(form), root.root)?;
+    let head = read_head(alloc, view, root.root)?;
     let oem_id = root.oem_id;
     let mut found = Walked {
         tables: AcpiTables {
@@ -75,6 +97,6 @@ fn walk_from<V: MemView>(alloc: Global, view: &V, rsdp: u64) -> Result<Walked, A
         },
         generation: None,
     };
-    take_tables(alloc, view, root.xsdt, length, &mut found)?;
+    take_tables(alloc, view, form, root.root, length, &mut found)?;
     Ok(found)
 }

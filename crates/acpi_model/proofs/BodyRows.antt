@@ -2,7 +2,7 @@
 use Rattle.std.proofs.Common.{◌≡◌, ℕ, zero, suc, true, List, [], ◌∷◌, drop, slice_set}
 use Rattle.std.proofs.lemmas.Bool.{and_parts}
 use Rattle.std.specs.List.{list_all, AllByRecursion}
-use Rattle.vt_layout.specs.declared.row.Row.TheVariants.{Number, BigEndian, Bytes, Named, StringNumber, AtLeast, Ignored, Reserved, Pointer, Sum}
+use Rattle.vt_layout.specs.declared.row.Row.TheVariants.{Number, BigEndian, Bytes, Named, StringNumber, Ignored, Reserved, Pointer, Sum}
 use Rattle.vt_layout.specs.Fields.{Field, Plain, Text, row_of, field_rows}
 use Rattle.vt_layout.specs.Records.{is_readable}
 use Rattle.acpi_records.specs.Header.{body_rows}
@@ -28,7 +28,6 @@ readable_field (Plain (BigEndian width value)) is = tt
 readable_field (Plain (Bytes width bytes)) is = tt
 readable_field (Plain (Named name)) is = tt
 readable_field (Plain (StringNumber number)) is = tt
-readable_field (Plain (AtLeast width value)) is = tt
 readable_field (Plain (Ignored width value)) is = tt
 readable_field (Plain (Reserved width)) is = tt
 readable_field (Plain (Pointer width target offset)) is = absurd (cc)

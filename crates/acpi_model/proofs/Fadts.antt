@@ -1,6 +1,8 @@
 -- FADTs: their rows with four pointers among them.
-use Rattle.std.proofs.Common.{◌≡◌, ℕ, List, [], slice_set, Some, arith, refl, ap, sym, ◌∙◌}
+use Rattle.std.proofs.Common.{◌≡◌, ℕ, ◌+◌, ◌<◌, ◌≤◌, cond, None, List, [], take, slice_set, Some, arith, refl, ap, sym, ◌∙◌}
 use Rattle.std.specs.List.{AllByRecursion}
+use Rattle.std.proofs.lemmas.Bool.{le-leb, lt-leb}
+use Rattle.std.proofs.lemmas.List.{take_all}
 use Rattle.vt_bytes.proofs.Each.{each_append}
 use Rattle.vt_layout.specs.declared.row.Row.{Row}
 use Rattle.vt_layout.specs.declared.row.Row.TheVariants.{Number}
@@ -13,7 +15,9 @@ use Rattle.acpi_model.specs.declared.link.FadtLinks.{FadtLinks}
 use Rattle.acpi_model.specs.declared.acpi.Table.TheVariants.{Fadt as FadtVariant}
 use Rattle.acpi_model.specs.Kinds.{IsBodyRow, rows_behind}
 use Rattle.acpi_model.specs.Links.{link_row, linked_link, link_of}
-use Rattle.acpi_model.specs.FadtKind.{fadt_body, fadt_layout, link_rows, linked_links}
+use Rattle.acpi_model.specs.Form.{xsdt_form}
+use Rattle.acpi_model.proofs.Fronts.{inside_holds}
+use Rattle.acpi_model.specs.FadtKind.{fadt_rows_in, fadt_shape_in, fadt_shape, fadt_counts, fadt_body, fadt_layout, link_rows, linked_links}
 use Rattle.acpi_model.specs.Acpi.{IsWritable, linked_table}
 use Rattle.acpi_model.proofs.BodyRows.{readable_body, each_set}
 use Rattle.acpi_model.proofs.Links.{width-link, is_body, shape-link, link-linked}
@@ -56,7 +60,7 @@ fadt_rows t links =
 pub fadt_writable : (t : Fadt) (links : FadtLinks) → AllByRecursion IsRow (link_rows links) → IsWritable (FadtVariant t links)
 fadt_writable t links lead = record {
   lawful = record {
-    shaped = λ place_of view address held. ap Some (sym (shape-fadt place_of t links));
+    shaped = λ place_of view address held. ap (fadt_shape_in xsdt_form) (ap (λ n. 36 + n) (size-fadt t links)) ∙ ap Some (sym (shape-fadt place_of t links));
     typed = λ place_of. refl;
     few = omega (arith, size-fadt t links);
     rows = fadt_rows t links;
@@ -83,3 +87,13 @@ linked-fadt place_of t links =
     (link-linked place_of 8 links.x_firmware_ctrl)
     ∙ ap (λ link. FadtVariant t (links_from (there links.firmware_ctrl) (there links.dsdt) (there links.x_firmware_ctrl) link))
     (link-linked place_of 8 links.x_dsdt)
+
+-- by today's form an FADT has all its rows, or there is none
+pub whole_fadt : (total : ℕ) → 276 ≤ total → fadt_shape_in xsdt_form total ≡ Some fadt_shape
+whole_fadt total long =
+    let held : 99 ≤ fadt_rows_in total = inside_holds 55 fadt_counts 36 total fadt_shape (omega (arith, long)) in
+    ap (λ b. cond b (Some (take (fadt_rows_in total) fadt_shape)) None) (le-leb 276 total long)
+    ∙ ap Some (take_all (fadt_rows_in total) fadt_shape (omega (arith, held)))
+
+pub no_short_fadt : (total : ℕ) → total < 276 → fadt_shape_in xsdt_form total ≡ None
+no_short_fadt total short = ap (λ b. cond b (Some (take (fadt_rows_in total) fadt_shape)) None) (lt-leb 276 total short)

@@ -17,16 +17,17 @@ use Rattle.acpi_model.specs.SratKind.{srat_kind, as_srat}
 use Rattle.acpi_model.specs.SlitKind.{slit_kind, as_slit}
 use Rattle.acpi_model.specs.McfgKind.{mcfg_kind, as_mcfg}
 use Rattle.acpi_model.specs.HpetKind.{hpet_kind, as_hpet}
-use Rattle.acpi_model.specs.Acpi.{signature_of, IsAt, IsOther, Walks, AreDistinct, first_links, gathered, no_targets, AreFound, AreTold, is_first, TableLeadsTo}
-use Rattle.acpi_model.specs.Acpi.{IsFoundBehind, with_table, id_with, with_other}
+use Rattle.acpi_model.specs.declared.form.Form.{Form}
+use Rattle.acpi_model.specs.Acpi.{signature_of, IsAtBy, IsOther, WalksBy, AreDistinct, first_links, gathered, no_targets, AreFoundBy, AreToldBy}
+use Rattle.acpi_model.specs.Acpi.{is_first, TableLeadsTo, IsFoundBehindBy, with_table, id_with, with_other}
 use Rattle.acpi_model.proofs.SameTold.{told_with, told_same}
 use Rattle.acpi_model.proofs.FirstOfKind.{fadt_tells, links_tell, madt_tells, srat_tells, slit_tells, mcfg_tells, hpet_tells, told_apart}
 use Rattle.acpi_model.proofs.FirstOfKind.{first_of-append, first_of-more}
 use Rattle.acpi_model.proofs.DistinctInTurn.{distinct_more, distinct_front, first_behind}
 
 -- no tables stand at no addresses
-pub nothing_found : (view : View) (oem_id : List ℕ) (head : Head) → AreTold view [] (gathered oem_id head [] no_targets []) None
-nothing_found view oem_id head = record {
+pub nothing_found : (form : Form) (view : View) (oem_id : List ℕ) (head : Head) → AreToldBy form view [] (gathered oem_id head [] no_targets []) None
+nothing_found form view oem_id head = record {
   tables = [];
   targets = no_targets;
   found = record { named = (refl, refl); distinct = tt; lead = (refl, refl, refl) };
@@ -35,21 +36,21 @@ nothing_found view oem_id head = record {
 }
 
 -- a walk with one address more, where a table of a known kind stands, or another
-walk_more : (view : View) (before : List ℕ) (address : ℕ) (tables : List Table) (others : List OtherTable) (t : Table)
-    → Walks view before tables others → IsAt view address t → Walks view (before ++ address ∷ []) (tables ++ t ∷ []) others
-walk_more view [] address tables others t walks at = inl (t, [], at, ap (λ those. those ++ t ∷ []) walks.0, (refl, walks.1))
-walk_more view (first ∷ before) address tables others t (inl (u, us, here, are, walks)) at =
-    inl (u, us ++ t ∷ [], here, ap (λ those. those ++ t ∷ []) are, walk_more view before address us others t walks at)
-walk_more view (first ∷ before) address tables others t (inr (u, us, here, are, walks)) at =
-    inr (u, us, here, are, walk_more view before address tables us t walks at)
+walk_more : (form : Form) (view : View) (before : List ℕ) (address : ℕ) (tables : List Table) (others : List OtherTable) (t : Table)
+    → WalksBy form view before tables others → IsAtBy form view address t → WalksBy form view (before ++ address ∷ []) (tables ++ t ∷ []) others
+walk_more form view [] address tables others t walks at = inl (t, [], at, ap (λ those. those ++ t ∷ []) walks.0, (refl, walks.1))
+walk_more form view (first ∷ before) address tables others t (inl (u, us, here, are, walks)) at =
+    inl (u, us ++ t ∷ [], here, ap (λ those. those ++ t ∷ []) are, walk_more form view before address us others t walks at)
+walk_more form view (first ∷ before) address tables others t (inr (u, us, here, are, walks)) at =
+    inr (u, us, here, are, walk_more form view before address tables us t walks at)
 
-walk_other : (view : View) (before : List ℕ) (address : ℕ) (tables : List Table) (others : List OtherTable) (t : OtherTable)
-    → Walks view before tables others → IsOther view address t → Walks view (before ++ address ∷ []) tables (others ++ t ∷ [])
-walk_other view [] address tables others t walks at = inr (t, [], at, ap (λ those. those ++ t ∷ []) walks.1, (walks.0, refl))
-walk_other view (first ∷ before) address tables others t (inl (u, us, here, are, walks)) at =
-    inl (u, us, here, are, walk_other view before address us others t walks at)
-walk_other view (first ∷ before) address tables others t (inr (u, us, here, are, walks)) at =
-    inr (u, us ++ t ∷ [], here, ap (λ those. those ++ t ∷ []) are, walk_other view before address tables us t walks at)
+walk_other : (form : Form) (view : View) (before : List ℕ) (address : ℕ) (tables : List Table) (others : List OtherTable) (t : OtherTable)
+    → WalksBy form view before tables others → IsOther view address t → WalksBy form view (before ++ address ∷ []) tables (others ++ t ∷ [])
+walk_other form view [] address tables others t walks at = inr (t, [], at, ap (λ those. those ++ t ∷ []) walks.1, (walks.0, refl))
+walk_other form view (first ∷ before) address tables others t (inl (u, us, here, are, walks)) at =
+    inl (u, us, here, are, walk_other form view before address us others t walks at)
+walk_other form view (first ∷ before) address tables others t (inr (u, us, here, are, walks)) at =
+    inr (u, us ++ t ∷ [], here, ap (λ those. those ++ t ∷ []) are, walk_other form view before address tables us t walks at)
 
 -- what is led to, with one table more
 led_with : Table → FadtTargets → FadtTargets → FadtTargets
@@ -96,12 +97,12 @@ are_parts (Mcfg t) targets all id = refl
 are_parts (Hpet t) targets all id = refl
 
 -- a table that is the first of its kind is added to what is told
-module _ (view : View) (before : List ℕ) (all : AcpiTables) (id : Option (List ℕ)) (is : AreTold view before all id) (address : ℕ) where
+module _ (form : Form) (view : View) (before : List ℕ) (all : AcpiTables) (id : Option (List ℕ)) (is : AreToldBy form view before all id) (address : ℕ) where
   -- the table is found last
   abbrev GrownBy : List Table → Option (List ℕ) → AcpiTables → Type 0
-  GrownBy more its grown = (told : AreTold view (before ++ address ∷ []) grown its) × (told.tables ≡ is.tables ++ more)
+  GrownBy more its grown = (told : AreToldBy form view (before ++ address ∷ []) grown its) × (told.tables ≡ is.tables ++ more)
 
-  parts_grow : (t : Table) (targets : FadtTargets) → IsAt view address t → is_first (signature_of t) is.tables ≡ true
+  parts_grow : (t : Table) (targets : FadtTargets) → IsAtBy form view address t → is_first (signature_of t) is.tables ≡ true
       → TableLeadsTo view t targets → GrownBy (t ∷ []) (id_with t targets id) (with_parts t targets all id)
   unfolding told_with with_parts
   parts_grow t targets at first lead = (
@@ -109,7 +110,7 @@ module _ (view : View) (before : List ℕ) (all : AcpiTables) (id : Option (List
       tables = is.tables ++ t ∷ [];
       targets = led_with t targets is.targets;
       found = record {
-        named = walk_more view before address is.tables all.others t is.found.named at;
+        named = walk_more form view before address is.tables all.others t is.found.named at;
         distinct = distinct_more is.tables t is.found.distinct first;
         lead = subst (λ links. LeadTo view links (led_with t targets is.targets)) (sym (first_of-more fadt_kind links_of links_tell is.tables t first))
             (leads_on view t targets is.targets (first_links is.tables) lead is.found.lead);
@@ -130,21 +131,21 @@ module _ (view : View) (before : List ℕ) (all : AcpiTables) (id : Option (List
     refl,
   )
 
-  pub table_grows : (t : Table) (targets : FadtTargets) → IsAt view address t → is_first (signature_of t) is.tables ≡ true
+  pub table_grows : (t : Table) (targets : FadtTargets) → IsAtBy form view address t → is_first (signature_of t) is.tables ≡ true
       → TableLeadsTo view t targets
-      → (told : AreTold view (before ++ address ∷ []) (with_table t targets all) (id_with t targets id)) × (told.tables ≡ is.tables ++ t ∷ [])
+      → (told : AreToldBy form view (before ++ address ∷ []) (with_table t targets all) (id_with t targets id)) × (told.tables ≡ is.tables ++ t ∷ [])
   table_grows t targets at first lead =
       subst (GrownBy (t ∷ []) (id_with t targets id)) (are_parts t targets all id) (parts_grow t targets at first lead)
 
   -- so is another
   pub other_grows : (t : OtherTable) → IsOther view address t
-      → (told : AreTold view (before ++ address ∷ []) (with_other t all) id) × (told.tables ≡ is.tables)
+      → (told : AreToldBy form view (before ++ address ∷ []) (with_other t all) id) × (told.tables ≡ is.tables)
   other_grows t at = (
     record {
       tables = is.tables;
       targets = is.targets;
       found = record {
-        named = walk_other view before address is.tables all.others t is.found.named at;
+        named = walk_other form view before address is.tables all.others t is.found.named at;
         distinct = is.found.distinct;
         lead = is.found.lead;
       };
@@ -155,21 +156,21 @@ module _ (view : View) (before : List ℕ) (all : AcpiTables) (id : Option (List
   )
 
 -- what a walk over two lists of addresses finds
-record IsSplit (view : View) (before after : List ℕ) (tables : List Table) (others : List OtherTable) : Type 0 where
+record IsSplit (form : Form) (view : View) (before after : List ℕ) (tables : List Table) (others : List OtherTable) : Type 0 where
   front : List Table
   back : List Table
   first : List OtherTable
   rest : List OtherTable
   are : tables ≡ front ++ back
-  walks : Walks view before front first
-  walked : Walks view after back rest
+  walks : WalksBy form view before front first
+  walked : WalksBy form view after back rest
 
-split : (view : View) (before after : List ℕ) (tables : List Table) (others : List OtherTable) → Walks view (before ++ after) tables others
-    → IsSplit view before after tables others
-split view [] after tables others walks =
+split : (form : Form) (view : View) (before after : List ℕ) (tables : List Table) (others : List OtherTable) → WalksBy form view (before ++ after) tables others
+    → IsSplit form view before after tables others
+split form view [] after tables others walks =
     record { front = []; back = tables; first = []; rest = others; are = refl; walks = (refl, refl); walked = walks }
-split view (address ∷ before) after tables others (inl (t, ts, at, are, walks)) =
-    let more = split view before after ts others walks in
+split form view (address ∷ before) after tables others (inl (t, ts, at, are, walks)) =
+    let more = split form view before after ts others walks in
     record {
       front = t ∷ more.front;
       back = more.back;
@@ -179,8 +180,8 @@ split view (address ∷ before) after tables others (inl (t, ts, at, are, walks)
       walks = inl (t, more.front, at, refl, more.walks);
       walked = more.walked;
     }
-split view (address ∷ before) after tables others (inr (t, ts, at, are, walks)) =
-    let more = split view before after tables ts walks in
+split form view (address ∷ before) after tables others (inr (t, ts, at, are, walks)) =
+    let more = split form view before after tables ts walks in
     record {
       front = more.front;
       back = more.back;
@@ -216,10 +217,10 @@ midst_links front back t first =
     ∙ or_assoc (links_of t) (first_links front) (first_links back)
 
 -- behind the first tables of some, no two of which are of one kind, the next is found
-next_found : (view : View) (address : ℕ) (after : List ℕ) (front back : List Table) (rest : List OtherTable) (targets : FadtTargets)
-    → AreDistinct (front ++ back) → LeadTo view (first_links (front ++ back)) targets → Walks view (address ∷ after) back rest
-    → IsFoundBehind view address front
-next_found view address after front back rest targets distinct lead (inl (t, more, at, are, walks)) =
+next_found : (form : Form) (view : View) (address : ℕ) (after : List ℕ) (front back : List Table) (rest : List OtherTable) (targets : FadtTargets)
+    → AreDistinct (front ++ back) → LeadTo view (first_links (front ++ back)) targets → WalksBy form view (address ∷ after) back rest
+    → IsFoundBehindBy form view address front
+next_found form view address after front back rest targets distinct lead (inl (t, more, at, are, walks)) =
     let first = first_behind front more t (subst (λ those. AreDistinct (front ++ those)) are distinct) in
     let its = subst (λ those. LeadTo view (first_links (front ++ those)) targets) are lead in
     inl (
@@ -230,13 +231,14 @@ next_found view address after front back rest targets distinct lead (inl (t, mor
       first_leads view (links_of t) (option_or (first_links front) (first_links more)) targets
           (subst (λ links. LeadTo view links targets) (midst_links front more t first) its),
     )
-next_found view address after front back rest targets distinct lead (inr (t, more, at, are, walks)) = inr (t, at)
+next_found form view address after front back rest targets distinct lead (inr (t, more, at, are, walks)) = inr (t, at)
 
-pub found_in_turn : (view : View) (before : List ℕ) (address : ℕ) (after : List ℕ) (tables : List Table) (targets : FadtTargets) (others : List OtherTable)
-    → AreFound view (before ++ address ∷ after) tables targets others
-    → (t : List Table) × (g : FadtTargets) × (o : List OtherTable) × AreFound view before t g o × IsFoundBehind view address t
-found_in_turn view before address after tables targets others is =
-    let parts = split view before (address ∷ after) tables others is.named in
+pub found_in_turn : (form : Form) (view : View) (before : List ℕ) (address : ℕ) (after : List ℕ) (tables : List Table) (targets : FadtTargets)
+    (others : List OtherTable)
+    → AreFoundBy form view (before ++ address ∷ after) tables targets others
+    → (t : List Table) × (g : FadtTargets) × (o : List OtherTable) × AreFoundBy form view before t g o × IsFoundBehindBy form view address t
+found_in_turn form view before address after tables targets others is =
+    let parts = split form view before (address ∷ after) tables others is.named in
     let distinct = subst AreDistinct parts.are is.distinct in
     let lead = subst (λ those. LeadTo view (first_links those) targets) parts.are is.lead in (
       parts.front,
@@ -248,11 +250,11 @@ found_in_turn view before address after tables targets others is =
         lead = first_leads view (first_links parts.front) (first_links parts.back) targets
             (subst (λ links. LeadTo view links targets) (first_of-append fadt_kind links_of links_tell parts.front parts.back) lead);
       },
-      next_found view address after parts.front parts.back parts.rest targets distinct lead parts.walked,
+      next_found form view address after parts.front parts.back parts.rest targets distinct lead parts.walked,
     )
 
 -- A table is the first of its kind where none of the kind is told.
-module _ (view : View) (before : List ℕ) (all : AcpiTables) (id : Option (List ℕ)) (is : AreTold view before all id) where
+module _ (form : Form) (view : View) (before : List ℕ) (all : AcpiTables) (id : Option (List ℕ)) (is : AreToldBy form view before all id) where
   pub fadt_apart : is_first (codes "FACP") is.tables ≡ not (is_some all.fadt)
   fadt_apart = told_apart fadt_kind as_fadt fadt_tells is.tables ∙ ap (λ (a : AcpiTables). not (is_some a.fadt)) (sym is.told)
 

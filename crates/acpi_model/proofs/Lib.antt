@@ -2,6 +2,8 @@ pub mod AcceptedAcpi
 pub mod OneTable
 pub mod Known
 pub mod OneLayout
+pub mod KnownByForm
+pub mod Fronts
 pub mod HeldTables
 pub mod Headers
 pub mod Xsdt

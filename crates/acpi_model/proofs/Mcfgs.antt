@@ -1,6 +1,6 @@
 -- MCFGs: as many allocations as fill them, each got back from its rows.
-use Rattle.std.proofs.Common.{◌≡◌, ℕ, zero, suc, ◌+◌, ◌-◌, ◌*◌, ◌/◌, ◌<◌, ◌^◌, List, [], ◌∷◌, ◌++◌, length, Bool, true, false, ◌%◌, nat_lt, Option}
-use Rattle.std.proofs.Common.{Some, None, IfSome, option_map, cond, ◌==◌, arith, rules, refl, ap, sym, ◌∙◌, subst}
+use Rattle.std.proofs.Common.{◌≡◌, ℕ, ◌-◌, ◌*◌, ◌/◌, ◌<◌, ◌^◌, List, [], ◌∷◌, ◌++◌, length, Bool, true, false, ◌%◌, nat_lt, Option}
+use Rattle.std.proofs.Common.{Some, None, IfSome, cond, ◌==◌, arith, rules, refl, ap, ◌∙◌}
 use Rattle.std.proofs.lemmas.Bool.{and_parts, ltb-true}
 use Rattle.std.specs.Option.{option_map_or}
 use Rattle.vt_layout.specs.declared.row.Row.{Row}

@@ -9,7 +9,8 @@ use Rattle.vt_layout.specs.Entries.{Entry, Types}
 use Rattle.vt_layout.proofs.Entries.{same_entries}
 use Rattle.acpi_records.specs.declared.header.Head.{Head}
 use Rattle.acpi_model.specs.Kinds.{Kind, TableLayout, EndsWith, IsLayoutAt, table_of}
-use Rattle.acpi_model.specs.Acpi.{kind_of, IsAt}
+use Rattle.acpi_model.specs.declared.form.Form.{Form}
+use Rattle.acpi_model.specs.Acpi.{kind_by, IsAtBy}
 use Rattle.acpi_model.proofs.OneTable.{one_table}
 
 -- tables end with one list of entries
@@ -22,10 +23,11 @@ layout_from : Kind → Head → List Row → List Entry → TableLayout
 layout_from kind head body entries = record { kind = kind; head = head; body = body; entries = entries }
 
 -- The signature decides the kind; the kind decides the shape of the rows, and the types of the entries.
-one_layout : (view : View) (address : ℕ) (l m : TableLayout) → kind_of l.kind.signature ≡ Some l.kind → kind_of m.kind.signature ≡ Some m.kind
+one_layout : (form : Form) (view : View) (address : ℕ) (l m : TableLayout) → kind_by form l.kind.signature ≡ Some l.kind
+    → kind_by form m.kind.signature ≡ Some m.kind
     → IsLayoutAt view address l → IsLayoutAt view address m → l ≡ m
 unfolding layout_from
-one_layout view address l m listed also_listed is also =
+one_layout form view address l m listed also_listed is also =
     let signatures : l.kind.signature ≡ m.kind.signature = cc (is.stands.shown.0, also.stands.shown.0) in
     let kinds : l.kind ≡ m.kind = cc (listed, also_listed, signatures) in
     let same = one_table view address l.kind.signature m.kind.signature is.total also.total l.head m.head l.body m.body is.stands also.stands (λ totals.
@@ -40,6 +42,6 @@ one_layout view address l m listed also_listed is also =
     ap (λ kind. layout_from kind l.head l.body l.entries) kinds ∙ ap (λ head. layout_from m.kind head l.body l.entries) same.headers
     ∙ ap (λ body. layout_from m.kind m.head body l.entries) same.bodies ∙ ap (layout_from m.kind m.head m.body) ends
 
-pub one_at : (view : View) (address : ℕ) → IsOne (IsAt view address)
-one_at view address t u is also =
-    is.says ∙ ap table_of (one_layout view address is.layout also.layout is.known also.known is.stands also.stands) ∙ sym also.says
+pub one_at : (form : Form) (view : View) (address : ℕ) → IsOne (IsAtBy form view address)
+one_at form view address t u is also =
+    is.says ∙ ap table_of (one_layout form view address is.layout also.layout is.known also.known is.stands also.stands) ∙ sym also.says

@@ -22,7 +22,9 @@ use Rattle.acpi_model.specs.declared.link.FadtLinks.{FadtLinks}
 use Rattle.dsdt_terms.specs.Dsdt.{terms_at, kept_terms}
 use Rattle.acpi_records.specs.Header.{IsTable, IsFittingHead, head_of, padded}
 use Rattle.acpi_model.specs.Kinds.{Kind, TableLayout, IsLayoutAt, IsLawful, table_of, rows_behind, layout_rows, linked_layout}
-use Rattle.acpi_model.specs.FadtKind.{fadt_kind, fadt_layout, link_rows, as_fadt, links_of}
+use Rattle.acpi_model.specs.declared.form.Form.{Form}
+use Rattle.acpi_model.specs.Form.{xsdt_form}
+use Rattle.acpi_model.specs.FadtKind.{fadt_kind, fadt_kind_by, fadt_layout, link_rows, as_fadt, links_of}
 use Rattle.acpi_model.specs.Found.{LeadTo}
 use Rattle.acpi_records.specs.Facs.{initial_facs}
 use Rattle.acpi_model.specs.MachineFadt.{fadt_of, fadt_links}
@@ -36,16 +38,22 @@ use Rattle.acpi_model.specs.MachineSlit.{slit_of_machine}
 use Rattle.acpi_model.specs.McfgKind.{mcfg_kind, mcfg_layout, as_mcfg}
 use Rattle.acpi_model.specs.MachineMcfg.{mapped, mcfg_of_bridge}
 use Rattle.acpi_model.specs.HpetKind.{hpet_kind, hpet_layout, as_hpet}
-use Rattle.acpi_model.specs.Xsdt.{IsXsdt}
-use Rattle.acpi_model.specs.Rsdp.{IsRsdp, HasRsdp}
+use Rattle.acpi_model.specs.Xsdt.{IsRoot}
+use Rattle.acpi_model.specs.Rsdp.{IsRsdpBy, HasRsdpBy}
 
--- the kinds of tables that are known, each of another signature
+-- the kinds of tables that are known in a form, each of another signature
+abbrev pub kinds_by : Form → List Kind
+kinds_by form = fadt_kind_by form ∷ madt_kind ∷ srat_kind ∷ slit_kind ∷ mcfg_kind ∷ hpet_kind ∷ []
+
 abbrev pub kinds : List Kind
-kinds = fadt_kind ∷ madt_kind ∷ srat_kind ∷ slit_kind ∷ mcfg_kind ∷ hpet_kind ∷ []
+kinds = kinds_by xsdt_form
 
 -- the kind of a signature, where it is known
+abbrev pub kind_by : Form → List ℕ → Option Kind
+kind_by form signature = find (λ (kind : Kind). bytes_eq signature kind.signature) (kinds_by form)
+
 abbrev pub kind_of : List ℕ → Option Kind
-kind_of signature = find (λ (kind : Kind). bytes_eq signature kind.signature) kinds
+kind_of signature = kind_by xsdt_form signature
 
 abbrev pub layout_of : Table → TableLayout
 layout_of (Fadt t links) = fadt_layout t links
@@ -88,12 +96,15 @@ pub record CanBePut (table : Table) : Type 0 where
   pub head : IsFittingHead (layout_of table).head
   pub fit : AllByRecursion IsRow (rows_behind (layout_of table))
 
--- The table of a known kind stands at an address: it is what a layout of its kind says that stands there.
-pub record IsAt (view : View) (address : ℕ) (table : Table) : Type 0 where
+-- The table of a kind that is known in a form stands at an address: it is what a layout of its kind says that stands there.
+pub record IsAtBy (form : Form) (view : View) (address : ℕ) (table : Table) : Type 0 where
   pub layout : TableLayout
-  pub known : kind_of layout.kind.signature ≡ Some layout.kind
+  pub known : kind_by form layout.kind.signature ≡ Some layout.kind
   pub stands : IsLayoutAt view address layout
   pub says : table ≡ table_of layout
+
+abbrev pub IsAt : View → ℕ → Table → Type 0
+IsAt view address table = IsAtBy xsdt_form view address table
 
 -- A table of another signature stands at an address.
 pub record IsOther (view : View) (address : ℕ) (t : OtherTable) : Type 0 where
@@ -102,11 +113,14 @@ pub record IsOther (view : View) (address : ℕ) (t : OtherTable) : Type 0 where
   pub stands : IsTable view address t.signature head t.length []
 
 -- The tables that stand at addresses, in order: those of known kinds, and the others.
+abbrev pub WalksBy : Form → View → List ℕ → List Table → List OtherTable → Type 0
+WalksBy form view [] tables others = (tables ≡ []) × (others ≡ [])
+WalksBy form view (address ∷ addresses) tables others =
+    ((t : Table) × (more : List Table) × IsAtBy form view address t × (tables ≡ t ∷ more) × WalksBy form view addresses more others)
+    ⊎ ((t : OtherTable) × (more : List OtherTable) × IsOther view address t × (others ≡ t ∷ more) × WalksBy form view addresses tables more)
+
 abbrev pub Walks : View → List ℕ → List Table → List OtherTable → Type 0
-Walks view [] tables others = (tables ≡ []) × (others ≡ [])
-Walks view (address ∷ addresses) tables others =
-    ((t : Table) × (more : List Table) × IsAt view address t × (tables ≡ t ∷ more) × Walks view addresses more others)
-    ⊎ ((t : OtherTable) × (more : List OtherTable) × IsOther view address t × (others ≡ t ∷ more) × Walks view addresses tables more)
+Walks view addresses tables others = WalksBy xsdt_form view addresses tables others
 
 -- each table of a known kind stands at its address
 abbrev pub AreAt : View → List ℕ → List Table → Type 0
@@ -150,32 +164,44 @@ gathered oem_id xsdt tables targets others = record {
 
 -- Tables stand at addresses, one after the other: those of known kinds, no two of which are of one kind, what the FADT among them leads
 -- to, and the others.
-pub record AreFound (view : View) (addresses : List ℕ) (tables : List Table) (targets : FadtTargets) (others : List OtherTable) : Type 0 where
-  pub named : Walks view addresses tables others
+pub record AreFoundBy (form : Form) (view : View) (addresses : List ℕ) (tables : List Table) (targets : FadtTargets) (others : List OtherTable) : Type 0 where
+  pub named : WalksBy form view addresses tables others
   pub distinct : AreDistinct tables
   pub lead : LeadTo view (first_links tables) targets
 
+abbrev pub AreFound : View → List ℕ → List Table → FadtTargets → List OtherTable → Type 0
+AreFound view addresses tables targets others = AreFoundBy xsdt_form view addresses tables targets others
+
 -- The tables at addresses tell these, and the id of a generation: what they tell is gathered of them.
-pub record AreTold (view : View) (addresses : List ℕ) (t : AcpiTables) (id : Option (List ℕ)) : Type 0 where
+pub record AreToldBy (form : Form) (view : View) (addresses : List ℕ) (t : AcpiTables) (id : Option (List ℕ)) : Type 0 where
   pub tables : List Table
   pub targets : FadtTargets
-  pub found : AreFound view addresses tables targets t.others
+  pub found : AreFoundBy form view addresses tables targets t.others
   pub told : t ≡ gathered t.oem_id t.xsdt tables targets t.others
   pub its_id : id ≡ targets.generation
 
--- The RSDP at an address has the maker's id and leads to the XSDT, whose entries name the tables, which lead to the id of a generation.
-pub record LeadsToAcpi (view : View) (rsdp : ℕ) (t : AcpiTables) (id : Option (List ℕ)) : Type 0 where
-  pub xsdt : ℕ
-  pub valid : IsRsdp view rsdp t.oem_id xsdt
-  pub addresses : List ℕ
-  pub listed : IsXsdt view xsdt t.xsdt addresses
-  pub tables : AreTold view addresses t id
+abbrev pub AreTold : View → List ℕ → AcpiTables → Option (List ℕ) → Type 0
+AreTold view addresses t id = AreToldBy xsdt_form view addresses t id
 
--- The view shows the tables and the id of a generation: the least valid RSDP leads to them.
-pub record ShowsAcpi (view : View) (t : AcpiTables) (id : Option (List ℕ)) : Type 0 where
+-- The RSDP at an address has the maker's id and leads to the root, whose entries name the tables, which lead to the id of a generation.
+pub record LeadsToAcpiBy (form : Form) (view : View) (rsdp : ℕ) (t : AcpiTables) (id : Option (List ℕ)) : Type 0 where
+  pub xsdt : ℕ
+  pub valid : IsRsdpBy form view rsdp t.oem_id xsdt
+  pub addresses : List ℕ
+  pub listed : IsRoot form view xsdt t.xsdt addresses
+  pub tables : AreToldBy form view addresses t id
+
+abbrev pub LeadsToAcpi : View → ℕ → AcpiTables → Option (List ℕ) → Type 0
+LeadsToAcpi view rsdp t id = LeadsToAcpiBy xsdt_form view rsdp t id
+
+-- The view shows the tables and the id of a generation: the least valid RSDP of a form leads to them.
+pub record ShowsAcpiBy (form : Form) (view : View) (t : AcpiTables) (id : Option (List ℕ)) : Type 0 where
   pub rsdp : ℕ
-  pub least : (other : ℕ) → other < rsdp → HasRsdp view other → ⊥
-  pub leads : LeadsToAcpi view rsdp t id
+  pub least : (other : ℕ) → other < rsdp → HasRsdpBy form view other → ⊥
+  pub leads : LeadsToAcpiBy form view rsdp t id
+
+abbrev pub ShowsAcpi : View → AcpiTables → Option (List ℕ) → Type 0
+ShowsAcpi view t id = ShowsAcpiBy xsdt_form view t id
 
 -- what nothing leads to
 abbrev pub no_targets : FadtTargets
@@ -190,10 +216,13 @@ abbrev pub TableLeadsTo : View → Table → FadtTargets → Type 0
 TableLeadsTo view t targets = LeadTo view (links_of t) targets
 
 -- The table at an address is found behind others: it is of a known kind and the first of it, with what it leads to; or it is another.
-abbrev pub IsFoundBehind : View → ℕ → List Table → Type 0
-IsFoundBehind view address before =
-    ((t : Table) × (targets : FadtTargets) × IsAt view address t × (is_first (signature_of t) before ≡ true) × TableLeadsTo view t targets)
+abbrev pub IsFoundBehindBy : Form → View → ℕ → List Table → Type 0
+IsFoundBehindBy form view address before =
+    ((t : Table) × (targets : FadtTargets) × IsAtBy form view address t × (is_first (signature_of t) before ≡ true) × TableLeadsTo view t targets)
     ⊎ ((t : OtherTable) × IsOther view address t)
+
+abbrev pub IsFoundBehind : View → ℕ → List Table → Type 0
+IsFoundBehind view address before = IsFoundBehindBy xsdt_form view address before
 
 -- a table of a known kind, with what it leads to, added to what was gathered before
 abbrev pub with_table : Table → FadtTargets → AcpiTables → AcpiTables

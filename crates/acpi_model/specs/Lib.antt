@@ -14,6 +14,8 @@ pub mod MachineSlit
 pub mod McfgKind
 pub mod MachineMcfg
 pub mod HpetKind
+pub mod Form
+pub mod Fronts
 pub mod Xsdt
 pub mod Rsdp
 pub mod Acpi

@@ -14,15 +14,18 @@ ghost use Rattle.machine_desc.specs.Rules.{is_padded_text, apic_id, IsAccepted};
 ghost use Rattle.machine_desc.specs.Fields.{HasFittingFields};
 ghost use Rattle.dsdt_terms.specs.Dsdt.{id_address};
 ghost use Rattle.acpi_records.specs.declared.header.Head.{Head};
+ghost use Rattle.acpi_model.specs.declared.form.Form.{Form};
+ghost use Rattle.acpi_model.specs.Form.{xsdt_form};
+ghost use Rattle.acpi_model.specs.FadtKind.{fadt_shape, fadt_shape_in};
 ghost use Rattle.acpi_model.specs.declared.acpi.AcpiTables.{AcpiTables};
 ghost use Rattle.acpi_model.specs.declared.acpi.FadtTargets.{FadtTargets};
 ghost use Rattle.acpi_model.specs.declared.acpi.OtherTable.{OtherTable};
 ghost use Rattle.acpi_model.specs.declared.acpi.Table.{Table};
 ghost use Rattle.acpi_records.specs.Header.{head_of, padded, FitsHead};
 ghost use Rattle.acpi_model.specs.Maker.{acpi_in};
-ghost use Rattle.acpi_model.specs.Acpi.{IsAt, IsOther, IsWritable, CanBePut, rows_of, linked_table, signature_of, Walks, AreAt, AreDistinct};
+ghost use Rattle.acpi_model.specs.Acpi.{IsAt, IsAtBy, IsOther, IsWritable, CanBePut, rows_of, linked_table, signature_of, Walks, AreAt, AreDistinct};
 ghost use Rattle.acpi_model.specs.Acpi.{bytes_behind, first_with, first_links, gathered, facs_place, tables_of, targets_of, acpi_of};
-ghost use Rattle.acpi_model.specs.Acpi.{dsdt_place, dsdt_at, HasIdAt, no_targets, AreFound, AreTold, is_first, TableLeadsTo, IsFoundBehind};
+ghost use Rattle.acpi_model.specs.Acpi.{dsdt_place, dsdt_at, HasIdAt, no_targets, AreFoundBy, AreToldBy, is_first, TableLeadsTo, IsFoundBehindBy};
 ghost use Rattle.acpi_model.specs.Acpi.{with_table, id_with, with_other};
 ghost use Rattle.acpi_model.specs.Kinds.{tables_name};
 ghost use Rattle.acpi_records.specs.Facs.{IsFacs};
@@ -43,7 +46,7 @@ ghost use Rattle.acpi_model.specs.Xsdt.{IsXsdt, most_entries, xsdt_rows, given};
 
 /// States that at most one table of a known kind stands at an address.
 pub fn one_table_stands_at_an_address()
-    ensures { (view : View) (address : ℕ) (a b : Table) → IsAt view address a → IsAt view address b → a ≡ b }
+    ensures { (form : Form) (view : View) (address : ℕ) (a b : Table) → IsAtBy form view address a → IsAtBy form view address b → a ≡ b }
 {}
 
 /// States that, where each table stands at its address, a walk over the addresses finds the tables.
@@ -53,41 +56,48 @@ pub fn tables_at_their_addresses_are_walked()
 
 /// States that at no addresses nothing is found, whatever the RSDP's id and the header of the XSDT are.
 pub fn nothing_is_found_at_no_addresses()
-    ensures { (view : View) (oem_id : List ℕ) (head : Head) → AreTold view [] (gathered oem_id head [] no_targets []) None }
+    ensures { (form : Form) (view : View) (oem_id : List ℕ) (head : Head) → AreToldBy form view [] (gathered oem_id head [] no_targets []) None }
 {}
 
 /// States that a table at one address more is added to what is told of those before: one of a known kind, where it is the first of its kind
 /// and with what its pointers lead to, and another. It is found last.
 pub fn found_tables_grow()
-    ensures table { (view : View) (before : List ℕ) (all : AcpiTables) (id : Option (List ℕ)) (is : AreTold view before all id)
-        (address : ℕ) (t : Table) (targets : FadtTargets) → IsAt view address t → is_first (signature_of t) is.tables ≡ true → TableLeadsTo view t targets
-        → (told : AreTold view (before ++ address ∷ []) (with_table t targets all) (id_with t targets id)) × (told.tables ≡ is.tables ++ t ∷ []) }
-    ensures other { (view : View) (before : List ℕ) (all : AcpiTables) (id : Option (List ℕ)) (is : AreTold view before all id) (address : ℕ) (t : OtherTable)
-        → IsOther view address t
-        → (told : AreTold view (before ++ address ∷ []) (with_other t all) id) × (told.tables ≡ is.tables) }
+    ensures table { (form : Form) (view : View) (before : List ℕ) (all : AcpiTables) (id : Option (List ℕ)) (is : AreToldBy form view before all id)
+        (address : ℕ) (t : Table) (targets : FadtTargets) → IsAtBy form view address t → is_first (signature_of t) is.tables ≡ true
+        → TableLeadsTo view t targets
+        → (told : AreToldBy form view (before ++ address ∷ []) (with_table t targets all) (id_with t targets id)) × (told.tables ≡ is.tables ++ t ∷ []) }
+    ensures other { (form : Form) (view : View) (before : List ℕ) (all : AcpiTables) (id : Option (List ℕ)) (is : AreToldBy form view before all id)
+        (address : ℕ) (t : OtherTable) → IsOther view address t
+        → (told : AreToldBy form view (before ++ address ∷ []) (with_other t all) id) × (told.tables ≡ is.tables) }
 {}
 
 /// States that, where tables are found at addresses, some are found at the first of these, and behind them the table at the next one.
 pub fn tables_are_found_in_turn()
-    ensures { (view : View) (before : List ℕ) (address : ℕ) (after : List ℕ) (tables : List Table) (targets : FadtTargets) (others : List OtherTable)
-        → AreFound view (before ++ address ∷ after) tables targets others
-        → (t : List Table) × (g : FadtTargets) × (o : List OtherTable) × AreFound view before t g o × IsFoundBehind view address t }
+    ensures { (form : Form) (view : View) (before : List ℕ) (address : ℕ) (after : List ℕ) (tables : List Table) (targets : FadtTargets)
+        (others : List OtherTable) → AreFoundBy form view (before ++ address ∷ after) tables targets others
+        → (t : List Table) × (g : FadtTargets) × (o : List OtherTable) × AreFoundBy form view before t g o × IsFoundBehindBy form view address t }
 {}
 
 /// States that a table would be the first of its kind behind others exactly where none of the kind is told of them.
 pub fn known_table_is_told_apart()
-    ensures fadt { (view : View) (before : List ℕ) (all : AcpiTables) (id : Option (List ℕ)) (is : AreTold view before all id)
+    ensures fadt { (form : Form) (view : View) (before : List ℕ) (all : AcpiTables) (id : Option (List ℕ)) (is : AreToldBy form view before all id)
         → is_first (codes "FACP") is.tables ≡ not (is_some all.fadt) }
-    ensures madt { (view : View) (before : List ℕ) (all : AcpiTables) (id : Option (List ℕ)) (is : AreTold view before all id)
+    ensures madt { (form : Form) (view : View) (before : List ℕ) (all : AcpiTables) (id : Option (List ℕ)) (is : AreToldBy form view before all id)
         → is_first (codes "APIC") is.tables ≡ not (is_some all.madt) }
-    ensures srat { (view : View) (before : List ℕ) (all : AcpiTables) (id : Option (List ℕ)) (is : AreTold view before all id)
+    ensures srat { (form : Form) (view : View) (before : List ℕ) (all : AcpiTables) (id : Option (List ℕ)) (is : AreToldBy form view before all id)
         → is_first (codes "SRAT") is.tables ≡ not (is_some all.srat) }
-    ensures slit { (view : View) (before : List ℕ) (all : AcpiTables) (id : Option (List ℕ)) (is : AreTold view before all id)
+    ensures slit { (form : Form) (view : View) (before : List ℕ) (all : AcpiTables) (id : Option (List ℕ)) (is : AreToldBy form view before all id)
         → is_first (codes "SLIT") is.tables ≡ not (is_some all.slit) }
-    ensures mcfg { (view : View) (before : List ℕ) (all : AcpiTables) (id : Option (List ℕ)) (is : AreTold view before all id)
+    ensures mcfg { (form : Form) (view : View) (before : List ℕ) (all : AcpiTables) (id : Option (List ℕ)) (is : AreToldBy form view before all id)
         → is_first (codes "MCFG") is.tables ≡ not (is_some all.mcfg) }
-    ensures hpet { (view : View) (before : List ℕ) (all : AcpiTables) (id : Option (List ℕ)) (is : AreTold view before all id)
+    ensures hpet { (form : Form) (view : View) (before : List ℕ) (all : AcpiTables) (id : Option (List ℕ)) (is : AreToldBy form view before all id)
         → is_first (codes "HPET") is.tables ≡ not (is_some all.hpet) }
+{}
+
+/// States that by the form of ACPI 6.5 an FADT of 276 bytes or more has all its rows, and that one of fewer is none.
+pub fn fadt_has_all_its_rows()
+    ensures whole { (total : ℕ) → 276 ≤ total → fadt_shape_in xsdt_form total ≡ Some fadt_shape }
+    ensures short { (total : ℕ) → total < 276 → fadt_shape_in xsdt_form total ≡ None }
 {}
 
 /// States that a table of a list, no two of which have one signature, is found in it by its signature.

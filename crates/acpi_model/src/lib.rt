@@ -6,10 +6,14 @@
 //! machine's XSDT names can be put into a file, are walked, lead to the machine's FACS and tell what the machine's do, and that a machine's
 //! parts are got back from its tables. A kind of tables is its signature with the shape of its rows and the types of its entries. The
 //! records are those of `acpi_records`, which are passed on.
+//!
+//! What is shown is said by a form: which RSDP and which root, an XSDT or an RSDT, stand there, and how many bytes an FADT has at least. Such
+//! a definition ends in `By`; the name without it is the same by the form of ACPI 6.5, which a machine's tables have.
 #![tactic(auto)]
 
 mod acpi;
 mod dsdt;
+mod form;
 pub mod laws;
 mod link;
 mod machine_fadt;
@@ -28,8 +32,9 @@ pub use acpi_records::{
     head_of, hpet_of, initial_facs,
 };
 pub use dsdt::Dsdt;
+pub use form::{Form, LEGACY_FORM, XSDT_FORM};
 pub use link::{FadtLinks, Link};
-pub use machine_fadt::{DSDT_PLACE, FACS_PLACE, fadt_links, fadt_of};
+pub use machine_fadt::{DSDT_PLACE, FACS_PLACE, fadt_links, fadt_of, register_at};
 pub use machine_madt::madt_of_machine;
 pub use machine_mcfg::mcfg_of_bridge;
 pub use machine_slit::slit_of_machine;

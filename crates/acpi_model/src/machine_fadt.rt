@@ -73,17 +73,17 @@ pub fn fadt_of(acpi: &Acpi, power: &Power) -> Fadt
         century: power.century,
         iapc_boot_arch: boot_arch(power),
         flags: fadt_flags(power),
-        reset_reg: register_at(8, 1, power.reset),
+        reset_reg: register_at(8, 1, u32::from(power.reset)),
         reset_value: power.reset_value,
         arm_boot_arch: 0,
         minor: 5,
-        x_pm1a_evt: register_at(32, 2, power.event),
+        x_pm1a_evt: register_at(32, 2, u32::from(power.event)),
         x_pm1b_evt: NO_REGISTER,
-        x_pm1a_cnt: register_at(16, 2, power.control),
+        x_pm1a_cnt: register_at(16, 2, u32::from(power.control)),
         x_pm1b_cnt: NO_REGISTER,
         x_pm2_cnt: NO_REGISTER,
-        x_pm_tmr: register_at(32, 3, power.timer),
-        x_gpe0: register_at(8 * power.gpe_len, 1, power.gpe),
+        x_pm_tmr: register_at(32, 3, u32::from(power.timer)),
+        x_gpe0: register_at(8 * power.gpe_len, 1, u32::from(power.gpe)),
         x_gpe1: NO_REGISTER,
         sleep_control: NO_REGISTER,
         sleep_status: NO_REGISTER,
@@ -109,8 +109,9 @@ fn boot_arch(power: &Power) -> u16
     if power.keyboard { 3 } else { 0 }
 }
 
-// The register of `width` bits at a port, with accesses of the size `access`; none where the port is 0.
-fn register_at(width: u8, access: u8, port: u16) -> GenericAddress
+/// Returns the register of `width` bits at a port of I/O space, with accesses of the size `access` (ACPI 6.5, 5.2.3.2); none where the
+/// port is 0.
+pub fn register_at(width: u8, access: u8, port: u32) -> GenericAddress
     ensures { result ≡ register_at width access port }
 {
     if port == 0 {

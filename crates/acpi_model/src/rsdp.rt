@@ -16,7 +16,7 @@ pub fn rsdp_rows(oem_id: &[u8; 6], xsdt: Row) -> [Row; 9]
         Row::Bytes(8, ShortBytes::of(b"RSD PTR ")),
         Row::Sum(20),
         Row::Bytes(6, ShortBytes::of(oem_id)),
-        Row::AtLeast(1, 2),
+        Row::Number(1, 2),
         Row::Ignored(4, 0),
         Row::Ignored(4, 36),
         xsdt,

@@ -1,7 +1,9 @@
 -- What a memory shows from its anchors, or the first fault (DMTF DSP0134, version 3.0.0, 5.2.2; ACPI 6.5, 5.2.5).
 use Rattle.std.specs.Prelude.{◌≡◌, ℕ, ◌<◌, ◌⊎◌, List, Option, Result, Err}
 use Rattle.vt_bytes.specs.View.{View}
-use Rattle.acpi_model.specs.Rsdp.{HasRsdp}
+use Rattle.acpi_model.specs.declared.form.Form.{Form}
+use Rattle.acpi_model.specs.Form.{xsdt_form}
+use Rattle.acpi_model.specs.Rsdp.{HasRsdpBy}
 use Rattle.smbios_model.specs.declared.anchor.Anchor.{Anchor}
 use Rattle.smbios_model.specs.declared.smbios.SmbiosTable.{SmbiosTable}
 use Rattle.smbios_model.specs.Anchor.{IsAnchor, HasAnchor, IsRange}
@@ -21,9 +23,12 @@ HasNoAnchor view = (address : ℕ) → HasAnchor view address → ⊥
 abbrev pub IsFirstAnchor : View → ℕ → Type 0
 IsFirstAnchor view = IsLeast (HasAnchor view)
 
--- no valid RSDP stands anywhere
+-- no valid RSDP of a form stands anywhere
+abbrev pub HasNoRsdpBy : Form → View → Type 0
+HasNoRsdpBy form view = (address : ℕ) → HasRsdpBy form view address → ⊥
+
 abbrev pub HasNoRsdp : View → Type 0
-HasNoRsdp view = (address : ℕ) → HasRsdp view address → ⊥
+HasNoRsdp view = HasNoRsdpBy xsdt_form view
 
 -- The least valid anchor leads to bytes that aren't structures, with this first fault.
 pub record RefusesSmbios (view : View) (fault : SmbiosFault) : Type 0 where

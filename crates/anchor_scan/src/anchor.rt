@@ -37,10 +37,11 @@ pub fn find_smbios(memory: &GuestMemory) -> Option<u64>
     ensures some { IfSome result (IsFirstAnchor (seen memory.now.memory)) }
     ensures none { result ≡ None ↔ HasNoAnchor (seen memory.now.memory) }
 {
-    least_anchor::<SmbiosAnchor>(memory)
+    least_anchor(&SmbiosAnchor, memory)
 }
 
 // The kind of anchor that leads to SMBIOS structures.
+#[derive(Clone, Copy)]
 struct SmbiosAnchor;
 
 impl AnchorKind for SmbiosAnchor {
@@ -48,9 +49,9 @@ impl AnchorKind for SmbiosAnchor {
 
     ghost START = { 0xF0000 };
 
-    ghost Stands = { HasAnchor };
+    ghost Stands = { λ kind. HasAnchor };
 
-    fn stands(memory: &GuestMemory, address: u64) -> bool {
+    fn stands(&self, memory: &GuestMemory, address: u64) -> bool {
         let room = BIOS_END - address;
         if room < ANCHOR_SIZE || !has_mark(memory, address) {
             return false;
@@ -64,7 +65,7 @@ impl AnchorKind for SmbiosAnchor {
 
     ghost starts = { refl };
 
-    ghost places = { λ view address has. record {
+    ghost places = { λ kind view address has. record {
       from = has.2.from;
       aligned = has.2.aligned;
       below = Prim.omega (arith, has.2.long_enough, has.2.within);

@@ -1,16 +1,17 @@
 ghost use Rattle.std.specs.Prelude.{◌≡◌, ◌⊎◌, Ok, Err, IfOk, IfErr};
 ghost use Rattle.vt_bytes.specs.Memory.{seen};
 ghost use Rattle.table_model.specs.declared.inventory.Inventory.{Inventory};
-ghost use Rattle.table_model.specs.Inventory.{Shows};
+ghost use Rattle.table_model.specs.Inventory.{Shows, ShowsBy};
 ghost use Rattle.anchor_scan.specs.declared.fault.ScanFault.{ScanFault};
 ghost use Rattle.anchor_scan.specs.declared.fault.ScanFault.TheVariants.{OutOfMemory as NoMemory};
 ghost use Rattle.anchor_scan.specs.Gathered.{inventory_of};
-ghost use Rattle.anchor_scan.specs.Scan.{Refuses, OrOutOfMemory};
+ghost use Rattle.anchor_scan.specs.Scan.{Refuses, RefusesBy, OrOutOfMemory};
 
 use crate::acpi::scan_acpi;
 use crate::fault::ScanFault;
 use crate::smbios::scan_smbios;
 use acpi_decode::Walked;
+use acpi_model::{Form, XSDT_FORM};
 use guest_memory::GuestMemory;
 use smbios_model::SmbiosTable;
 use std::alloc::Global;
@@ -29,15 +30,26 @@ pub fn scan(alloc: Global, memory: &GuestMemory) -> Result<Inventory, ScanFault>
     ensures refused { IfErr result (λ fault. (fault ≡ NoMemory) ⊎ Refuses (seen memory.now.memory) fault) }
     ensures refuses { (fault : ScanFault) → Refuses (seen memory.now.memory) fault → OrOutOfMemory result (Err fault) }
 {
-    scan_both(alloc, memory)
+    scan_by(alloc, memory, XSDT_FORM)
+}
+
+/// Does the same by the form `form`: the ACPI tables are those of its RSDP and its root, and an FADT has as many bytes as it tells at least.
+pub fn scan_by(alloc: Global, memory: &GuestMemory, form: Form) -> Result<Inventory, ScanFault>
+    ensures shown { IfOk result (ShowsBy form memory.now.memory.top (seen memory.now.memory)) }
+    ensures shows { (inventory : Inventory) → ShowsBy form memory.now.memory.top (seen memory.now.memory) inventory
+        → OrOutOfMemory result (Ok inventory) }
+    ensures refused { IfErr result (λ fault. (fault ≡ NoMemory) ⊎ RefusesBy form (seen memory.now.memory) fault) }
+    ensures refuses { (fault : ScanFault) → RefusesBy form (seen memory.now.memory) fault → OrOutOfMemory result (Err fault) }
+{
+    scan_both(alloc, memory, form)
 }
 
 // The same, without that there is one reading.
-fn scan_both(alloc: Global, memory: &GuestMemory) -> Result<Inventory, ScanFault>
-    ensures shown { IfOk result (Shows memory.now.memory.top (seen memory.now.memory)) }
-    ensures refused { IfErr result (λ fault. (fault ≡ NoMemory) ⊎ Refuses (seen memory.now.memory) fault) }
+fn scan_both(alloc: Global, memory: &GuestMemory, form: Form) -> Result<Inventory, ScanFault>
+    ensures shown { IfOk result (ShowsBy form memory.now.memory.top (seen memory.now.memory)) }
+    ensures refused { IfErr result (λ fault. (fault ≡ NoMemory) ⊎ RefusesBy form (seen memory.now.memory) fault) }
 {
-    let acpi = scan_acpi(alloc, memory)?;
+    let acpi = scan_acpi(alloc, memory, form)?;
     let smbios = scan_smbios(alloc, memory)?;
     Ok(inventory_of(memory.top(), acpi, smbios))
 }

@@ -16,30 +16,30 @@ pub(crate) trait AnchorKind {
 
     ghost START: { ℕ };
 
-    // A valid one stands at the address.
-    ghost Stands: { View → ℕ → Type 0 };
+    // A valid one of this kind stands at the address.
+    ghost Stands: { Self → View → ℕ → Type 0 };
 
     /// Tells whether a valid one stands at `address`, where one may stand.
-    fn stands(memory: &GuestMemory, address: u64) -> bool
+    fn stands(&self, memory: &GuestMemory, address: u64) -> bool
         requires from { START ≤ address }
         requires aligned { address % 16 ≡ 0 }
         requires below { address < 0x100000 }
-        ensures { IsTrue result ↔ Stands (seen memory.now.memory) address };
+        ensures { IsTrue result ↔ Stands self.now (seen memory.now.memory) address };
 
     ghost starts: { START % 16 ≡ 0 };
 
     // A valid one stands only where one may stand.
-    ghost places: { (view : View) (address : ℕ) → Stands view address → IsPlace START address };
+    ghost places: { (kind : Self) (view : View) (address : ℕ) → Stands kind view address → IsPlace START address };
 }
 
-/// Finds the least address where a valid anchor of a kind stands in `memory`, or `None` where there is none.
-pub(crate) fn least_anchor<A: AnchorKind>(memory: &GuestMemory) -> Option<u64>
-    ensures some { IfSome result (IsLeast (A.Stands (seen memory.now.memory))) }
-    ensures none { result ≡ None ↔ ((address : ℕ) → A.Stands (seen memory.now.memory) address → ⊥) }
+/// Finds the least address where a valid anchor of this kind stands in `memory`, or `None` where there is none.
+pub(crate) fn least_anchor<A: AnchorKind>(kind: &A, memory: &GuestMemory) -> Option<u64>
+    ensures some { IfSome result (IsLeast (A.Stands kind.now (seen memory.now.memory))) }
+    ensures none { result ≡ None ↔ ((address : ℕ) → A.Stands kind.now (seen memory.now.memory) address → ⊥) }
 {
     let mut address = A::START;
     while address < BIOS_END {
-        if A::stands(memory, address) {
+        if kind.stands(memory, address) {
             return Some(address);
         }
         address += ANCHOR_STEP;

@@ -3,8 +3,8 @@
 //!
 //! An anchor stands on a multiple of 16 below 1 MiB. The contract is that the least valid one of each kind is found exactly, and that [`scan`]
 //! reads the inventory of a memory, which is what both lead to, exactly where the memory shows it, and else tells the first fault: that of the
-//! ACPI tables, or where these have none that of the SMBIOS structures. An anchor that isn't there is no fault. The law is that a memory is
-//! scanned in one way.
+//! ACPI tables, or where these have none that of the SMBIOS structures. An anchor that isn't there is no fault. [`scan_by`] does so by any
+//! form of the ACPI tables. The law is that a memory is scanned in one way by each form.
 #![tactic(auto)]
 
 mod acpi;
@@ -20,7 +20,7 @@ mod view;
 
 pub use anchor::find_smbios;
 pub use fault::ScanFault;
-pub use inventory::scan;
-pub use rsdp::find_rsdp;
+pub use inventory::{scan, scan_by};
+pub use rsdp::{find_rsdp, find_rsdp_by};
 pub use smbios::scan_smbios;
 pub use view::Seen;

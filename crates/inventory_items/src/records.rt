@@ -68,7 +68,6 @@ impl Same for Row {
         match (self, other) {
             (Row::Number(width, value), Row::Number(other_width, other))
             | (Row::BigEndian(width, value), Row::BigEndian(other_width, other))
-            | (Row::AtLeast(width, value), Row::AtLeast(other_width, other))
             | (Row::Ignored(width, value), Row::Ignored(other_width, other)) => {
                 width == other_width && value == other
             }

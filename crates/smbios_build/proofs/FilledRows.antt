@@ -7,7 +7,7 @@ use Rattle.vt_outside.proofs.Names.{length-in_field}
 use Rattle.vt_bytes.specs.Numbers.{le_bytes}
 use Rattle.vt_bytes.proofs.Numbers.{length-le_bytes}
 use Rattle.vt_layout.specs.declared.row.Row.{Row}
-use Rattle.vt_layout.specs.declared.row.Row.TheVariants.{Number, BigEndian, Bytes, Named, StringNumber, AtLeast, Ignored, Reserved, Pointer, Sum}
+use Rattle.vt_layout.specs.declared.row.Row.TheVariants.{Number, BigEndian, Bytes, Named, StringNumber, Ignored, Reserved, Pointer, Sum}
 use Rattle.vt_layout.specs.Rows.{width_of, bytes_of, size, spelled}
 use Rattle.vt_layout.specs.Numbered.{numbered}
 use Rattle.vt_layout.proofs.NumberedRows.{size-numbered}
@@ -24,7 +24,6 @@ length-filled (BigEndian width value) is = length-reverse (le_bytes width value)
 length-filled (Bytes width bytes) is = is
 length-filled (Named name) is = length-in_field name is
 length-filled (StringNumber number) is = length-le_bytes 1 number
-length-filled (AtLeast width value) is = length-le_bytes width value
 length-filled (Ignored width value) is = length-le_bytes width value
 length-filled (Reserved width) is = length-replicate width 0
 length-filled (Pointer width target offset) is = length-le_bytes width offset

@@ -4,7 +4,7 @@ use Rattle.std.proofs.Common.{if◌then◌else◌, arith, refl, ap, sym, ◌∙�
 use Rattle.std.proofs.lemmas.Bool.Decides.{nat_tests}
 use Rattle.vt_bytes.specs.Numbers.{le}
 use Rattle.vt_layout.specs.declared.row.Row.{Row}
-use Rattle.vt_layout.specs.declared.row.Row.TheVariants.{Number, BigEndian, Bytes, Named, StringNumber, AtLeast, Ignored, Reserved, Pointer, Sum}
+use Rattle.vt_layout.specs.declared.row.Row.TheVariants.{Number, BigEndian, Bytes, Named, StringNumber, Ignored, Reserved, Pointer, Sum}
 use Rattle.vt_layout.specs.declared.value.Value.{Value}
 use Rattle.vt_layout.specs.declared.record_reader.RecordFault.{RecordFault}
 use Rattle.vt_layout.specs.declared.record_reader.RecordFault.TheVariants.{TooShort, NoSuchString, OutOfMemory}
@@ -43,7 +43,6 @@ numbers_shaped (BigEndian width n ∷ rows) bytes = numbers_shaped rows (drop wi
 numbers_shaped (Bytes width text ∷ rows) bytes = numbers_shaped rows (drop width bytes)
 numbers_shaped (Named name ∷ rows) bytes = numbers_shaped rows (drop 56 bytes)
 numbers_shaped (StringNumber n ∷ rows) bytes = ap (λ numbers. le (take 1 bytes) ∷ numbers) (numbers_shaped rows (drop 1 bytes))
-numbers_shaped (AtLeast width n ∷ rows) bytes = numbers_shaped rows (drop width bytes)
 numbers_shaped (Ignored width n ∷ rows) bytes = numbers_shaped rows (drop width bytes)
 numbers_shaped (Reserved width ∷ rows) bytes = numbers_shaped rows (drop width bytes)
 numbers_shaped (Pointer width target offset ∷ rows) bytes = numbers_shaped rows (drop width bytes)

@@ -3,7 +3,7 @@ use Rattle.std.proofs.Common.{◌≡◌, ℕ, Bool, true, false, cond, ◌&&◌,
 use Rattle.std.specs.List.{find, list_all, AllByRecursion}
 use Rattle.std.proofs.lemmas.Bool.{and_parts, cases_Bool, eqb-true}
 use Rattle.vt_layout.specs.declared.row.Row.{Row}
-use Rattle.vt_layout.specs.declared.row.Row.TheVariants.{Number, BigEndian, Bytes, Named, StringNumber, AtLeast, Ignored, Reserved, Pointer, Sum}
+use Rattle.vt_layout.specs.declared.row.Row.TheVariants.{Number, BigEndian, Bytes, Named, StringNumber, Ignored, Reserved, Pointer, Sum}
 use Rattle.vt_layout.specs.Rows.{size}
 use Rattle.vt_layout.specs.Reading.{IsReadable}
 use Rattle.smbios_model.specs.StructureKinds.{StructureKind}
@@ -12,7 +12,6 @@ use Rattle.smbios_model.specs.Structures.{kinds, kind_for}
 -- the test of rows that any bytes can be
 is_readable : Row → Bool
 is_readable (Named name) = false
-is_readable (AtLeast width value) = false
 is_readable (Pointer width target offset) = false
 is_readable (Sum covers) = false
 is_readable row = true
@@ -26,7 +25,6 @@ readable_row (StringNumber number) is = tt
 readable_row (Ignored width value) is = tt
 readable_row (Reserved width) is = tt
 readable_row (Named name) is = absurd (cc)
-readable_row (AtLeast width value) is = absurd (cc)
 readable_row (Pointer width target offset) is = absurd (cc)
 readable_row (Sum covers) is = absurd (cc)
 

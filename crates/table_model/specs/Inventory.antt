@@ -3,23 +3,32 @@ use Rattle.std.specs.Prelude.{◌≡◌, ℕ, ◌*◌, List, Option, Some, None,
 use Rattle.vt_bytes.specs.View.{View}
 use Rattle.machine_desc.specs.declared.machine.Machine.{Machine}
 use Rattle.table_model.specs.declared.inventory.Inventory.{Inventory}
+use Rattle.acpi_model.specs.declared.form.Form.{Form}
+use Rattle.acpi_model.specs.Form.{xsdt_form}
 use Rattle.acpi_model.specs.declared.acpi.AcpiTables.{AcpiTables}
-use Rattle.acpi_model.specs.Rsdp.{HasRsdp}
-use Rattle.acpi_model.specs.Acpi.{ShowsAcpi, acpi_of, id_of}
+use Rattle.acpi_model.specs.Rsdp.{HasRsdpBy}
+use Rattle.acpi_model.specs.Acpi.{ShowsAcpiBy, acpi_of, id_of}
 use Rattle.smbios_model.specs.Anchor.{HasAnchor}
 use Rattle.smbios_model.specs.Smbios.{ShowsSmbios, smbios_of}
 
--- A view shows ACPI tables, and the id of a generation to which they lead: those of its RSDP, or none exactly where no valid RSDP stands.
-abbrev pub ShowsTables : View → Option AcpiTables → Option (List ℕ) → Type 0
-ShowsTables view None id = ((address : ℕ) → HasRsdp view address → ⊥) × (id ≡ None)
-ShowsTables view (Some tables) id = ShowsAcpi view tables id
+-- A view shows ACPI tables of a form, and the id of a generation to which they lead: those of its RSDP, or none exactly where no valid RSDP
+-- of the form stands.
+abbrev pub ShowsTablesBy : Form → View → Option AcpiTables → Option (List ℕ) → Type 0
+ShowsTablesBy form view None id = ((address : ℕ) → HasRsdpBy form view address → ⊥) × (id ≡ None)
+ShowsTablesBy form view (Some tables) id = ShowsAcpiBy form view tables id
 
--- A memory below a top shows the inventory: its top; the table of its SMBIOS anchor, or none exactly where no valid anchor stands;
--- and its ACPI tables with the id of its generation.
-pub record Shows (top : ℕ) (view : View) (inventory : Inventory) : Type 0 where
+-- A memory below a top shows the inventory by a form: its top; the table of its SMBIOS anchor, or none exactly where no valid anchor stands;
+-- and its ACPI tables of the form with the id of its generation.
+pub record ShowsBy (form : Form) (top : ℕ) (view : View) (inventory : Inventory) : Type 0 where
   pub its_top : inventory.top ≡ top
   pub smbios : MatchOption inventory.smbios ((address : ℕ) → HasAnchor view address → ⊥) (ShowsSmbios view)
-  pub acpi : ShowsTables view inventory.acpi inventory.generation
+  pub acpi : ShowsTablesBy form view inventory.acpi inventory.generation
+
+abbrev pub ShowsTables : View → Option AcpiTables → Option (List ℕ) → Type 0
+ShowsTables view tables id = ShowsTablesBy xsdt_form view tables id
+
+abbrev pub Shows : ℕ → View → Inventory → Type 0
+Shows top view inventory = ShowsBy xsdt_form top view inventory
 
 -- the inventory of a machine
 abbrev pub inventory_of : Machine → Inventory

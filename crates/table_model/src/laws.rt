@@ -2,10 +2,11 @@
 
 ghost use Rattle.std.specs.Prelude.{◌≡◌, ℕ};
 ghost use Rattle.vt_bytes.specs.View.{View};
+ghost use Rattle.acpi_model.specs.declared.form.Form.{Form};
 ghost use Rattle.table_model.specs.declared.inventory.Inventory.{Inventory};
-ghost use Rattle.table_model.specs.Inventory.{Shows};
+ghost use Rattle.table_model.specs.Inventory.{ShowsBy};
 
-/// States that at most one inventory is shown by a view of memory below a top.
+/// States that at most one inventory is shown by a view of memory below a top, by each form.
 pub fn one_inventory_is_shown()
-    ensures { (top : ℕ) (view : View) (a b : Inventory) → Shows top view a → Shows top view b → a ≡ b }
+    ensures { (form : Form) (top : ℕ) (view : View) (a b : Inventory) → ShowsBy form top view a → ShowsBy form top view b → a ≡ b }
 {}

@@ -1,6 +1,7 @@
 -- RSDPs in a view, by their bytes.
 use Rattle.std.proofs.Common.{◌≡◌, ℕ, ◌+◌, ◌%◌, ◌≤◌, List, take, codes, Some, arith, ap, ◌∙◌}
 use Rattle.std.specs.Option.{option_map}
+use Rattle.std.proofs.lemmas.Bool.{le-leb}
 use Rattle.vt_bytes.specs.Numbers.{le, byte_sum}
 use Rattle.vt_bytes.specs.Parts.{part}
 use Rattle.vt_bytes.specs.View.{View, bytes_in, number_in}
@@ -31,6 +32,8 @@ rsdp_stands view address bytes from aligned within shown signed has =
         from = from;
         aligned = aligned;
         within = within;
-        shown = (signature, (first, (maker, ((_, revision, has.revision), (tt, (tt, (xsdt, (all, (tt, tt)))))))));
+        revision = le (part bytes 15 1);
+        revised = le-leb 2 (le (part bytes 15 1)) has.revision;
+        shown = (signature, (first, (maker, (revision, (tt, (tt, (xsdt, (all, (tt, tt)))))))));
       },
     )

@@ -14,6 +14,8 @@ mod ends;
 #[cfg(test)]
 mod every;
 #[cfg(test)]
+mod forms;
+#[cfg(test)]
 mod generations;
 #[cfg(test)]
 mod long;

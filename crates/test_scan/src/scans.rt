@@ -41,15 +41,16 @@ fn both_anchors(rt: HostRuntime) -> Result<(), Fail> {
 
 // What a scan tells, in words.
 fn scanned(alloc: Global, memory: &GuestMemory) -> Result<Bytes, Fail> {
-    let mut told = Bytes::new(alloc);
-    push_and_drop(&mut told, scan(alloc, memory)?)?;
-    Ok(told)
+    Ok(told_of(alloc, scan(alloc, memory)?)?)
 }
 
-fn push_and_drop(told: &mut Bytes, inventory: Inventory) -> Result<(), OutOfMemory> {
-    let pushed = push_inventory(told, &inventory);
+/// Tells an inventory, in words.
+pub fn told_of(alloc: Global, inventory: Inventory) -> Result<Bytes, OutOfMemory> {
+    let mut told = Bytes::new(alloc);
+    let pushed = push_inventory(&mut told, &inventory);
     drop(inventory);
-    pushed
+    pushed?;
+    Ok(told)
 }
 
 fn push_inventory(told: &mut Bytes, inventory: &Inventory) -> Result<(), OutOfMemory> {

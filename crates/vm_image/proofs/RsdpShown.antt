@@ -24,5 +24,7 @@ rsdp_shown view place_of address oem_id xsdt six few from aligned within held = 
   from = omega arith;
   aligned = aligned;
   within = within;
+  revision = 2;
+  revised = refl;
   shown = shown_rows view place_of address address (rsdp_rows oem_id (table_pointer xsdt)) (rsdp_fits oem_id xsdt six few) held;
 }

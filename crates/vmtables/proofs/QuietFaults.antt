@@ -6,6 +6,7 @@ use Rattle.command_acts.specs.declared.fault.LoadFault.{LoadFault}
 use Rattle.command_acts.specs.declared.fault.LoadFault.TheVariants as load
 use Rattle.vt_words.specs.declared.setting.Setting.{Setting}
 use Rattle.machine_desc.specs.declared.machine.Machine.{Machine}
+use Rattle.acpi_model.specs.declared.form.Form.{Form}
 use Rattle.vmtables.specs.Boot.{BootMakes, FailsToBoot, too_large, not_built, without_room, without_memory}
 use Rattle.vmtables.specs.Boot as boot_made
 use Rattle.vmtables.specs.Build.{CannotBeBuilt}
@@ -55,13 +56,13 @@ unread_quiet : (bytes : List ℕ) (f : Fault) → IsUnread bytes f → IsQuiet (
 unread_quiet bytes f (not_container read) = quiet_image
 unread_quiet bytes f no_room = quiet_memory
 
-unlisted_quiet : (bytes : List ℕ) (f : Fault) → IsUnlisted bytes f → IsQuiet (status_of_fault f)
-unlisted_quiet bytes f (no_dump read line) = quiet_dump
-unlisted_quiet bytes f (tables refuses) = quiet_tables
-unlisted_quiet bytes f memory = quiet_memory
+unlisted_quiet : (form : Form) (bytes : List ℕ) (f : Fault) → IsUnlisted form bytes f → IsQuiet (status_of_fault f)
+unlisted_quiet form bytes f (no_dump read line) = quiet_dump
+unlisted_quiet form bytes f (tables refuses) = quiet_tables
+unlisted_quiet form bytes f memory = quiet_memory
 
-pub list_quiet : (bytes : List ℕ) (f : Fault) → CannotBeListed bytes f → IsQuiet (status_of_fault f)
-list_quiet bytes f cannot = unlisted_quiet bytes f (why_unlisted bytes f cannot)
+pub list_quiet : (form : Form) (bytes : List ℕ) (f : Fault) → CannotBeListed form bytes f → IsQuiet (status_of_fault f)
+list_quiet form bytes f cannot = unlisted_quiet form bytes f (why_unlisted form bytes f cannot)
 
 load_quiet : (why : LoadFault) → IsQuiet (status_of_load why)
 load_quiet load.NoScript = quiet_image
@@ -69,12 +70,12 @@ load_quiet load.ScriptLength = quiet_image
 load_quiet (load.Command index cause) = quiet_image
 load_quiet (load.NoRoom index) = quiet_room
 
-untold_quiet : (bytes : List ℕ) (f : Fault) → IsUntold bytes f → IsQuiet (status_of_fault f)
-untold_quiet bytes f (unlisted cannot) = list_quiet bytes f cannot
-untold_quiet bytes f (no_machine fails) = quiet_tables
+untold_quiet : (form : Form) (bytes : List ℕ) (f : Fault) → IsUntold form bytes f → IsQuiet (status_of_fault f)
+untold_quiet form bytes f (unlisted cannot) = list_quiet form bytes f cannot
+untold_quiet form bytes f (no_machine fails) = quiet_tables
 
-pub tell_quiet : (bytes : List ℕ) (f : Fault) → CannotBeTold bytes f → IsQuiet (status_of_fault f)
-tell_quiet bytes f cannot = untold_quiet bytes f (why_untold bytes f cannot)
+pub tell_quiet : (form : Form) (bytes : List ℕ) (f : Fault) → CannotBeTold form bytes f → IsQuiet (status_of_fault f)
+tell_quiet form bytes f cannot = untold_quiet form bytes f (why_untold form bytes f cannot)
 
 undescribed_quiet : (bytes : List ℕ) (f : Fault) → IsUndescribed bytes f → IsQuiet (status_of_fault f)
 undescribed_quiet bytes f (none_read read) = quiet_description

@@ -18,6 +18,7 @@ use Rattle.vt_words.specs.declared.setting.Setting.{Setting}
 use Rattle.cfg_directory.specs.Items.{total_size}
 use Rattle.image_files.specs.Items.{image_limit}
 use Rattle.vm_image.specs.Image.{image_items}
+use Rattle.acpi_model.specs.declared.form.Form.{Form}
 use Rattle.vmtables.specs.Boot.{BootMakes, FailsToBoot, too_large, not_built, not_read}
 use Rattle.vmtables.specs.Build.{CannotBeBuilt}
 use Rattle.vmtables.specs.Calls.{Answering, Seen}
@@ -70,24 +71,24 @@ why_unread bytes fault.WriteFault is = absurd is
 why_unread bytes fault.InputTooLong is = absurd is
 
 -- a fault for which nothing is listed
-pub data IsUnlisted (bytes : List ℕ) : Fault → Type 0 where
-  no_dump : {why : DumpFault} {line : ℕ} → read_dump_so bytes ≡ Err why → line ≡ faulty_line bytes why → IsUnlisted bytes (fault.Dump why line)
-  tables : {why : ScanFault} → DumpRefuses bytes why → IsUnlisted bytes (fault.Tables why)
-  memory : IsUnlisted bytes fault.OutOfMemory
+pub data IsUnlisted (form : Form) (bytes : List ℕ) : Fault → Type 0 where
+  no_dump : {why : DumpFault} {line : ℕ} → read_dump_so bytes ≡ Err why → line ≡ faulty_line bytes why → IsUnlisted form bytes (fault.Dump why line)
+  tables : {why : ScanFault} → DumpRefuses form bytes why → IsUnlisted form bytes (fault.Tables why)
+  memory : IsUnlisted form bytes fault.OutOfMemory
 
-pub why_unlisted : (bytes : List ℕ) (f : Fault) → CannotBeListed bytes f → IsUnlisted bytes f
-why_unlisted bytes (fault.Dump why line) is = no_dump is.0 is.1
-why_unlisted bytes (fault.Tables why) is = tables is
-why_unlisted bytes fault.OutOfMemory is = memory
-why_unlisted bytes (fault.Container why) is = absurd is
-why_unlisted bytes (fault.Description why) is = absurd is
-why_unlisted bytes fault.ImageTooLarge is = absurd is
-why_unlisted bytes (fault.NotProfile item) is = absurd is
-why_unlisted bytes fault.ReadFault is = absurd is
-why_unlisted bytes fault.Usage is = absurd is
-why_unlisted bytes (fault.Load why) is = absurd is
-why_unlisted bytes fault.WriteFault is = absurd is
-why_unlisted bytes fault.InputTooLong is = absurd is
+pub why_unlisted : (form : Form) (bytes : List ℕ) (f : Fault) → CannotBeListed form bytes f → IsUnlisted form bytes f
+why_unlisted form bytes (fault.Dump why line) is = no_dump is.0 is.1
+why_unlisted form bytes (fault.Tables why) is = tables is
+why_unlisted form bytes fault.OutOfMemory is = memory
+why_unlisted form bytes (fault.Container why) is = absurd is
+why_unlisted form bytes (fault.Description why) is = absurd is
+why_unlisted form bytes fault.ImageTooLarge is = absurd is
+why_unlisted form bytes (fault.NotProfile item) is = absurd is
+why_unlisted form bytes fault.ReadFault is = absurd is
+why_unlisted form bytes fault.Usage is = absurd is
+why_unlisted form bytes (fault.Load why) is = absurd is
+why_unlisted form bytes fault.WriteFault is = absurd is
+why_unlisted form bytes fault.InputTooLong is = absurd is
 
 -- a fault for which no machine is read
 pub data IsUndescribed (bytes : List ℕ) : Fault → Type 0 where
@@ -154,38 +155,39 @@ imageless_container m f (Ok made) none is = absurd is
 imageless_container m f (Err ended) none is = λ bytes read. rw is (unbuilt_machine bytes m f read none)
 
 -- a fault for which no machine is told of a dump: one for which nothing is listed, or that of an inventory which is no machine's
-pub data IsUntold (bytes : List ℕ) : Fault → Type 0 where
-  unlisted : {f : Fault} → CannotBeListed bytes f → IsUntold bytes f
-  no_machine : {item : ℕ} → DumpFails bytes item → IsUntold bytes (fault.NotProfile item)
+pub data IsUntold (form : Form) (bytes : List ℕ) : Fault → Type 0 where
+  unlisted : {f : Fault} → CannotBeListed form bytes f → IsUntold form bytes f
+  no_machine : {item : ℕ} → DumpFails form bytes item → IsUntold form bytes (fault.NotProfile item)
 
-pub why_untold : (bytes : List ℕ) (f : Fault) → CannotBeTold bytes f → IsUntold bytes f
-why_untold bytes (fault.NotProfile item) is = no_machine is
-why_untold bytes (fault.Dump why line) is = unlisted is
-why_untold bytes (fault.Tables why) is = unlisted is
-why_untold bytes fault.OutOfMemory is = unlisted is
-why_untold bytes (fault.Container why) is = absurd is
-why_untold bytes (fault.Description why) is = absurd is
-why_untold bytes fault.ImageTooLarge is = absurd is
-why_untold bytes fault.ReadFault is = absurd is
-why_untold bytes fault.Usage is = absurd is
-why_untold bytes (fault.Load why) is = absurd is
-why_untold bytes fault.WriteFault is = absurd is
-why_untold bytes fault.InputTooLong is = absurd is
+pub why_untold : (form : Form) (bytes : List ℕ) (f : Fault) → CannotBeTold form bytes f → IsUntold form bytes f
+why_untold form bytes (fault.NotProfile item) is = no_machine is
+why_untold form bytes (fault.Dump why line) is = unlisted is
+why_untold form bytes (fault.Tables why) is = unlisted is
+why_untold form bytes fault.OutOfMemory is = unlisted is
+why_untold form bytes (fault.Container why) is = absurd is
+why_untold form bytes (fault.Description why) is = absurd is
+why_untold form bytes fault.ImageTooLarge is = absurd is
+why_untold form bytes fault.ReadFault is = absurd is
+why_untold form bytes fault.Usage is = absurd is
+why_untold form bytes (fault.Load why) is = absurd is
+why_untold form bytes fault.WriteFault is = absurd is
+why_untold form bytes fault.InputTooLong is = absurd is
 
 -- and so is nothing of a dump whose memory shows no machine's inventory
-untold_fault : (bytes : List ℕ) (inventory : Inventory) (cause : DescribeFault) (f : Fault) → DumpShows bytes inventory
+untold_fault : (form : Form) (bytes : List ℕ) (inventory : Inventory) (cause : DescribeFault) (f : Fault) → DumpShows form bytes inventory
     → (cause ≡ describing.OutOfMemory) ⊎ ((item : ℕ) × (cause ≡ describing.NotProfile item) × IsFirstFailing inventory item)
-    → IsOfDescribing cause f → CannotBeTold bytes f
-untold_fault bytes inventory describing.OutOfMemory f shows why is = rw is tt
-untold_fault bytes inventory (describing.NotProfile item) f shows (inl same) is = absurd (cc)
-untold_fault bytes inventory (describing.NotProfile item) f shows (inr (first, same, fails)) is =
+    → IsOfDescribing cause f → CannotBeTold form bytes f
+untold_fault form bytes inventory describing.OutOfMemory f shows why is = rw is tt
+untold_fault form bytes inventory (describing.NotProfile item) f shows (inl same) is = absurd (cc)
+untold_fault form bytes inventory (describing.NotProfile item) f shows (inr (first, same, fails)) is =
     rw is (record { inventory = inventory; shows = shows; fails = subst (IsFirstFailing inventory) (cc) fails })
 
-pub undescribed_so : {A : Type 0} (bytes : List ℕ) (inventory : Inventory) (cause : DescribeFault) (r : Result A Fault) → DumpShows bytes inventory
+pub undescribed_so : (form : Form) {A : Type 0} (bytes : List ℕ) (inventory : Inventory) (cause : DescribeFault) (r : Result A Fault)
+    → DumpShows form bytes inventory
     → (cause ≡ describing.OutOfMemory) ⊎ ((item : ℕ) × (cause ≡ describing.NotProfile item) × IsFirstFailing inventory item)
-    → IsErrAnd r (IsOfDescribing cause) → IfErr r (CannotBeTold bytes)
-undescribed_so bytes inventory cause (Ok done) shows why is = absurd is
-undescribed_so bytes inventory cause (Err f) shows why is = untold_fault bytes inventory cause f shows why is
+    → IsErrAnd r (IsOfDescribing cause) → IfErr r (CannotBeTold form bytes)
+undescribed_so form bytes inventory cause (Ok done) shows why is = absurd is
+undescribed_so form bytes inventory cause (Err f) shows why is = untold_fault form bytes inventory cause f shows why is
 
 -- a boot of which no machine was read leaves all as it was
 pub unread_boot : (Gives : Answering) (setting : Setting) (bytes : List ℕ) (seen : Seen) (f : Fault) (r : Result (Unit {0}) Fault)

@@ -1,5 +1,5 @@
 -- Commands that are done, unless memory runs out: a lawful input, and nothing outside failed.
-use Rattle.std.specs.Prelude.{◌≡◌, ◌≢◌, ◌⊎◌, ℕ, ◌≤◌, List, length, map, Some, Ok}
+use Rattle.std.specs.Prelude.{Bool, false, ◌≡◌, ◌≢◌, ◌⊎◌, ℕ, ◌≤◌, List, length, map, Some, Ok}
 use Rattle.vt_outside.specs.Placement.{Range}
 use Rattle.vt_outside.specs.Stream.{SinkSeen, SourceSeen, Rose, Bytes, behind}
 use Rattle.cfg_directory.specs.declared.item.Item.{Item}
@@ -7,7 +7,8 @@ use Rattle.cfg_directory.specs.Container.{read_so}
 use Rattle.cfg_directory.specs.Items.{total_size}
 use Rattle.vt_bytes.specs.Memory.{Memory, seen}
 use Rattle.anchor_scan.specs.declared.fault.ScanFault.{ScanFault}
-use Rattle.anchor_scan.specs.Scan.{Refuses}
+use Rattle.anchor_scan.specs.Scan.{RefusesBy}
+use Rattle.acpi_model.specs.Form.{form_of}
 use Rattle.desc_toml.specs.Reading.{Reads}
 use Rattle.cfg_directory.specs.Files.{files_of}
 use Rattle.image_files.specs.Items.{image_limit}
@@ -106,33 +107,33 @@ IsRefused why call =
 
 -- of the dump of a memory whose tables have no fault
 abbrev pub IsListComplete : Answering → Type 0
-IsListComplete Gives = (bytes : List ℕ) (memory : Memory) (call : Call Gives Listing) → IsDumpOf memory bytes
-    → ((why : ScanFault) → Refuses (seen memory) why → ⊥) → IsFed bytes call → IsDone call
+IsListComplete Gives = (legacy : Bool) (bytes : List ℕ) (memory : Memory) (call : Call Gives (Listing legacy)) → IsDumpOf memory bytes
+    → ((why : ScanFault) → RefusesBy (form_of legacy) (seen memory) why → ⊥) → IsFed bytes call → IsDone call
 
 -- what such a memory shows is listed
 abbrev pub IsShownListed : Answering → Type 0
-IsShownListed Gives = (bytes : List ℕ) (inventory : Inventory) (call : Call Gives Listing) → DumpShows bytes inventory → IsFed bytes call
-    → IsListed inventory call
+IsShownListed Gives = (legacy : Bool) (bytes : List ℕ) (inventory : Inventory) (call : Call Gives (Listing legacy))
+    → DumpShows (form_of legacy) bytes inventory → IsFed bytes call → IsListed inventory call
 
 -- a fault of the bytes is told, unless memory runs out
 abbrev pub IsListExact : Answering → Type 0
-IsListExact Gives = (bytes : List ℕ) (why : Fault) (call : Call Gives Listing) → why ≢ fault.OutOfMemory → CannotBeListed bytes why
-    → IsFed bytes call → IsRefused why call
+IsListExact Gives = (legacy : Bool) (bytes : List ℕ) (why : Fault) (call : Call Gives (Listing legacy)) → why ≢ fault.OutOfMemory
+    → CannotBeListed (form_of legacy) bytes why → IsFed bytes call → IsRefused why call
 
 -- of the dump of a memory that shows an inventory of which no item fails
 abbrev pub IsDecodeComplete : Answering → Type 0
-IsDecodeComplete Gives = (bytes : List ℕ) (inventory : Inventory) (call : Call Gives Decode) → DumpShows bytes inventory
-    → ((item : ℕ) → IsFirstFailing inventory item → ⊥) → IsFed bytes call → IsDone call
+IsDecodeComplete Gives = (legacy : Bool) (bytes : List ℕ) (inventory : Inventory) (call : Call Gives (Decode legacy))
+    → DumpShows (form_of legacy) bytes inventory → ((item : ℕ) → IsFirstFailing inventory item → ⊥) → IsFed bytes call → IsDone call
 
 -- the machine is told whose inventory such a memory shows
 abbrev pub IsShownTold : Answering → Type 0
-IsShownTold Gives = (bytes : List ℕ) (machine : Machine) (call : Call Gives Decode) → IsAccepted machine → HasFittingFields machine
-    → DumpShows bytes (inventory_of machine) → IsFed bytes call → IsTold machine call
+IsShownTold Gives = (legacy : Bool) (bytes : List ℕ) (machine : Machine) (call : Call Gives (Decode legacy)) → IsAccepted machine → HasFittingFields machine
+    → DumpShows (form_of legacy) bytes (inventory_of machine) → IsFed bytes call → IsTold machine call
 
 -- a fault of the bytes, or the first item that fails, is told, unless memory runs out
 abbrev pub IsDecodeExact : Answering → Type 0
-IsDecodeExact Gives = (bytes : List ℕ) (why : Fault) (call : Call Gives Decode) → why ≢ fault.OutOfMemory → CannotBeTold bytes why
-    → IsFed bytes call → IsRefused why call
+IsDecodeExact Gives = (legacy : Bool) (bytes : List ℕ) (why : Fault) (call : Call Gives (Decode legacy)) → why ≢ fault.OutOfMemory
+    → CannotBeTold (form_of legacy) bytes why → IsFed bytes call → IsRefused why call
 
 -- A call of `boot` that is done wrote this text of a description: the description is all that its source had, and the text is what its out took.
 pub record HasBooted {Gives : Answering} {setting : Setting} (description text : List ℕ) (boot : Call Gives (Boot setting)) : Type 0 where
@@ -144,16 +145,16 @@ pub record HasBooted {Gives : Answering} {setting : Setting} (description text :
 
 -- What `boot` wrote of a description is listed as what the machine shows that is described.
 abbrev pub IsBootListed : Answering → Answering → Type 0
-IsBootListed Gives Others = (setting : Setting) (description text : List ℕ) (boot : Call Gives (Boot setting)) (list : Call Others Listing)
+IsBootListed Gives Others = (setting : Setting) (description text : List ℕ) (boot : Call Gives (Boot setting)) (list : Call Others (Listing false))
     → HasBooted description text boot → IsFed text list → (machine : Machine) × Reads description machine × IsListed (inventory_of machine) list
 
 -- What `boot` wrote of a description is decoded: a description of the machine that is described.
 abbrev pub IsBootTold : Answering → Answering → Type 0
-IsBootTold Gives Others = (setting : Setting) (description text : List ℕ) (boot : Call Gives (Boot setting)) (decode : Call Others Decode)
+IsBootTold Gives Others = (setting : Setting) (description text : List ℕ) (boot : Call Gives (Boot setting)) (decode : Call Others (Decode false))
     → HasBooted description text boot → IsFed text decode → (machine : Machine) × Reads description machine × IsTold machine decode
 
 -- What `boot` wrote of a description is never refused by `decode`, neither as no dump nor for its tables, whatever the streams do.
 abbrev pub IsBootNeverRefused : Answering → Answering → Type 0
-IsBootNeverRefused Gives Others = (setting : Setting) (description text : List ℕ) (boot : Call Gives (Boot setting)) (decode : Call Others Decode)
+IsBootNeverRefused Gives Others = (setting : Setting) (description text : List ℕ) (boot : Call Gives (Boot setting)) (decode : Call Others (Decode false))
     → HasBooted description text boot → decode.source.left ≡ Some text
     → (decode.answer ≢ status.DumpRefused) × (decode.answer ≢ status.TablesRefused)

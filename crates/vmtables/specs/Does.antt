@@ -2,6 +2,7 @@
 use Rattle.std.specs.Prelude.{◌≡◌, ◌≢◌, Option, Some, None, Err}
 use Rattle.vt_words.specs.declared.command.Command.{Command}
 use Rattle.vt_words.specs.declared.command.Command.TheVariants.{Boot, Load, Build, Decode, List, Gen}
+use Rattle.acpi_model.specs.Form.{form_of}
 use Rattle.vmtables.specs.Boot.{BootMakes}
 use Rattle.vmtables.specs.Build.{BuildMakes}
 use Rattle.vmtables.specs.Calls.{Answering, Unread, Doing, ReadsAll, ReadsNone}
@@ -23,8 +24,8 @@ Does Gives None = IsUsage
 Does Gives (Some (Boot setting)) = ReadsAll (BootMakes Gives setting)
 Does Gives (Some (Load options)) = ReadsAll (LoadMakes Gives options.top_mib options.setting)
 Does Gives (Some Build) = ReadsAll BuildMakes
-Does Gives (Some Decode) = ReadsAll DecodeMakes
-Does Gives (Some List) = ReadsAll ListMakes
+Does Gives (Some (Decode legacy)) = ReadsAll (DecodeMakes (form_of legacy))
+Does Gives (Some (List legacy)) = ReadsAll (ListMakes (form_of legacy))
 Does Gives (Some (Gen processors)) = ReadsNone (GenMakes Gives processors)
 
 -- a status that refuses neither an image, nor a dump, nor tables

@@ -11,22 +11,23 @@ use crate::decode_command::{decode, list};
 use crate::fault::Fault;
 use crate::generate_command::generate;
 use crate::load_command::load;
+use acpi_model::Form;
 use firmware_load::{Schedule, World};
 use std::alloc::Global;
 use vt_outside::{Sink, Source};
 use vt_words::{Command, read_words};
 use zone_alloc::ZoneAlloc;
 
-/// Carries out the command that `words`, those after the program's name, ask for. `boot` reads a description from `source`, builds
-/// the machine's files, loads them into the memory of `world`, which holds the fill byte of the words at the beginning, writes its dump
-/// to `out` and flushes it. `load` does the same with the files of a container, which it reads from `source`, and a top of memory from
-/// the words. `place` gives the files their places, by the policy of the words. The load takes the events that `plan` has for the seed of
-/// the words, one after the other: steps of the firmware and of its device, and writes of other processors, which come between those.
-/// `build` writes the container of a machine's files, `decode` the description of the machine that the memory shows of which it reads the
-/// dump, and `decode --list` the list of what that memory shows; these leave `world`, `place` and `plan` as they were. `gen` reads nothing:
-/// it boots, as `boot` does by the lowest places and with no other events, the machine that is generated of a number of processors, and
-/// writes how many files, bytes, commands and rows of a dump it has. All memory comes from `alloc`, before the load, and before the list.
-/// Nothing is written to `out` before all but the writing is done.
+/// Carries out the command that `words`, those after the program's name, ask for. `boot` reads a description from `source`, builds the
+/// machine's files, loads them into the memory of `world`, which holds the fill byte of the words at the beginning, writes its dump to
+/// `out` and flushes it. `load` does the same with the files of a container, which it reads from `source`, and a top of memory from the
+/// words. `place` gives the files their places, by the policy of the words. The load takes the events that `plan` has for the seed of the
+/// words, one after the other: steps of the firmware and of its device, and writes of other processors, which come between those. `build`
+/// writes the container of a machine's files, `decode` the description of the machine that the memory shows of which it reads the dump, and
+/// `decode --list` the list of what that memory shows, each by the ACPI tables of an XSDT or, with `--legacy`, by those of an RSDT; these
+/// leave `world`, `place` and `plan` as they were. `gen` reads nothing: it boots, as `boot` does by the lowest places and with no other
+/// events, the machine that is generated of a number of processors, and writes how many files, bytes, commands and rows of a dump it has.
+/// All memory comes from `alloc`, before the load, and before the list. Nothing is written to `out` before all but the writing is done.
 ///
 /// Returns the fault for which the command wasn't carried out whole. `Usage` means that `words` are no command; nothing is then read.
 /// `ReadFault` means that `source` failed, `InputTooLong` that it gave more than 67,108,864 bytes, `Description` that its bytes describe
@@ -75,8 +76,8 @@ pub fn carry_out<S: Source, K: Sink, A: ZoneAlloc, C: Schedule>(
             )
         }
         Some(Command::Build) => build(alloc, source, out),
-        Some(Command::Decode) => decode(alloc, source, out),
-        Some(Command::List) => list(alloc, source, out),
+        Some(Command::Decode { legacy }) => decode(alloc, Form::of(legacy), source, out),
+        Some(Command::List { legacy }) => list(alloc, Form::of(legacy), source, out),
         Some(Command::Gen(processors)) => generate(alloc, processors, out, place, plan, world),
         None => Err(Fault::Usage),
     }

@@ -1,6 +1,7 @@
 ghost use Rattle.std.specs.Prelude.{◌≡◌, ◌≢◌, ◌≤◌, ◌<◌, ◌^◌, length, Err, IfErr, IfOk};
 ghost use Rattle.machine_desc.specs.Fields.{HasFittingFields};
 ghost use Rattle.machine_desc.specs.Rules.{IsAccepted};
+ghost use Rattle.acpi_model.specs.declared.form.Form.{Form};
 ghost use Rattle.table_describe.specs.Failing.{IsFirstFailing};
 ghost use Rattle.table_model.specs.Inventory.{inventory_of};
 ghost use Rattle.vt_bytes.specs.Memory.{IsMemory};
@@ -13,7 +14,8 @@ ghost use Rattle.vmtables.specs.Outcome.{faulty_line, input_limit, status_of};
 use crate::fault::Fault;
 use crate::input::read_to_end;
 use crate::writing::{write_list, write_text};
-use anchor_scan::scan;
+use acpi_model::Form;
+use anchor_scan::scan_by;
 use desc_toml::write_machine;
 use guest_memory::GuestMemory;
 use machine_desc::Machine;
@@ -24,50 +26,52 @@ use table_describe::describe;
 use table_model::Inventory;
 use vt_outside::{Bytes, Sink, Source};
 
-/// Reads a dump, and writes the list of what its memory shows from its anchors.
+/// Reads a dump, and writes the list of what its memory shows from its anchors, by the form `form` of its ACPI tables.
 pub(crate) fn list<S: Source, K: Sink>(
     alloc: Global,
+    form: Form,
     source: &mut S,
     out: &mut K,
 ) -> Result<(), Fault>
-    ensures ran { (seen : Seen) → Ran (ReadsAll ListMakes seen seen) result
+    ensures ran { (seen : Seen) → Ran (ReadsAll (ListMakes form) seen seen) result
         (S.seen source.old) (S.seen source.new) (K.seen out.old) (K.seen out.new) }
     ensures known { result ≢ Err Fault.Usage }
     ensures streams { Streams (status_of result)
         (S.seen source.old) (S.seen source.new) (K.seen out.old) (K.seen out.new) }
 {
     let bytes = read_to_end(alloc, source)?;
-    let inventory = inventory_in(alloc, bytes)?;
+    let inventory = inventory_in(alloc, form, bytes)?;
     let written = write_list(&inventory, out);
     drop(inventory);
     written
 }
 
-/// Reads a dump, and writes the description of the machine that its memory shows from its anchors.
+/// Reads a dump, and writes the description of the machine that its memory shows from its anchors, by the form `form` of its ACPI tables.
 pub(crate) fn decode<S: Source, K: Sink>(
     alloc: Global,
+    form: Form,
     source: &mut S,
     out: &mut K,
 ) -> Result<(), Fault>
-    ensures ran { (seen : Seen) → Ran (ReadsAll DecodeMakes seen seen) result
+    ensures ran { (seen : Seen) → Ran (ReadsAll (DecodeMakes form) seen seen) result
         (S.seen source.old) (S.seen source.new) (K.seen out.old) (K.seen out.new) }
     ensures known { result ≢ Err Fault.Usage }
     ensures streams { Streams (status_of result)
         (S.seen source.old) (S.seen source.new) (K.seen out.old) (K.seen out.new) }
 {
     let bytes = read_to_end(alloc, source)?;
-    let text = description_in(alloc, bytes)?;
+    let text = description_in(alloc, form, bytes)?;
     write_text(text.as_slice(), out)
 }
 
 // The description of the machine that the memory shows of which these bytes are the dump.
-fn description_in(alloc: Global, bytes: Bytes) -> Result<Bytes, Fault>
+fn description_in(alloc: Global, form: Form, bytes: Bytes) -> Result<Bytes, Fault>
     requires { length bytes ≤ input_limit }
-    ensures ok { IfOk result (λ text. (machine : _) × IsAccepted machine × HasFittingFields machine × DumpShows bytes (inventory_of machine)
+    ensures ok { IfOk result (λ text. (machine : _) × IsAccepted machine × HasFittingFields machine × DumpShows form bytes (inventory_of machine)
         × IsDescriptionOf machine text) }
-    ensures err { IfErr result (CannotBeTold bytes) }
+    ensures err { IfErr result (CannotBeTold form bytes) }
 {
-    let machine = machine_in(alloc, bytes)?;
+    let machine = machine_in(alloc, form, bytes)?;
     numbers_of_a_machine_fit(&machine);
     let text = write_machine(alloc, &machine);
     drop(machine);
@@ -75,27 +79,27 @@ fn description_in(alloc: Global, bytes: Bytes) -> Result<Bytes, Fault>
 }
 
 // The machine that the memory shows of which these bytes are the dump.
-fn machine_in(alloc: Global, bytes: Bytes) -> Result<Machine, Fault>
+fn machine_in(alloc: Global, form: Form, bytes: Bytes) -> Result<Machine, Fault>
     requires { length bytes ≤ input_limit }
     ensures accepted { IfOk result IsAccepted }
-    ensures shown { IfOk result (λ machine. DumpShows bytes (inventory_of machine)) }
-    ensures err { IfErr result (CannotBeTold bytes) }
+    ensures shown { IfOk result (λ machine. DumpShows form bytes (inventory_of machine)) }
+    ensures err { IfErr result (CannotBeTold form bytes) }
 {
-    let inventory = inventory_in(alloc, bytes)?;
+    let inventory = inventory_in(alloc, form, bytes)?;
     let machine = describe(alloc, &inventory);
     drop(inventory);
     Ok(machine?)
 }
 
 // What the memory shows of which these bytes are the dump. They are given up as soon as the memory is read.
-fn inventory_in(alloc: Global, bytes: Bytes) -> Result<Inventory, Fault>
+fn inventory_in(alloc: Global, form: Form, bytes: Bytes) -> Result<Inventory, Fault>
     requires { length bytes ≤ input_limit }
-    ensures ok { IfOk result (DumpShows bytes) }
-    ensures err { IfErr result (CannotBeListed bytes) }
+    ensures ok { IfOk result (DumpShows form bytes) }
+    ensures err { IfErr result (CannotBeListed form bytes) }
 {
     let memory = memory_in(alloc, bytes.as_slice())?;
     drop(bytes);
-    Ok(scan(alloc, &memory)?)
+    Ok(scan_by(alloc, &memory, form)?)
 }
 
 // The memory of which these bytes are the dump.
@@ -104,7 +108,7 @@ fn memory_in(alloc: Global, bytes: &[u8]) -> Result<GuestMemory, Fault>
     ensures text { IfOk result (λ held. dump held.memory ≡ bytes.now) }
     ensures lawful { IfOk result (λ held. IsMemory held.memory) }
     ensures holds { IfOk result (λ held. HoldsBytes held.memory) }
-    ensures err { IfErr result (CannotBeListed bytes.now) }
+    ensures err { IfErr result (λ fault. (form : Form) → CannotBeListed form bytes.now fault) }
 {
     match read_dump(alloc, bytes) {
         Ok(memory) => Ok(memory),

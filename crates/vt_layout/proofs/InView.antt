@@ -6,7 +6,7 @@ use Rattle.vt_bytes.specs.Numbers.{le, be}
 use Rattle.vt_bytes.specs.View.{View, bytes_in}
 use Rattle.vt_bytes.proofs.Views.{bytes_in-split}
 use Rattle.vt_layout.specs.declared.row.Row.{Row}
-use Rattle.vt_layout.specs.declared.row.Row.TheVariants.{Number, BigEndian, Bytes, Named, StringNumber, AtLeast, Ignored, Reserved, Pointer, Sum}
+use Rattle.vt_layout.specs.declared.row.Row.TheVariants.{Number, BigEndian, Bytes, Named, StringNumber, Ignored, Reserved, Pointer, Sum}
 use Rattle.vt_layout.specs.Rows.{width_of, size}
 use Rattle.vt_layout.specs.Shown.{RowShown, Shown}
 use Rattle.vt_layout.specs.Reading.{IsReadable, row_in, rows_in}
@@ -21,7 +21,6 @@ row_shown view start address (StringNumber number) bytes is there = ap (option_m
 row_shown view start address (Ignored width value) bytes is there = tt
 row_shown view start address (Reserved width) bytes is there = tt
 row_shown view start address (Named name) bytes is there = absurd is
-row_shown view start address (AtLeast width value) bytes is there = absurd is
 row_shown view start address (Pointer width target offset) bytes is there = absurd is
 row_shown view start address (Sum covers) bytes is there = absurd is
 

@@ -4,7 +4,7 @@ use Rattle.std.specs.List.{list_all, AllByRecursion}
 use Rattle.std.proofs.lemmas.Bool.{and_parts}
 use Rattle.std.proofs.lemmas.Bool.Decides.{nat_tests}
 use Rattle.vt_layout.specs.declared.row.Row.{Row}
-use Rattle.vt_layout.specs.declared.row.Row.TheVariants.{Number, BigEndian, Bytes, Named, StringNumber, AtLeast, Ignored, Reserved, Pointer, Sum}
+use Rattle.vt_layout.specs.declared.row.Row.TheVariants.{Number, BigEndian, Bytes, Named, StringNumber, Ignored, Reserved, Pointer, Sum}
 use Rattle.vt_layout.specs.Rows.{size}
 use Rattle.vt_layout.specs.Strings.{numbers_from}
 use Rattle.vt_layout.specs.Numbered.{numbered}
@@ -23,7 +23,6 @@ readable_row (Plain (Ignored width value)) is = tt
 readable_row (Plain (Reserved width)) is = tt
 readable_row (Plain (Named name)) is = absurd (cc is)
 readable_row (Plain (StringNumber number)) is = absurd (cc is)
-readable_row (Plain (AtLeast width value)) is = absurd (cc is)
 readable_row (Plain (Pointer width target offset)) is = absurd (cc is)
 readable_row (Plain (Sum covers)) is = absurd (cc is)
 

@@ -2,7 +2,7 @@
 use Rattle.std.proofs.Common.{◌≡◌, ℕ, ◌+◌, List, [], ◌∷◌, refl, ap, subst, sym, ◌∙◌}
 use Rattle.vt_bytes.specs.View.{View}
 use Rattle.vt_layout.specs.declared.row.Row.{Row}
-use Rattle.vt_layout.specs.declared.row.Row.TheVariants.{Number, BigEndian, Bytes, Named, StringNumber, AtLeast, Ignored, Reserved, Pointer, Sum}
+use Rattle.vt_layout.specs.declared.row.Row.TheVariants.{Number, BigEndian, Bytes, Named, StringNumber, Ignored, Reserved, Pointer, Sum}
 use Rattle.vt_layout.specs.Rows.{width_of, shape_of, shape}
 use Rattle.vt_layout.specs.Shown.{RowShown, Shown}
 
@@ -13,7 +13,6 @@ same_row view start address (BigEndian m x) (BigEndian n y) is are same = cc
 same_row view start address (Bytes m xs) (Bytes n ys) is are same = cc
 same_row view start address (Named xs) (Named ys) is are same = cc
 same_row view start address (StringNumber x) (StringNumber y) is are same = cc
-same_row view start address (AtLeast m x) (AtLeast n y) is are same = same
 same_row view start address (Ignored m x) (Ignored n y) is are same = same
 same_row view start address (Reserved m) (Reserved n) is are same = same
 same_row view start address (Pointer m s x) (Pointer n t y) is are same = absurd is

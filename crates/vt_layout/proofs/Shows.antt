@@ -9,7 +9,7 @@ use Rattle.vt_bytes.specs.Numbers.{le, be, le_bytes}
 use Rattle.vt_bytes.proofs.Numbers.{le-le_bytes}
 use Rattle.vt_bytes.specs.View.{View}
 use Rattle.vt_layout.specs.declared.row.Row.{Row}
-use Rattle.vt_layout.specs.declared.row.Row.TheVariants.{Number, BigEndian, Bytes, Named, StringNumber, AtLeast, Ignored, Reserved, Pointer, Sum}
+use Rattle.vt_layout.specs.declared.row.Row.TheVariants.{Number, BigEndian, Bytes, Named, StringNumber, Ignored, Reserved, Pointer, Sum}
 use Rattle.vt_layout.specs.Rows.{width_of, size, IsRow, linked_row, linked}
 use Rattle.vt_layout.specs.Shown.{RowShown, Shown, RowHeld, Held}
 
@@ -22,8 +22,6 @@ shown_row view place_of start address (Bytes width bytes) is held = held
 shown_row view place_of start address (Named name) is held =
     ap (option_map (λ field. name_of (before_nul field))) held ∙ ap Some (name-in_field name is)
 shown_row view place_of start address (StringNumber number) is held = ap (option_map le) held ∙ ap Some (le-le_bytes 1 number is)
-shown_row view place_of start address (AtLeast width value) is held =
-    (value, ap (option_map le) held ∙ ap Some (le-le_bytes width value is.1), omega arith)
 shown_row view place_of start address (Ignored width value) is held = tt
 shown_row view place_of start address (Reserved width) is held = tt
 shown_row view place_of start address (Pointer width target offset) is held = held

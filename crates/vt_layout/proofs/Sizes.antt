@@ -7,7 +7,7 @@ use Rattle.vt_outside.proofs.Names.{length-in_field}
 use Rattle.vt_bytes.specs.Numbers.{le_bytes}
 use Rattle.vt_bytes.proofs.Numbers.{length-le_bytes}
 use Rattle.vt_layout.specs.declared.row.Row.{Row}
-use Rattle.vt_layout.specs.declared.row.Row.TheVariants.{Number, BigEndian, Bytes, Named, StringNumber, AtLeast, Ignored, Reserved, Pointer, Sum}
+use Rattle.vt_layout.specs.declared.row.Row.TheVariants.{Number, BigEndian, Bytes, Named, StringNumber, Ignored, Reserved, Pointer, Sum}
 use Rattle.vt_layout.specs.Rows.{width_of, bytes_of, size, spelled, IsRow}
 
 -- as many bytes as the row has
@@ -17,7 +17,6 @@ length-bytes_of (BigEndian width value) is = length-reverse (le_bytes width valu
 length-bytes_of (Bytes width bytes) is = is
 length-bytes_of (Named name) is = length-in_field name is
 length-bytes_of (StringNumber number) is = length-le_bytes 1 number
-length-bytes_of (AtLeast width value) is = length-le_bytes width value
 length-bytes_of (Ignored width value) is = length-le_bytes width value
 length-bytes_of (Reserved width) is = length-replicate width 0
 length-bytes_of (Pointer width target offset) is = length-le_bytes width offset

@@ -5,7 +5,7 @@ use Rattle.std.proofs.lemmas.Bool.{and_parts}
 use Rattle.std.proofs.lemmas.List.{take_at}
 use Rattle.vt_bytes.specs.View.{View, bytes_in, view_of}
 use Rattle.vt_layout.specs.declared.row.Row.{Row}
-use Rattle.vt_layout.specs.declared.row.Row.TheVariants.{Number, BigEndian, Bytes, Named, StringNumber, AtLeast, Ignored, Reserved, Pointer, Sum}
+use Rattle.vt_layout.specs.declared.row.Row.TheVariants.{Number, BigEndian, Bytes, Named, StringNumber, Ignored, Reserved, Pointer, Sum}
 use Rattle.vt_layout.specs.declared.value.Value.{Value}
 use Rattle.vt_layout.specs.declared.value.Value.TheVariants as values
 use Rattle.vt_layout.specs.Rows.{IsRow, IsPlain, size, shape, spelled, string_numbers}
@@ -67,7 +67,6 @@ one_field (Plain (Reserved width)) is = record {
 }
 one_field (Plain (Named name)) is = absurd (cc is)
 one_field (Plain (StringNumber number)) is = absurd (cc is)
-one_field (Plain (AtLeast width value)) is = absurd (cc is)
 one_field (Plain (Pointer width target offset)) is = absurd (cc is)
 one_field (Plain (Sum covers)) is = absurd (cc is)
 

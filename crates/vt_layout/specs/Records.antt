@@ -5,7 +5,7 @@ use Rattle.std.specs.List.{list_all}
 use Rattle.vt_bytes.specs.Numbers.{le}
 use Rattle.vt_bytes.specs.View.{View}
 use Rattle.vt_layout.specs.declared.row.Row.{Row}
-use Rattle.vt_layout.specs.declared.row.Row.TheVariants.{Named, StringNumber, AtLeast, Pointer, Sum}
+use Rattle.vt_layout.specs.declared.row.Row.TheVariants.{Named, StringNumber, Pointer, Sum}
 use Rattle.vt_layout.specs.declared.value.Value.{Value}
 use Rattle.vt_layout.specs.declared.value.Value.TheVariants as values
 use Rattle.vt_layout.specs.declared.record_reader.RecordFault.{RecordFault}
@@ -17,12 +17,11 @@ use Rattle.vt_layout.specs.Reading.{row_in}
 use Rattle.vt_layout.specs.Values.{value_of, values_of}
 use Rattle.vt_layout.specs.Fields.{Field, Plain, field_rows, field_values, numbered_rows}
 
--- The test of a field whose row any bytes can be. What a reader tests (a file's name, a number that is at least another, a sum), and a
+-- The test of a field whose row any bytes can be. What a reader tests (a file's name, a sum), and a
 -- pointer, are no such fields; nor is a string's number with no text.
 abbrev pub is_readable : Field → Bool
 is_readable (Plain (Named name)) = false
 is_readable (Plain (StringNumber number)) = false
-is_readable (Plain (AtLeast width value)) = false
 is_readable (Plain (Pointer width target offset)) = false
 is_readable (Plain (Sum covers)) = false
 is_readable field = true

@@ -3,7 +3,7 @@ use Rattle.std.specs.Prelude.{◌≡◌, ℕ, zero, suc, ◌+◌, ◌^◌, ◌<�
 use Rattle.vt_outside.specs.Name.{IsName, in_field}
 use Rattle.vt_bytes.specs.Numbers.{le_bytes, be_bytes}
 use Rattle.vt_layout.specs.declared.row.Row.{Row}
-use Rattle.vt_layout.specs.declared.row.Row.TheVariants.{Number, BigEndian, Bytes, Named, StringNumber, AtLeast, Ignored, Reserved, Pointer, Sum}
+use Rattle.vt_layout.specs.declared.row.Row.TheVariants.{Number, BigEndian, Bytes, Named, StringNumber, Ignored, Reserved, Pointer, Sum}
 
 -- how many bytes a row has
 abbrev pub width_of : Row → ℕ
@@ -12,7 +12,6 @@ width_of (BigEndian width value) = width
 width_of (Bytes width bytes) = width
 width_of (Named name) = 56
 width_of (StringNumber number) = 1
-width_of (AtLeast width value) = width
 width_of (Ignored width value) = width
 width_of (Reserved width) = width
 width_of (Pointer width target offset) = width
@@ -26,7 +25,6 @@ bytes_of (BigEndian width value) = be_bytes width value
 bytes_of (Bytes width bytes) = bytes
 bytes_of (Named name) = in_field name
 bytes_of (StringNumber number) = le_bytes 1 number
-bytes_of (AtLeast width value) = le_bytes width value
 bytes_of (Ignored width value) = le_bytes width value
 bytes_of (Reserved width) = replicate width 0
 bytes_of (Pointer width target offset) = le_bytes width offset
@@ -56,7 +54,6 @@ IsRow (BigEndian width value) = (width ≤ 8) × (value < 256 ^ width)
 IsRow (Bytes width bytes) = length bytes ≡ width
 IsRow (Named name) = IsName name
 IsRow (StringNumber number) = number < 256
-IsRow (AtLeast width value) = (width ≤ 8) × (value < 256 ^ width)
 IsRow (Ignored width value) = (width ≤ 8) × (value < 256 ^ width)
 IsRow (Reserved width) = Unit {0}
 IsRow (Pointer width target offset) = IsPointerSize width × (offset + places_end ≤ 256 ^ width)

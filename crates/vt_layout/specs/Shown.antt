@@ -1,23 +1,21 @@
 -- Rows that a view shows, as a reader takes them, and rows that a view holds, as they were written.
-use Rattle.std.specs.Prelude.{◌≡◌, ℕ, ◌+◌, ◌≤◌, List, [], ◌∷◌, Some, Ok}
+use Rattle.std.specs.Prelude.{◌≡◌, ℕ, ◌+◌, List, [], ◌∷◌, Some, Ok}
 use Rattle.std.specs.Option.{option_map}
 use Rattle.vt_outside.specs.Name.{name_of, before_nul}
 use Rattle.vt_bytes.specs.Numbers.{be, byte_sum}
 use Rattle.vt_bytes.specs.View.{View, bytes_in, number_in}
 use Rattle.vt_layout.specs.declared.row.Row.{Row}
-use Rattle.vt_layout.specs.declared.row.Row.TheVariants.{Number, BigEndian, Bytes, Named, StringNumber, AtLeast, Ignored, Reserved, Pointer, Sum}
+use Rattle.vt_layout.specs.declared.row.Row.TheVariants.{Number, BigEndian, Bytes, Named, StringNumber, Ignored, Reserved, Pointer, Sum}
 use Rattle.vt_layout.specs.Rows.{width_of, bytes_of}
 
--- A row of the layout that begins at start is shown at an address: its number stands there, its bytes, its name, or a number that
--- is at least its own; the layout's first bytes sum to zero. What is ignored may be anything, and a pointer is shown only once
--- its target's place is added.
+-- A row of the layout that begins at start is shown at an address: its number stands there, its bytes, or its name; the layout's
+-- first bytes sum to zero. What is ignored may be anything, and a pointer is shown only once its target's place is added.
 abbrev pub RowShown : View → ℕ → ℕ → Row → Type 0
 RowShown view start address (Number width value) = number_in view address width ≡ Some value
 RowShown view start address (BigEndian width value) = option_map be (bytes_in view address width) ≡ Some value
 RowShown view start address (Bytes width bytes) = bytes_in view address width ≡ Some bytes
 RowShown view start address (Named name) = option_map (λ field. name_of (before_nul field)) (bytes_in view address 56) ≡ Some (Ok name)
 RowShown view start address (StringNumber number) = number_in view address 1 ≡ Some number
-RowShown view start address (AtLeast width value) = (number : ℕ) × (number_in view address width ≡ Some number) × (value ≤ number)
 RowShown view start address (Ignored width value) = Unit {0}
 RowShown view start address (Reserved width) = Unit {0}
 RowShown view start address (Pointer width target offset) = ⊥

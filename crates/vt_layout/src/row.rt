@@ -17,8 +17,6 @@ pub enum Row {
     Named(Name),
     /// The number of a string of an SMBIOS structure in one byte: strings count from 1, and 0 is none (DSP0134 6.1.3).
     StringNumber(u8),
-    /// A number, low byte first, that is at least this where it is read: its width, and the value that is written.
-    AtLeast(u8, u64),
     /// A number, low byte first, that no reader looks at: its width, and the value that is written.
     Ignored(u8, u64),
     /// So many bytes that no reader looks at, and that are written as zeros.
@@ -39,7 +37,6 @@ impl Row {
             Row::Number(width, _)
             | Row::BigEndian(width, _)
             | Row::Bytes(width, _)
-            | Row::AtLeast(width, _)
             | Row::Ignored(width, _)
             | Row::Reserved(width)
             | Row::Pointer(width, _, _) => u32::from(*width),

@@ -30,8 +30,7 @@ pub fn put_row(bytes: &mut Bytes, row: &Row) -> Result<(), OutOfMemory>
     ensures err { OnErr result (bytes.new ≡ bytes.old) }
 {
     match row {
-        Row::Number(width, value) | Row::AtLeast(width, value) | Row::Ignored(width, value) =>
-            put_number(bytes, *width, *value),
+        Row::Number(width, value) | Row::Ignored(width, value) => put_number(bytes, *width, *value),
         Row::BigEndian(width, value) => put_big_endian(bytes, *width, *value),
         Row::Bytes(_, text) => bytes.extend(text.as_slice()),
         Row::Named(name) => bytes.extend(&name.bytes()),

@@ -39,7 +39,9 @@ lawful_build : (values : List Value) → fits build values ≡ true → IsLawful
 lawful_build values fit = tt
 
 lawful_decode : (values : List Value) → fits decode values ≡ true → IsLawful (decode_of values)
-lawful_decode values fit = elim (flag_of (first values)) as (λ listed. IsLawful (if listed then Listing else Decode)) [ true ↦ tt | false ↦ tt ]
+lawful_decode values fit =
+    let legacy = flag_of (value_at 1 values) in
+    elim (flag_of (first values)) as (λ listed. IsLawful (if listed then Listing legacy else Decode legacy)) [ true ↦ tt | false ↦ tt ]
 
 lawful_gen : (values : List Value) → fits generate values ≡ true → IsLawful (gen_of values)
 lawful_gen [] fit = absurd (cc)

@@ -6,7 +6,7 @@ use Rattle.std.specs.Str.{bytes_eq}
 use Rattle.word_schema.specs.declared.value.Value.{Value}
 use Rattle.word_schema.specs.Forms.{Schema}
 use Rattle.word_schema.specs.Given.{values_of}
-use Rattle.word_schema.specs.Taken.{first, rest, flag_of, number_to}
+use Rattle.word_schema.specs.Taken.{first, rest, value_at, flag_of, number_to}
 use Rattle.vt_words.specs.declared.command.Command.{Command}
 use Rattle.vt_words.specs.declared.command.Command.TheVariants.{Boot, Load, Build, Decode, List as Listing, Gen}
 use Rattle.vt_words.specs.Rows.{boot, build, decode, generate, load}
@@ -23,7 +23,7 @@ abbrev pub load_of : List Value → Command
 load_of values = Load (record { top_mib = number_to 3072 (first values); setting = setting_of (rest values) })
 
 abbrev pub decode_of : List Value → Command
-decode_of values = if flag_of (first values) then Listing else Decode
+decode_of values = if flag_of (first values) then Listing (flag_of (value_at 1 values)) else Decode (flag_of (value_at 1 values))
 
 abbrev pub gen_of : List Value → Command
 gen_of values = Gen (number_to 4096 (first values))
@@ -55,6 +55,6 @@ abbrev pub IsLawful : Command → Type 0
 IsLawful (Boot setting) = IsSetting setting
 IsLawful (Load options) = (64 ≤ options.top_mib) × (options.top_mib ≤ 3072) × IsSetting options.setting
 IsLawful Build = ⊤
-IsLawful Decode = ⊤
-IsLawful Listing = ⊤
+IsLawful (Decode legacy) = ⊤
+IsLawful (Listing legacy) = ⊤
 IsLawful (Gen processors) = (1 ≤ processors) × (processors ≤ 4096)

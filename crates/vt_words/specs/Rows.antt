@@ -43,6 +43,10 @@ setting_rows = fill_row ∷ policy_row ∷ seed_row ∷ []
 abbrev pub list_row : Row
 list_row = flag (codes "--list") (Some (values.Flag false))
 
+-- that the tables of an RSDT are read
+abbrev pub legacy_row : Row
+legacy_row = flag (codes "--legacy") (Some (values.Flag false))
+
 abbrev pub build : Schema
 build = command (codes "build") []
 
@@ -53,7 +57,7 @@ abbrev pub load : Schema
 load = command (codes "load") (top_row ∷ setting_rows)
 
 abbrev pub decode : Schema
-decode = command (codes "decode") (list_row ∷ [])
+decode = command (codes "decode") (list_row ∷ legacy_row ∷ [])
 
 -- how many processors a machine is generated of
 abbrev pub generate : Schema

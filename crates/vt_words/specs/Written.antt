@@ -14,16 +14,16 @@ abbrev pub row_of : Command → CommandRow
 row_of (Boot setting) = row boot boot_of
 row_of (Load options) = row load load_of
 row_of Build = row build build_of
-row_of Decode = row decode decode_of
-row_of Listing = row decode decode_of
+row_of (Decode legacy) = row decode decode_of
+row_of (Listing legacy) = row decode decode_of
 row_of (Gen processors) = row generate gen_of
 
 abbrev pub values_for : Command → List Value
 values_for (Boot setting) = setting_values setting
 values_for (Load options) = values.Number options.top_mib ∷ setting_values options.setting
 values_for Build = []
-values_for Decode = values.Flag false ∷ []
-values_for Listing = values.Flag true ∷ []
+values_for (Decode legacy) = values.Flag false ∷ values.Flag legacy ∷ []
+values_for (Listing legacy) = values.Flag true ∷ values.Flag legacy ∷ []
 values_for (Gen processors) = values.Number processors ∷ []
 
 -- a command's name, its operands, and each option whose value isn't its default

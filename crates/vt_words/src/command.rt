@@ -16,10 +16,10 @@ pub enum Command {
     Load(LoadOptions),
     /// Builds a machine's files, and gives their container.
     Build,
-    /// Reads a dump, and describes the machine that its memory shows.
-    Decode,
-    /// Reads a dump, and lists what its memory shows.
-    List,
+    /// Reads a dump, and describes the machine that its memory shows: by its legacy ACPI tables, or by those of an XSDT.
+    Decode { legacy: bool },
+    /// Reads a dump, and lists what its memory shows: by its legacy ACPI tables, or by those of an XSDT.
+    List { legacy: bool },
     /// Loads the files of a machine that is generated of so many processors, and counts what it has.
     Gen(u32),
 }
@@ -91,11 +91,13 @@ fn decode_of(words: &[String]) -> Option<Command>
     ensures { result ≡ option_map decode_of (values_of decode (map string_bytes words.now)) }
 {
     let mut values = read_values(&DECODE, words)?;
-    if values.take_flag() {
-        Some(Command::List)
+    let list = values.take_flag();
+    let legacy = values.take_flag();
+    Some(if list {
+        Command::List { legacy }
     } else {
-        Some(Command::Decode)
-    }
+        Command::Decode { legacy }
+    })
 }
 
 fn gen_of(words: &[String]) -> Option<Command>

@@ -70,6 +70,12 @@ const LIST: OptionSchema = flag!(
     "lists the SMBIOS structures and the ACPI tables that a guest finds in this memory, whatever machine has them"
 );
 
+const LEGACY: OptionSchema = flag!(
+    "--legacy",
+    Some(Value::Flag(false)),
+    "reads the ACPI tables of an RSDP of revision 0 or 1 and its RSDT, with FADTs from 116 bytes on, as SeaBIOS leaves them to most guests"
+);
+
 const PROCESSORS: OperandSchema = OperandSchema {
     form: Form::Number(1, 4096),
     placeholder: "N",
@@ -109,7 +115,7 @@ pub(crate) const LOAD: CommandSchema = CommandSchema {
 pub(crate) const DECODE: CommandSchema = CommandSchema {
     name: "decode",
     operands: &[],
-    options: &[LIST],
+    options: &[LIST, LEGACY],
     exclusive: &[],
     input: "DUMP",
     output: "DESCRIPTION",

@@ -20,8 +20,11 @@ struct Row(&'static str, Command);
 const COMMANDS: &[Row] = &[
     // each command with its defaults
     Row("|build", Command::Build),
-    Row("|decode", Command::Decode),
-    Row("|decode|--list", Command::List),
+    Row("|decode", Command::Decode { legacy: false }),
+    Row("|decode|--legacy", Command::Decode { legacy: true }),
+    Row("|decode|--list", Command::List { legacy: false }),
+    Row("|decode|--list|--legacy", Command::List { legacy: true }),
+    Row("|decode|--legacy|--list", Command::List { legacy: true }),
     Row("|gen|1", Command::Gen(1)),
     Row("|gen|300", Command::Gen(300)),
     Row("|gen|4096", Command::Gen(4096)),

@@ -43,7 +43,7 @@ fn rows_with_pointers(rt: HostRuntime) -> Result<(), Fail> {
         &rt,
         rt.alloc(),
         &[
-            Row::AtLeast(1, 5),
+            Row::Number(1, 5),
             Row::Pointer(8, a, 0x10),
             Row::Pointer(4, b, 0x0102),
         ],

@@ -1,4 +1,4 @@
-use Rattle.std.proofs.Common.{◌≤◌, length, subst, sym, arith}
+use Rattle.std.proofs.Common.{◌≤◌, length, subst, sym}
 use Rattle.machine_desc.proofs.Accepted.{few_at}
 use Rattle.acpi_model.proofs.machine_madt.entries_of.Goals as goal
 

@@ -6,7 +6,7 @@ abbrev pub invariant-loop-address : goal.invariant-loop-address
 invariant-loop-address g l = record {
   from : g.A.AnchorKind.START ≤ l.address;
   aligned : l.address % 16 ≡ 0;
-  none : (other : ℕ) → other < l.address → g.A.AnchorKind.Stands (seen l.memory.memory) other → ⊥;
+  none : (other : ℕ) → other < l.address → g.A.AnchorKind.Stands l.kind (seen l.memory.memory) other → ⊥;
 }
 
 abbrev pub decreases-loop-address : goal.decreases-loop-address
