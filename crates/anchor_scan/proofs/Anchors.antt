@@ -1,5 +1,5 @@
--- Anchors in a memory, from what is read at an address where one may stand.
-use Rattle.std.proofs.Common.{◌≡◌, ℕ, ◌+◌, ◌%◌, ◌≤◌, Some, arith, ap, subst, sym, ◌∙◌}
+-- 64-bit entry points in a memory, from what is read at an address where one may stand.
+use Rattle.std.proofs.Common.{◌≡◌, ℕ, ◌+◌, ◌%◌, ◌≤◌, Some, codes, arith, ap, subst, sym, ◌∙◌}
 use Rattle.std.specs.Option.{option_map}
 use Rattle.vt_bytes.specs.Numbers.{byte_sum}
 use Rattle.vt_bytes.specs.View.{View, bytes_in}
@@ -11,7 +11,7 @@ use Rattle.anchor_scan.specs.Found.{HasMark, HasNumbers}
 use Rattle.anchor_scan.proofs.ReadAndSeen.{low_ram}
 
 -- An anchor stands where its mark and its numbers do, its length is in range, and its bytes sum to zero.
-pub anchor_stands : (m : Memory) (address : ℕ) (a : Anchor) (structures : ℕ) → 0xF0000 ≤ address → address % 16 ≡ 0 → HasMark (seen m) address
+pub anchor_stands : (m : Memory) (address : ℕ) (a : Anchor) (structures : ℕ) → 0xF0000 ≤ address → address % 16 ≡ 0 → HasMark (seen m) address (codes "_SM3_")
     → HasNumbers (seen m) address a structures → 0x18 ≤ a.length → address + a.length ≤ 0x100000 → 0 ≡ byte_sum (bytes_at m address a.length)
     → HasAnchor (seen m) address
 anchor_stands m address a structures from aligned mark numbers long_enough within sum =

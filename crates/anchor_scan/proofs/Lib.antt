@@ -1,5 +1,7 @@
 pub mod Anchors
 pub mod Copied
+pub mod OldAnchors
+pub mod AnchorsByForm
 pub mod ReadAndSeen
 pub mod Rsdps
 pub mod Scanned

@@ -7,12 +7,13 @@ use Rattle.acpi_model.specs.declared.form.Form.{Form}
 use Rattle.acpi_model.specs.Rsdp.{HasRsdpBy}
 use Rattle.acpi_model.specs.Acpi.{LeadsToAcpiBy}
 use Rattle.acpi_decode.specs.declared.fault.AcpiFault.{AcpiFault}
-use Rattle.acpi_decode.specs.declared.fault.AcpiFault.TheVariants as acpi
 use Rattle.acpi_decode.specs.declared.walked.Walked.{Walked}
 use Rattle.acpi_decode.specs.Faults.{FirstBy}
 use Rattle.acpi_decode.proofs.Meanings.{one_meaning as one_acpi_meaning}
+use Rattle.smbios_model.specs.declared.anchor.AnchorForm.{AnchorForm}
+use Rattle.smbios_model.specs.declared.anchor.AnchorForm.TheVariants.{Smbios3}
 use Rattle.smbios_model.specs.declared.smbios.SmbiosTable.{SmbiosTable}
-use Rattle.smbios_model.specs.Smbios.{ShowsSmbios}
+use Rattle.smbios_model.specs.Smbios.{ShowsSmbios, ShowsSmbiosBy}
 use Rattle.smbios_model.proofs.OneSmbios.{Leads}
 use Rattle.smbios_decode.specs.declared.fault.SmbiosFault.{SmbiosFault}
 use Rattle.smbios_decode.specs.declared.fault.SmbiosFault.TheVariants as smbios
@@ -22,7 +23,7 @@ use Rattle.table_model.specs.Inventory.{ShowsTablesBy, ShowsBy}
 use Rattle.table_model.proofs.OneInventory.{one_inventory}
 use Rattle.anchor_scan.specs.declared.fault.ScanFault.{ScanFault}
 use Rattle.anchor_scan.specs.declared.fault.ScanFault.TheVariants.{Acpi, Smbios, OutOfMemory}
-use Rattle.anchor_scan.specs.Shown.{HasNoAnchor, RefusesSmbios}
+use Rattle.anchor_scan.specs.Shown.{HasNoAnchor, HasNoAnchorBy, RefusesSmbios, RefusesSmbiosBy}
 use Rattle.anchor_scan.specs.Scan.{of_smbios, RefusesAcpi, ShowsSomeTables, RefusesBy, ScannedAs, OrOutOfMemory}
 use Rattle.anchor_scan.specs.Gathered.{IsShown, inventory_of}
 use Rattle.anchor_scan.proofs.Scanned.{none_refused, shown_is_read, told_is_refused}
@@ -49,8 +50,8 @@ shown_or_refused form view None id fault none refuses = none.0 refuses.rsdp (has
 shown_or_refused form view (Some t) id fault shows refuses =
     let leads = shows.leads in
     let place : shows.rsdp ≡ refuses.rsdp =
-    one_least (HasRsdpBy form view) shows.rsdp refuses.rsdp (t.oem_id, leads.xsdt, leads.valid) (has_rsdp form view refuses.rsdp fault refuses.first) shows.least
-    refuses.least in
+    one_least (HasRsdpBy form view) shows.rsdp refuses.rsdp (t.oem_id, leads.xsdt, leads.valid) (has_rsdp form view refuses.rsdp fault refuses.first)
+    shows.least refuses.least in
     let walked : Walked = record { tables = t; generation = id } in
     let same = one_acpi_meaning form view refuses.rsdp (Ok walked) (Err fault)
     (subst (λ a. LeadsToAcpiBy form view a t id) place leads) refuses.first in
@@ -64,34 +65,35 @@ one_acpi_fault form view f g is also =
     cc same
 
 -- and of SMBIOS
-leads_refused : (view : View) (fault : SmbiosFault) (is : RefusesSmbios view fault) → Leads view is.address is.anchor is.structures is.bytes
-leads_refused view fault is = record { valid = is.valid; least = is.least; range = is.range }
+leads_refused : (form : AnchorForm) (view : View) (fault : SmbiosFault) (is : RefusesSmbiosBy form view fault)
+    → Leads form view is.address is.anchor is.structures is.bytes
+leads_refused form view fault is = record { valid = is.valid; least = is.least; range = is.range }
 
-smbios_never_both : (view : View) (part : Option SmbiosTable) (fault : SmbiosFault) → MatchOption part (HasNoAnchor view) (ShowsSmbios view)
-    → RefusesSmbios view fault → ⊥
-smbios_never_both view None fault none refuses = none_refused view fault none refuses
-smbios_never_both view (Some t) fault shows refuses =
-    let there = shown_is_read view refuses.address refuses.anchor refuses.structures refuses.bytes t (leads_refused view fault refuses) shows in
+smbios_never_both : (form : AnchorForm) (view : View) (part : Option SmbiosTable) (fault : SmbiosFault)
+    → MatchOption part (HasNoAnchorBy form view) (ShowsSmbiosBy form view) → RefusesSmbiosBy form view fault → ⊥
+smbios_never_both form view None fault none refuses = none_refused form view fault none refuses
+smbios_never_both form view (Some t) fault shows refuses =
+    let there = shown_is_read form view refuses.address refuses.anchor refuses.structures refuses.bytes t (leads_refused form view fault refuses) shows in
     let same = one_smbios_meaning refuses.bytes (Ok t.structures) (Err fault) there.read refuses.refused in
     absurd (cc same)
 
-one_smbios_fault : (view : View) (f g : SmbiosFault) → RefusesSmbios view f → RefusesSmbios view g → f ≡ g
-one_smbios_fault view f g is also =
-    let told = told_is_refused view is.address is.anchor is.structures is.bytes g (leads_refused view f is) also in
+one_smbios_fault : (form : AnchorForm) (view : View) (f g : SmbiosFault) → RefusesSmbiosBy form view f → RefusesSmbiosBy form view g → f ≡ g
+one_smbios_fault form view f g is also =
+    let told = told_is_refused form view is.address is.anchor is.structures is.bytes g (leads_refused form view f is) also in
     let same : Err f ≡ Err g = one_smbios_meaning is.bytes (Err f) (Err g) is.refused told in
     cc same
 
 -- what is shown of both has no fault
 never_both : (form : Form) (top : ℕ) (view : View) (inventory : Inventory) (fault : ScanFault) → ShowsBy form top view inventory → RefusesBy form view fault → ⊥
 never_both form top view inventory (Acpi fault) shows refuses = shown_or_refused form view inventory.acpi inventory.generation fault shows.acpi refuses.1
-never_both form top view inventory (Smbios fault) shows refuses = smbios_never_both view inventory.smbios fault shows.smbios refuses.1
+never_both form top view inventory (Smbios fault) shows refuses = smbios_never_both Smbios3 view inventory.smbios fault shows.smbios refuses.1
 never_both form top view inventory OutOfMemory shows refuses = refuses
 
 one_fault : (form : Form) (view : View) → IsOne (RefusesBy form view)
 one_fault form view (Acpi f) (Acpi g) is also = ap Acpi (one_acpi_fault form view f g is.1 also.1)
 one_fault form view (Acpi f) (Smbios g) is also = absurd (shown_or_refused form view also.2.tables also.2.generation f also.2.shown is.1)
 one_fault form view (Smbios f) (Acpi g) is also = absurd (shown_or_refused form view is.2.tables is.2.generation g is.2.shown also.1)
-one_fault form view (Smbios f) (Smbios g) is also = ap Smbios (one_smbios_fault view f g is.1 also.1)
+one_fault form view (Smbios f) (Smbios g) is also = ap Smbios (one_smbios_fault Smbios3 view f g is.1 also.1)
 one_fault form view OutOfMemory g is also = absurd is
 one_fault form view (Acpi f) OutOfMemory is also = absurd also
 one_fault form view (Smbios f) OutOfMemory is also = absurd also
@@ -110,10 +112,10 @@ as_scanned form top view (Err fault) meant shows refused means =
     ⊎_elim (λ memory. inr (ap Err memory)) (λ is. inl (one_scan form top view (Err fault) meant is means)) refused
 
 -- the part of an inventory that is read of the SMBIOS anchor
-pub smbios_part : (view : View) (found : Option SmbiosTable) → IfSome found (ShowsSmbios view) → (found ≡ None → HasNoAnchor view)
-    → MatchOption found (HasNoAnchor view) (ShowsSmbios view)
-smbios_part view None shows none = none refl
-smbios_part view (Some t) shows none = shows
+pub smbios_part : (form : AnchorForm) (view : View) (found : Option SmbiosTable) → IfSome found (ShowsSmbiosBy form view)
+    → (found ≡ None → HasNoAnchorBy form view) → MatchOption found (HasNoAnchorBy form view) (ShowsSmbiosBy form view)
+smbios_part form view None shows none = none refl
+smbios_part form view (Some t) shows none = shows
 
 -- and all of it
 pub inventory_shows : (form : Form) (top : ℕ) (view : View) (walked : Option Walked) (found : Option SmbiosTable)

@@ -1,5 +1,5 @@
 -- RSDPs in a memory, from what is read at an address where one may stand.
-use Rattle.std.proofs.Common.{◌≡◌, ℕ, ◌+◌, ◌*◌, ◌%◌, ◌≤◌, Bool, true, false, List, [], ◌∷◌, Some, codes, arith, ap, subst, sym, ◌∙◌}
+use Rattle.std.proofs.Common.{◌≡◌, ℕ, ◌+◌, ◌%◌, ◌≤◌, Bool, true, false, List, Some, arith, ap, sym, ◌∙◌}
 use Rattle.std.specs.Option.{option_map}
 use Rattle.vt_bytes.specs.Numbers.{byte_sum, le}
 use Rattle.vt_bytes.specs.View.{View, bytes_in, number_in}

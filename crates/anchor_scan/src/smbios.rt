@@ -1,16 +1,16 @@
 ghost use Rattle.std.specs.Prelude.{◌≡◌, ◌⊎◌, ◌↔◌, None, Some, Ok, Err, IfOk, IfErr, IfSome};
 ghost use Rattle.vt_bytes.specs.Memory.{seen};
 ghost use Rattle.smbios_model.specs.declared.smbios.SmbiosTable.{SmbiosTable};
-ghost use Rattle.smbios_model.specs.Smbios.{ShowsSmbios};
+ghost use Rattle.smbios_model.specs.Smbios.{ShowsSmbios, ShowsSmbiosBy};
 ghost use Rattle.smbios_decode.specs.declared.fault.SmbiosFault.{SmbiosFault};
 ghost use Rattle.smbios_decode.specs.declared.fault.SmbiosFault.TheVariants.{OutOfMemory as NoMemory};
-ghost use Rattle.anchor_scan.specs.Shown.{HasNoAnchor, RefusesSmbios, OrNoMemory};
+ghost use Rattle.anchor_scan.specs.Shown.{HasNoAnchor, HasNoAnchorBy, RefusesSmbios, RefusesSmbiosBy, OrNoMemory};
 
-use crate::anchor::{find_smbios, read_anchor};
+use crate::anchor::{find_smbios_by, read_anchor};
 use crate::range::range_from;
 use guest_memory::GuestMemory;
 use smbios_decode::{SmbiosFault, decode_table};
-use smbios_model::SmbiosTable;
+use smbios_model::{AnchorForm, SmbiosTable};
 use std::alloc::Global;
 
 /// Reads the SMBIOS table of `memory` from its anchor (DSP0134 5.2.2): the structures in the bytes from the address on that the
@@ -28,10 +28,25 @@ pub fn scan_smbios(alloc: Global, memory: &GuestMemory) -> Result<Option<SmbiosT
     ensures refused { IfErr result (λ fault. (fault ≡ NoMemory) ⊎ RefusesSmbios (seen memory.now.memory) fault) }
     ensures refuses { (fault : SmbiosFault) → RefusesSmbios (seen memory.now.memory) fault → OrNoMemory result (Err fault) }
 {
-    let Some(address) = find_smbios(memory) else {
+    scan_smbios_by(alloc, memory, AnchorForm::Smbios3)
+}
+
+/// Does the same by the form `form`: the anchor is one of that form, as [`find_smbios_by`] finds it.
+pub fn scan_smbios_by(
+    alloc: Global,
+    memory: &GuestMemory,
+    form: AnchorForm,
+) -> Result<Option<SmbiosTable>, SmbiosFault>
+    ensures none { result ≡ Ok None ↔ HasNoAnchorBy form (seen memory.now.memory) }
+    ensures shown { IfOk result (λ found. IfSome found (λ table. ShowsSmbiosBy form (seen memory.now.memory) table)) }
+    ensures shows { (table : SmbiosTable) → ShowsSmbiosBy form (seen memory.now.memory) table → OrNoMemory result (Ok (Some table)) }
+    ensures refused { IfErr result (λ fault. (fault ≡ NoMemory) ⊎ RefusesSmbiosBy form (seen memory.now.memory) fault) }
+    ensures refuses { (fault : SmbiosFault) → RefusesSmbiosBy form (seen memory.now.memory) fault → OrNoMemory result (Err fault) }
+{
+    let Some(address) = find_smbios_by(memory, form) else {
         return Ok(None);
     };
-    let found = read_anchor(memory, address);
+    let found = read_anchor(memory, form, address);
     let bytes = range_from(alloc, memory, found.structures, found.anchor.maximum_size)?;
     let structures = decode_table(alloc, &bytes)?;
     Ok(Some(SmbiosTable {

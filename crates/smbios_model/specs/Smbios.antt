@@ -4,12 +4,14 @@ use Rattle.vt_bytes.specs.Numbers.{le_bytes}
 use Rattle.vt_bytes.specs.View.{View}
 use Rattle.machine_desc.specs.declared.machine.Machine.{Machine}
 use Rattle.smbios_model.specs.declared.anchor.Anchor.{Anchor}
+use Rattle.smbios_model.specs.declared.anchor.AnchorForm.{AnchorForm}
+use Rattle.smbios_model.specs.declared.anchor.AnchorForm.TheVariants.{Smbios3}
 use Rattle.smbios_model.specs.declared.smbios.Structure.{Structure}
 use Rattle.smbios_model.specs.declared.smbios.SmbiosTable.{SmbiosTable}
 use Rattle.vt_layout.specs.Strings.{AreStrings, string_set}
 use Rattle.smbios_model.specs.Structures.{IsBody}
 use Rattle.smbios_model.specs.MachineStructures.{structures_of}
-use Rattle.smbios_model.specs.Anchor.{IsAnchor, HasAnchor, IsRange}
+use Rattle.smbios_model.specs.Anchor.{IsAnchorBy, HasAnchorBy, IsRange}
 
 -- a structure without its strings: its type, its length, its handle, and its area
 abbrev pub formatted : ℕ → ℕ → List ℕ → List ℕ
@@ -32,14 +34,14 @@ AreStructures bytes (s ∷ next ∷ others) =
     (first : List ℕ) × (rest : List ℕ) × (kind : ℕ) × (bytes ≡ first ++ rest) × (kind ≢ 127) × IsStructure first kind s
     × AreStructures rest (next ∷ others)
 
--- The view shows the table: the least valid anchor has its numbers, and the structures stand at the front of the range that the
--- anchor tells.
-pub record ShowsSmbios (view : View) (t : SmbiosTable) : Type 0 where
+-- The view shows the table by a form: the least valid anchor of the form has its numbers, and the structures stand at the front of the range
+-- that the anchor tells.
+pub record ShowsSmbiosBy (form : AnchorForm) (view : View) (t : SmbiosTable) : Type 0 where
   pub address : ℕ
   pub anchor : Anchor
   pub structures : ℕ
-  pub valid : IsAnchor view address anchor structures
-  pub least : (other : ℕ) → other < address → HasAnchor view other → ⊥
+  pub valid : IsAnchorBy form view address anchor structures
+  pub least : (other : ℕ) → other < address → HasAnchorBy form view other → ⊥
   pub major : t.major ≡ anchor.major
   pub minor : t.minor ≡ anchor.minor
   pub docrev : t.docrev ≡ anchor.docrev
@@ -47,6 +49,9 @@ pub record ShowsSmbios (view : View) (t : SmbiosTable) : Type 0 where
   pub unused : List ℕ
   pub range : IsRange view structures anchor.maximum_size (used ++ unused)
   pub listed : AreStructures used t.structures
+
+abbrev pub ShowsSmbios : View → SmbiosTable → Type 0
+ShowsSmbios view t = ShowsSmbiosBy Smbios3 view t
 
 -- a machine's table, of version 3.0
 abbrev pub smbios_of : Machine → SmbiosTable

@@ -5,7 +5,17 @@ ghost use Rattle.smbios_model.specs.Anchor.{anchor_rows, anchor_of};
 
 use vt_layout::{Row, ShortBytes};
 
-/// What the anchor of SMBIOS structures tells, without their address (DSP0134 5.2.2).
+/// The form of an anchor of SMBIOS structures (DSP0134 5.2).
+#[derive(Clone, Copy, Debug, PartialEq, Eq)]
+pub enum AnchorForm {
+    /// The anchor of 24 bytes or more with the mark `_SM3_`, the 64-bit entry point (5.2.2).
+    Smbios3,
+    /// The old one of 31 bytes with the marks `_SM_` and `_DMI_`, the 32-bit entry point (5.2.1).
+    Smbios2,
+}
+
+/// What the anchor of SMBIOS structures tells, without their address (DSP0134 5.2.1 and 5.2.2). The offsets are those of the 64-bit
+/// entry point. The old anchor tells no revision of the document, and 0 stands for it.
 #[derive(Clone, Copy, Debug, PartialEq, Eq)]
 pub struct Anchor {
     /// How many bytes the anchor has. Offset 0x06, byte.

@@ -1,10 +1,10 @@
 //! SMBIOS structures as records, their layouts as rows, the structures of a machine, and the table that a view of memory shows from
 //! its anchor on.
 //!
-//! The definitions say which records bytes are read as, and which table a view shows (DSP0134, 5.2.2, 6.1.2 and chapter 7). The
-//! contract is that each record, what it puts into its area and its strings and what is taken of them, and the structures of an accepted
-//! machine are those of the definitions; and the laws are that the area and the strings of a structure, as they are written, are read
-//! as its texts, and that each part of a machine is got back from its record, a range of memory but for its node.
+//! The definitions say which records bytes are read as, and which table a view shows by the form of its anchor (DSP0134, 5.2.1, 5.2.2,
+//! 6.1.2 and chapter 7). The contract is that each record, what it puts into its area and its strings and what is taken of them, and the
+//! structures of an accepted machine are those of the definitions; and the laws are that the area and the strings of a structure, as they
+//! are written, are read as its texts, and that each part of a machine is got back from its record, a range of memory but for its node.
 #![tactic(auto)]
 
 mod anchor;
@@ -23,7 +23,7 @@ mod structure_types;
 mod system_information;
 mod texts;
 
-pub use anchor::{Anchor, anchor_of, anchor_rows};
+pub use anchor::{Anchor, AnchorForm, anchor_of, anchor_rows};
 pub use bios_information::{BiosInfo, bios_of};
 pub use boot_information::{BootInfo, boot_info};
 pub use chassis_information::{ChassisInfo, chassis_of};

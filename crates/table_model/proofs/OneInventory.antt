@@ -2,6 +2,7 @@
 use Rattle.std.proofs.Common.{◌≡◌, ℕ, List, Option, Some, None, refl, ap, sym, ◌∙◌}
 use Rattle.vt_bytes.specs.View.{View}
 use Rattle.vt_bytes.proofs.AtMostOne.{IsOne, one_or_none}
+use Rattle.smbios_model.specs.declared.anchor.AnchorForm.TheVariants.{Smbios3}
 use Rattle.smbios_model.specs.declared.smbios.SmbiosTable.{SmbiosTable}
 use Rattle.acpi_model.specs.declared.form.Form.{Form}
 use Rattle.acpi_model.specs.declared.acpi.AcpiTables.{AcpiTables}
@@ -29,7 +30,7 @@ pub one_inventory : (form : Form) (top : ℕ) (view : View) → IsOne (ShowsBy f
 unfolding inventory_from
 one_inventory form top view a b is also =
     let smbios =
-    one_or_none ((address : ℕ) → HasAnchor view address → ⊥) (ShowsSmbios view) (one_smbios view)
+    one_or_none ((address : ℕ) → HasAnchor view address → ⊥) (ShowsSmbios view) (one_smbios Smbios3 view)
     (λ t shows none. none shows.address (shows.anchor, shows.structures, shows.valid)) a.smbios b.smbios is.smbios also.smbios in
     let acpi = one_set form view a.acpi b.acpi a.generation b.generation is.acpi also.acpi in
     ap (λ n. inventory_from n a.smbios a.acpi a.generation) (is.its_top ∙ sym also.its_top)

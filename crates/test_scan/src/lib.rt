@@ -19,6 +19,8 @@ mod forms;
 mod generations;
 #[cfg(test)]
 mod long;
+#[cfg(test)]
+mod old_anchors;
 pub mod pieces;
 #[cfg(test)]
 mod records;

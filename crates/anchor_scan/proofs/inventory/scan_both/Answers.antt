@@ -1,6 +1,7 @@
 use Rattle.std.proofs.Common.{◌≡◌, Ok, None, ap, sym, subst, ◌∙◌}
 use Rattle.std.proofs.lemmas.Result.{err_from_is_err_and}
 use Rattle.vt_bytes.specs.Memory.{seen}
+use Rattle.smbios_model.specs.declared.anchor.AnchorForm.TheVariants.{Smbios3}
 use Rattle.table_model.specs.declared.inventory.Inventory.{Inventory}
 use Rattle.table_model.specs.Inventory.{ShowsBy}
 use Rattle.anchor_scan.specs.Gathered.{inventory_of}
@@ -19,7 +20,7 @@ returns-clause-shown c =
     let view = seen c.args.memory.now.memory in
     let top = c.args.memory.now.memory.top in
     let none = λ (is : c.in_ok-smbios.smbios ≡ None). c.scan_smbios.ensures.none.0 (c.in_ok-smbios.was ∙ ap Ok is) in
-    let smbios = smbios_part view c.in_ok-smbios.smbios c.in_ok-smbios.ensures.shown none in
+    let smbios = smbios_part Smbios3 view c.in_ok-smbios.smbios c.in_ok-smbios.ensures.shown none in
     subst (λ (inventory : Inventory). ShowsBy c.args.form top view inventory)
     (ap (λ n. inventory_of n c.in_ok-acpi.acpi c.in_ok-smbios.smbios) (sym c.top.ensures.value) ∙ sym c.inventory_of.ensures)
     (inventory_shows c.args.form top view c.in_ok-acpi.acpi c.in_ok-smbios.smbios c.in_ok-acpi.ensures.shown smbios)

@@ -2,7 +2,7 @@ use Rattle.std.proofs.Common.{ℕ, ◌+◌, List, arith, ap, ◌∙◌}
 use Rattle.vt_layout.specs.declared.row.Row.{Row}
 use Rattle.vt_layout.specs.Reading.{read_number}
 use Rattle.anchor_scan.proofs.ReadAndSeen.{number_there}
-use Rattle.anchor_scan.proofs.anchor.read_anchor.Goals as goal
+use Rattle.anchor_scan.proofs.anchor.read_smbios3.Goals as goal
 
 pub returns : goal.returns
 returns c =
