@@ -2,7 +2,7 @@
 
 use std::fmt;
 use vt_words::commands;
-use word_schema::{CommandSchema, Exclusive, Form, Kind, OperandSchema, OptionSchema, Value};
+use word_schema::{CommandSchema, Exclusive, Form, Kind, Need, OperandSchema, OptionSchema, Value};
 
 const AFTER: &str = "
 --help
@@ -121,6 +121,9 @@ impl fmt::Display for About<'_> {
         for pair in command.exclusive {
             write_pair(f, pair)?;
         }
+        for need in command.needs {
+            write_need(f, need)?;
+        }
         Ok(())
     }
 }
@@ -182,6 +185,12 @@ fn write_pair<W: fmt::Write>(f: &mut fmt::Formatter<W>, pair: &Exclusive) -> fmt
     let one = pair.one;
     let other = pair.other;
     writeln!(f, "    at most one of {one} and {other} may be given")
+}
+
+fn write_need<W: fmt::Write>(f: &mut fmt::Formatter<W>, need: &Need) -> fmt::Result {
+    let one = need.one;
+    let other = need.other;
+    writeln!(f, "    {one} may be given only with {other}")
 }
 
 // Which words say a value.

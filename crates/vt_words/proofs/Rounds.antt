@@ -2,7 +2,7 @@
 use Rattle.std.proofs.Common.{◌≡◌, ℕ, ◌<◌, true, length, drop, Some, option_map, arith, refl, ap, sym, ◌∙◌}
 use Rattle.std.proofs.lemmas.Bool.Decides.{nat_tests}
 use Rattle.word_schema.specs.Fits.{fits, is_sound}
-use Rattle.word_schema.specs.Given.{values_of, are_compatible}
+use Rattle.word_schema.specs.Given.{values_of, are_compatible, have_what_they_need}
 use Rattle.word_schema.specs.Written.{written, given_for}
 use Rattle.word_schema.proofs.Writing.{written_is_read}
 use Rattle.zone_alloc.specs.declared.policy.Policy.{Policy}
@@ -37,11 +37,13 @@ made command lawful = grind (arith, nat_tests, same_policy)
 read_row : (command : Command) → IsLawful command → is_sound (row_of command).schema ≡ true
     → are_compatible (row_of command).schema.exclusive (given_for (row_of command).schema.options
     (drop (length (row_of command).schema.operands) (values_for command))) ≡ true
+    → have_what_they_need (row_of command).schema.needs (given_for (row_of command).schema.options
+    (drop (length (row_of command).schema.operands) (values_for command))) ≡ true
     → option_map (row_of command).make (values_of (row_of command).schema (written (row_of command).schema (values_for command))) ≡ Some command
-read_row command lawful sound apart =
-    ap (option_map (row_of command).make) (written_is_read (row_of command).schema (values_for command) sound (fit command lawful) apart)
+read_row command lawful sound apart together =
+    ap (option_map (row_of command).make) (written_is_read (row_of command).schema (values_for command) sound (fit command lawful) apart together)
     ∙ ap (λ (c : Command). Some c) (made command lawful)
 
 pub read_command : (command : Command) → IsLawful command → command_of (words_of command) ≡ Some command
-read_command (Boot setting) lawful = read_row (Boot setting) lawful refl refl
-read_command command lawful = read_row command lawful refl refl
+read_command (Boot setting) lawful = read_row (Boot setting) lawful refl refl refl
+read_command command lawful = read_row command lawful refl refl refl

@@ -12,9 +12,9 @@ valued name form default = record { name = name; kind = Valued form; default = S
 abbrev pub flag : List ℕ → Option Value → Row
 flag name default = record { name = name; kind = Flag; default = default }
 
--- a command with no operands, and no options that exclude each other
+-- a command with no operands, and no options that exclude each other or need another
 abbrev pub command : List ℕ → List Row → Schema
-command name options = record { name = name; operands = []; options = options; exclusive = [] }
+command name options = record { name = name; operands = []; options = options; exclusive = []; needs = [] }
 
 -- the top of memory, in MiB
 abbrev pub top_row : Row
@@ -61,4 +61,4 @@ decode = command (codes "decode") (list_row ∷ legacy_row ∷ [])
 
 -- how many processors a machine is generated of
 abbrev pub generate : Schema
-generate = record { name = codes "gen"; operands = Number 1 4096 ∷ []; options = []; exclusive = [] }
+generate = record { name = codes "gen"; operands = Number 1 4096 ∷ []; options = []; exclusive = []; needs = [] }

@@ -14,7 +14,7 @@ use Rattle.word_schema.specs.Fits.{is_sound_row, is_sound}
 use Rattle.word_schema.specs.Forms.{Form, Kind, Row, Schema}
 use Rattle.word_schema.specs.Forms as forms
 use Rattle.word_schema.specs.Given.{Given, value_of, place_of, row_named, values_named, only, option_value, option_values, operand_values}
-use Rattle.word_schema.specs.Given.{are_compatible, options_say, given_by, values_of}
+use Rattle.word_schema.specs.Given.{are_compatible, have_what_they_need, options_say, given_by, values_of}
 use Rattle.word_schema.specs.Numbers.{byte_of, is_decimal, number_within}
 use Rattle.word_schema.specs.Spelled.{StandsInFront, AreSpelled}
 use Rattle.word_schema.proofs.Digits.{written_byte, first_place}
@@ -170,7 +170,8 @@ values_fit schema words values sound e =
     let front = behind_it _ (operand_values schema.operands _) values e in
     let back = mapped _ _ values front.2 in
     let given = behind_it (options_say schema) (given_by schema.options (drop (length schema.operands) words)) back.0 back.1 in
-    let said = tested (are_compatible schema.exclusive given.0) (option_values schema.options given.0) back.0 given.2 in
+    let said =
+    tested (are_compatible schema.exclusive given.0 && have_what_they_need schema.needs given.0) (option_values schema.options given.0) back.0 given.2 in
     let outer = and_parts (are_distinct (map (λ (row : Row). row.name) schema.options) && list_all is_sound_row schema.options)
     (list_all is_sound_form schema.operands) sound in
     let inner = and_parts (are_distinct (map (λ (row : Row). row.name) schema.options)) (list_all is_sound_row schema.options) outer.0 in

@@ -15,7 +15,7 @@ use Rattle.std.specs.Str.{bytes_eq}
 use Rattle.word_schema.specs.declared.value.Value.{Value}
 use Rattle.word_schema.specs.Forms.{Row, Pair, Schema}
 use Rattle.word_schema.specs.Given.{Given, values_named, only, option_value, option_values, operand_values, is_given, are_compatible, options_say}
-use Rattle.word_schema.specs.Given.{given_by, values_of}
+use Rattle.word_schema.specs.Given.{have_what_they_need, given_by, values_of}
 use Rattle.word_schema.proofs.Walking.{values_named-first}
 
 -- what holds of each option of a name holds of their values
@@ -102,9 +102,19 @@ same_compatible options others moved [] = refl
 same_compatible options others moved (pair ∷ pairs) =
     rw (same_given options others moved pair.one, same_given options others moved pair.other, same_compatible options others moved pairs) refl
 
+same_needs : (options others : List Given) → IsPermutation options others → (pairs : List Pair)
+    → have_what_they_need pairs options ≡ have_what_they_need pairs others
+same_needs options others moved [] = refl
+same_needs options others moved (pair ∷ pairs) =
+    rw (same_given options others moved pair.one, same_given options others moved pair.other, same_needs options others moved pairs) refl
+
 same_say : (schema : Schema) (options others : List Given) → IsPermutation options others → options_say schema options ≡ options_say schema others
 same_say schema options others moved =
-    rw (same_compatible options others moved schema.exclusive, same_values options others moved schema.options) refl
+    rw (
+      same_compatible options others moved schema.exclusive,
+      same_needs options others moved schema.needs,
+      same_values options others moved schema.options,
+    ) refl
 
 -- what words say that stand behind those of operands
 abbrev pub behind_operands : Schema → List (List ℕ) → Option (List Given) → Option (List Value)

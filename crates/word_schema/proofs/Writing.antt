@@ -14,7 +14,7 @@ use Rattle.word_schema.specs.Fits.{is_flag_default, is_default_of, is_sound_kind
 use Rattle.word_schema.specs.Forms.{Form, Kind, Row, Schema}
 use Rattle.word_schema.specs.Forms as forms
 use Rattle.word_schema.specs.Given.{Given, value_of, row_named, values_named, only, option_value, option_values, operand_values, with_value}
-use Rattle.word_schema.specs.Given.{are_compatible, values_of}
+use Rattle.word_schema.specs.Given.{are_compatible, have_what_they_need, values_of}
 use Rattle.word_schema.specs.Spelled.{StandsInFront, AreSpelled}
 use Rattle.word_schema.specs.Written.{word_of, same_value, is_default, given_for, words_by, option_words, operand_words, written}
 use Rattle.word_schema.proofs.Digits.{read_byte, read_number, place_from}
@@ -219,9 +219,10 @@ operands_read (form ∷ operands) rows (value ∷ values) behind sound fit =
 
 pub written_is_read : (schema : Schema) (values : List Value) → is_sound schema ≡ true → fits schema values ≡ true
     → are_compatible schema.exclusive (given_for schema.options (drop (length schema.operands) values)) ≡ true
+    → have_what_they_need schema.needs (given_for schema.options (drop (length schema.operands) values)) ≡ true
     → values_of schema (written schema values) ≡ Some values
 unfolding names
-written_is_read schema values sound fit apart =
+written_is_read schema values sound fit apart together =
     let outer = and_parts (are_distinct (names schema.options) && list_all is_sound_row schema.options) (list_all is_sound_form schema.operands) sound in
     let inner = and_parts (are_distinct (names schema.options)) (list_all is_sound_row schema.options) outer.0 in
     let behind = drop (length schema.operands) values in
@@ -229,4 +230,4 @@ written_is_read schema values sound fit apart =
     let given = spelled_is_given schema.options (given_for schema.options behind) (option_words schema.options behind)
     (are_spelled schema.options schema.options behind (finds_all schema.options inner.0) inner.1 front.fit) in
     let said = say_values schema.options behind inner.0 front.fit in
-    rw (front.say, front.leave, given, apart, said) (ap (λ (values : List Value). Some values) (take-append-drop (length schema.operands) values))
+    rw (front.say, front.leave, given, apart, together, said) (ap (λ (values : List Value). Some values) (take-append-drop (length schema.operands) values))

@@ -1,5 +1,5 @@
--- A command's words as data, on plain lists: its name, what its operands are, its options, and which of these exclude each other. A word is
--- the list of its bytes.
+-- A command's words as data, on plain lists: its name, what its operands are, its options, and which of these exclude each other or need
+-- another. A word is the list of its bytes.
 use Rattle.std.specs.Prelude.{ℕ, List, Option, map}
 use Rattle.std.specs.Borrow.{Bor}
 use Rattle.word_schema.specs.declared.value.Value.{Value}
@@ -10,6 +10,7 @@ use Rattle.word_schema.specs.declared.schema.Kind.TheVariants as code_kind
 use Rattle.word_schema.specs.declared.schema.OperandSchema.{OperandSchema}
 use Rattle.word_schema.specs.declared.schema.OptionSchema.{OptionSchema}
 use Rattle.word_schema.specs.declared.schema.Exclusive.{Exclusive}
+use Rattle.word_schema.specs.declared.schema.Need.{Need}
 use Rattle.word_schema.specs.declared.schema.CommandSchema.{CommandSchema}
 
 -- what a word is to be that says a value: the two digits of a byte, a number from the least to the most, one of these words
@@ -29,17 +30,18 @@ pub record Row : Type 0 where
   pub kind : Kind
   pub default : Option Value
 
--- two options that exclude each other, by their names
+-- two options, by their names: they exclude each other, or the one needs the other
 pub record Pair : Type 0 where
   pub one : List ℕ
   pub other : List ℕ
 
--- a command; of two options that exclude each other at most one may be given
+-- a command; of two options that exclude each other at most one may be given, and one that needs another is given only with it
 pub record Schema : Type 0 where
   pub name : List ℕ
   pub operands : List Form
   pub options : List Row
   pub exclusive : List Pair
+  pub needs : List Pair
 
 -- what the code's schema says, without where its texts lie in memory, and without the texts of its help
 
@@ -70,10 +72,17 @@ pair_of exclusive = record { one = exclusive.one.now; other = exclusive.other.no
 abbrev pub pairs_of : List Exclusive → List Pair
 pairs_of exclusive = map pair_of exclusive
 
+abbrev pub need_of : Need → Pair
+need_of need = record { one = need.one.now; other = need.other.now }
+
+abbrev pub needs_of : List Need → List Pair
+needs_of needs = map need_of needs
+
 abbrev pub schema_of : CommandSchema → Schema
 schema_of command = record {
   name = command.name.now;
   operands = forms_of command.operands.now;
   options = rows_of command.options.now;
   exclusive = pairs_of command.exclusive.now;
+  needs = needs_of command.needs.now;
 }

@@ -1,5 +1,5 @@
 -- Which options words are, and what they say.
-use Rattle.std.specs.Prelude.{ℕ, Bool, true, not, ◌&&◌, ◌++◌, List, [], ◌∷◌, length, take, drop, map, filter, Option, Some, None, option_map}
+use Rattle.std.specs.Prelude.{ℕ, Bool, true, not, ◌&&◌, ◌||◌, ◌++◌, List, [], ◌∷◌, length, take, drop, map, filter, Option, Some, None, option_map}
 use Rattle.std.specs.Prelude.{if◌then◌else◌, suc}
 use Rattle.std.specs.Option.{option_and_then}
 use Rattle.std.specs.List.{find, list_all, list_any}
@@ -93,9 +93,14 @@ is_given name given = list_any (λ option. bytes_eq option.name name) given
 abbrev pub are_compatible : List Pair → List Given → Bool
 are_compatible pairs given = list_all (λ pair. not (is_given pair.one given && is_given pair.other given)) pairs
 
+-- each option that is given, and needs another, is given with it
+abbrev pub have_what_they_need : List Pair → List Given → Bool
+have_what_they_need pairs given = list_all (λ pair. not (is_given pair.one given) || is_given pair.other given) pairs
+
 -- what the options say
 abbrev pub options_say : Schema → List Given → Option (List Value)
-options_say schema given = if are_compatible schema.exclusive given then option_values schema.options given else None
+options_say schema given =
+    if are_compatible schema.exclusive given && have_what_they_need schema.needs given then option_values schema.options given else None
 
 -- What the words behind a command's name say: a value for each operand, which stand in front, and then for each option, in the order of the
 -- rows. None where they are none of its words.

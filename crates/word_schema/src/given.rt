@@ -1,10 +1,10 @@
 ghost use Rattle.std.specs.Prelude.{◌≡◌, ◌≤◌, ◌∷◌, map, length, string_bytes, option_map, IfSome, MatchOption, None, Some};
 ghost use Rattle.std.specs.Option.{option_and_then};
-ghost use Rattle.word_schema.specs.Forms.{pairs_of, row_of, rows_of};
-ghost use Rattle.word_schema.specs.Given.{are_compatible, given_by, is_given, option_value, option_values, row_named, with_given};
+ghost use Rattle.word_schema.specs.Forms.{needs_of, pairs_of, row_of, rows_of};
+ghost use Rattle.word_schema.specs.Given.{are_compatible, given_by, have_what_they_need, is_given, option_value, option_values, row_named, with_given};
 ghost use Rattle.word_schema.specs.Steps.{options_given};
 
-use crate::schema::{Exclusive, Kind, OptionSchema};
+use crate::schema::{Exclusive, Kind, Need, OptionSchema};
 use crate::single::value_of;
 use crate::value::{MOST_VALUES, Value};
 use arrayvec::ArrayVec;
@@ -98,6 +98,13 @@ pub(crate) fn are_compatible(exclusive: &[Exclusive], given: &[Given]) -> bool
     ensures { result ≡ are_compatible (pairs_of exclusive.now) (options_given given.now) }
 {
     exclusive.iter().all(|pair| !(is_given(pair.one, given) && is_given(pair.other, given)))
+}
+
+// Whether each option that is given, and needs another, is given with it.
+pub(crate) fn have_what_they_need(needs: &[Need], given: &[Given]) -> bool
+    ensures { result ≡ have_what_they_need (needs_of needs.now) (options_given given.now) }
+{
+    needs.iter().all(|need| !is_given(need.one, given) || is_given(need.other, given))
 }
 
 // What the option says: None where it is given twice, or where it must be given and isn't.

@@ -5,7 +5,7 @@ ghost use Rattle.std.specs.List.Sorted.{IsPermutation};
 ghost use Rattle.word_schema.specs.declared.value.Value.{Value as AValue};
 ghost use Rattle.word_schema.specs.Fits.{fits, is_sound};
 ghost use Rattle.word_schema.specs.Forms.{Row, Schema};
-ghost use Rattle.word_schema.specs.Given.{Given, are_compatible, given_by, values_of};
+ghost use Rattle.word_schema.specs.Given.{Given, are_compatible, given_by, have_what_they_need, values_of};
 ghost use Rattle.word_schema.specs.Spelled.{AreSpelled};
 ghost use Rattle.word_schema.specs.Written.{given_for, written};
 
@@ -27,10 +27,11 @@ pub fn read_values_fit()
         → fits schema values ≡ true }
 {}
 
-/// States that values that fit a sound schema are what the words say that are written of them, where no two options exclude each other
-/// whose values aren't their defaults.
+/// States that values that fit a sound schema are what the words say that are written of them, where of the options whose values aren't
+/// their defaults no two exclude each other, and where what one of them needs is among them.
 pub fn written_values_are_read()
     ensures { (schema : Schema) (values : List AValue) → is_sound schema ≡ true → fits schema values ≡ true
         → are_compatible schema.exclusive (given_for schema.options (drop (length schema.operands) values)) ≡ true
+        → have_what_they_need schema.needs (given_for schema.options (drop (length schema.operands) values)) ≡ true
         → values_of schema (written schema values) ≡ Some values }
 {}

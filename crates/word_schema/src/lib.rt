@@ -3,7 +3,7 @@
 //! A schema has a command's name, its operands and its options. The operands stand first behind the command's name, each one a word,
 //! and as many as the schema has. Behind them stand options, in any order and each at most once: a flag is its name alone, any other
 //! option is its name and, as the next word, its value. An option that isn't there has its default; one without a default must be
-//! there. Of two options that exclude each other at most one may be there.
+//! there. Of two options that exclude each other at most one may be there, and an option that needs another may be there only with it.
 //!
 //! | a word is | where it says |
 //! |---|---|
@@ -26,6 +26,6 @@ mod taking;
 mod value;
 mod walk;
 
-pub use schema::{CommandSchema, Exclusive, Form, Kind, OperandSchema, OptionSchema};
+pub use schema::{CommandSchema, Exclusive, Form, Kind, Need, OperandSchema, OptionSchema};
 pub use value::{Value, Values};
 pub use walk::read_values;

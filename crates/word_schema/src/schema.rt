@@ -11,6 +11,8 @@ pub struct CommandSchema {
     pub options: &'static [OptionSchema],
     /// Lists the pairs of options of which at most one may be given.
     pub exclusive: &'static [Exclusive],
+    /// Lists the pairs of options of which the first may be given only with the second.
+    pub needs: &'static [Need],
     /// Names what the command reads, in capitals; nothing where it reads nothing.
     pub input: &'static str,
     /// Names what the command writes, in capitals.
@@ -49,6 +51,15 @@ pub struct OptionSchema {
 #[derive(Clone, Copy, Debug)]
 pub struct Exclusive {
     /// Gives the name of the one.
+    pub one: &'static str,
+    /// Gives the name of the other.
+    pub other: &'static str,
+}
+
+/// Names an option that may be given only with another, and this other.
+#[derive(Clone, Copy, Debug)]
+pub struct Need {
+    /// Gives the name of the one that needs the other.
     pub one: &'static str,
     /// Gives the name of the other.
     pub other: &'static str,

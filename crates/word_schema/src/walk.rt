@@ -3,7 +3,7 @@ ghost use Rattle.word_schema.specs.Forms.{forms_of, rows_of, schema_of};
 ghost use Rattle.word_schema.specs.Given.{operand_values, option_values, values_of};
 ghost use Rattle.word_schema.specs.Steps.{options_given};
 
-use crate::given::{Given, are_compatible, given_by, option_value};
+use crate::given::{Given, are_compatible, given_by, have_what_they_need, option_value};
 use crate::schema::{CommandSchema, OperandSchema, OptionSchema};
 use crate::single::value_of;
 use crate::value::Values;
@@ -11,7 +11,8 @@ use crate::value::Values;
 /// Returns what `words`, those behind the name of `command`, say: a value for each operand and then for each option, in the schema's
 /// order. Returns `None` where they are none of its words: too few operands, a word that is no value of its operand or option, a word
 /// in an option's place that names none, a name without its value, an option that is given twice, one that must be given and isn't,
-/// or two that exclude each other. A command may have no more than 16 operands and options. No memory is taken.
+/// two that exclude each other, or one without the other that it needs. A command may have no more than 16 operands and options. No
+/// memory is taken.
 pub fn read_values(command: &CommandSchema, words: &[String]) -> Option<Values>
     requires { length command.now.operands.now + length command.now.options.now ≤ 16 }
     ensures { result ≡ values_of (schema_of command.now) (map string_bytes words.now) }
@@ -24,6 +25,9 @@ pub fn read_values(command: &CommandSchema, words: &[String]) -> Option<Values>
     push_operands(command.operands, front, &mut values)?;
     let given = given_by(command.options, behind)?;
     if !are_compatible(command.exclusive, given.as_slice()) {
+        return None;
+    }
+    if !have_what_they_need(command.needs, given.as_slice()) {
         return None;
     }
     push_options(command.options, given.as_slice(), &mut values)?;

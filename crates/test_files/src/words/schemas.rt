@@ -1,12 +1,12 @@
 //! A made-up command with what no command of the program has: operands, flags among options with values, an option that must be given,
-//! options that exclude each other, and an option whose value is another option's name.
+//! options that exclude each other, an option that needs another, and an option whose value is another option's name.
 
 use crate::words::reading::push_words;
 use std::alloc::{AllocError, Global};
 use std::process::Abort;
 use std::test::Fail;
 use word_schema::{
-    CommandSchema, Exclusive, Form, Kind, OperandSchema, OptionSchema, Value, read_values,
+    CommandSchema, Exclusive, Form, Kind, Need, OperandSchema, OptionSchema, Value, read_values,
 };
 
 macro_rules! option {
@@ -66,6 +66,10 @@ const COPY: CommandSchema = CommandSchema {
             other: "--way",
         },
     ],
+    needs: &[Need {
+        one: "--loud",
+        other: "--count",
+    }],
     input: "",
     output: "",
     about: "",
@@ -165,6 +169,40 @@ const SAID: &[Row] = &[
         false,
         0,
     ),
+    // the option that needs another, with it in each order and also with its default
+    Row(
+        "|7|file|--loud|--at|0f|--count|0",
+        7,
+        0,
+        false,
+        1,
+        0x0F,
+        true,
+        0,
+    ),
+    Row(
+        "|7|file|--count|0|--at|0f|--loud",
+        7,
+        0,
+        false,
+        1,
+        0x0F,
+        true,
+        0,
+    ),
+    Row(
+        "|7|file|--at|0f|--loud|--count|3",
+        7,
+        0,
+        false,
+        1,
+        0x0F,
+        true,
+        3,
+    ),
+    // the needed one without it, and neither
+    Row("|7|file|--at|0f|--count|0", 7, 0, false, 1, 0x0F, false, 0),
+    Row("|7|file|--at|0f|--quiet", 7, 0, true, 1, 0x0F, false, 3),
 ];
 
 const REFUSED: &[&str] = &[
@@ -198,11 +236,16 @@ const REFUSED: &[&str] = &[
     "|7|file|--at|0f|--way|--quiet|--way|fast",
     "|7|file|--quiet|--quiet|--quiet|--quiet|--quiet|--quiet|--quiet|--quiet|--quiet|--quiet|--quiet|--quiet|--quiet|--quiet|--quiet|--quiet|--quiet|--at|0f",
     // two that exclude each other, in each order and also with their defaults
-    "|7|file|--at|0f|--quiet|--loud",
-    "|7|file|--loud|--at|0f|--quiet",
+    "|7|file|--at|0f|--quiet|--loud|--count|9",
+    "|7|file|--loud|--count|9|--at|0f|--quiet",
     "|7|file|--at|0f|--count|3|--way|slow",
     "|7|file|--way|slow|--at|0f|--count|3",
     "|7|file|--way|--quiet|--at|0f|--count|9",
+    // an option without the other that it needs
+    "|7|file|--at|0f|--loud",
+    "|7|file|--loud|--at|0f",
+    "|7|file|--loud|--at|0f|--way|fast",
+    "|7|file|--way|slow|--loud|--at|0f",
     // a flag with a value, and what isn't a value of its option or names none
     "|7|file|--at|0f|--quiet|true",
     "|7|file|--at|0f|--quiet|0",
