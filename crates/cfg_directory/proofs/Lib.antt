@@ -1,5 +1,7 @@
 pub mod OneMoreItem
+pub mod OneChanged
 pub mod BytesPut
+pub mod ItemsByName
 pub mod Parts
 pub mod Entries
 pub mod Contents

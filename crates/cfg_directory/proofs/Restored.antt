@@ -13,7 +13,8 @@ use Rattle.cfg_directory.specs.declared.item.Item.{Item}
 use Rattle.cfg_directory.specs.Items.{IsItems, HasNoName, HasNoSelect, AreDistinct, total_size, selected, with_bytes_at, directory_of, entry_rows, entry_bytes}
 use Rattle.cfg_directory.specs.Restored.{AreKept, kept_bytes, kept_of, restored, restored_item}
 use Rattle.vt_bytes.proofs.PutAt.{length-put_at}
-use Rattle.cfg_directory.proofs.BytesPut.{has, put_in, none_put}
+use Rattle.cfg_directory.proofs.OneChanged.{has}
+use Rattle.cfg_directory.proofs.BytesPut.{put_in, none_put}
 
 -- ---- what is kept restores
 

@@ -1,5 +1,5 @@
 -- Items of one shape, which differ in their bytes at most.
-use Rattle.std.proofs.Common.{◌≡◌, ℕ, ◌+◌, ◌≤◌, Bool, true, false, cond, List, [], ◌∷◌, length, map, find, Option, Some, None}
+use Rattle.std.proofs.Common.{◌≡◌, ℕ, ◌+◌, ◌≤◌, Bool, List, [], ◌∷◌, length, map, find, Option, Some, None}
 use Rattle.std.proofs.Common.{option_map, inl, inr, sym, refl, ap, ap₂, subst, ◌∙◌}
 use Rattle.std.specs.Prelude.{IsSomeAnd}
 use Rattle.std.specs.Str.{bytes_eq}
@@ -13,7 +13,9 @@ use Rattle.cfg_directory.specs.declared.listed.Listed.{Listed}
 use Rattle.cfg_directory.specs.Items.{HasNoSelect, AreDistinct, named, selected, with_bytes_at}
 use Rattle.cfg_directory.specs.Listing.{listed_of}
 use Rattle.cfg_directory.specs.Shapes.{Shape, shape_of, HaveOneShape}
-use Rattle.cfg_directory.proofs.BytesPut.{has, put_in, none_put}
+use Rattle.cfg_directory.proofs.OneChanged.{has}
+use Rattle.cfg_directory.proofs.BytesPut.{put_in, none_put}
+use Rattle.cfg_directory.proofs.ItemsByName.{found_map}
 
 -- ---- bytes that are put into a file
 
@@ -59,14 +61,7 @@ same_length before after same = sym (length-map after shape_of) ∙ ap length sa
 -- the first shape that passes a test is that of the first item whose shape passes it
 shape_found : (test : Shape → Bool) (items : List Item)
     → find test (map shape_of items) ≡ option_map shape_of (find (λ (item : Item). test (shape_of item)) items)
-shape_found test [] = refl
-shape_found test (item ∷ items) =
-    elim (test (shape_of item)) as
-    (λ passes. cond passes (Some (shape_of item)) (find test (map shape_of items))
-    ≡ option_map shape_of (cond passes (Some item) (find (λ (other : Item). test (shape_of other)) items))) [
-      | true ↦ refl
-      | false ↦ shape_found test items
-    ]
+shape_found test = found_map shape_of test (λ item. test (shape_of item)) (λ item. refl)
 
 -- an item is there where its shape is
 shape_there : (o : Option Item) (shape : Shape) → option_map shape_of o ≡ Some shape → (item : Item) × (o ≡ Some item) × (shape_of item ≡ shape)

@@ -59,6 +59,11 @@ abbrev pub with_bytes_at : List Item → ℕ → ℕ → List ℕ → List Item
 with_bytes_at items select offset piece =
     map (λ (item : Item). if item.select == select then record item { bytes = put_at item.bytes offset piece } else item) items
 
+-- the items, the one of a selector with more bytes at its end
+abbrev pub with_bytes_behind : List Item → ℕ → List ℕ → List Item
+with_bytes_behind items select piece =
+    map (λ (item : Item). if item.select == select then record item { bytes = item.bytes ++ piece } else item) items
+
 -- The rows of an entry of the directory: size and selector high byte first, a reserved field, and the name in 56 bytes.
 abbrev pub entry_rows : ℕ → ℕ → List ℕ → List Row
 entry_rows size select name = BigEndian 4 size ∷ BigEndian 2 select ∷ Reserved 2 ∷ Named name ∷ []

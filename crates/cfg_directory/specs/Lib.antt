@@ -1,5 +1,6 @@
 pub mod Items
 pub mod Files
+pub mod SmbiosNames
 pub mod Container
 pub mod Parts
 pub mod Fed

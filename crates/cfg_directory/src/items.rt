@@ -1,8 +1,8 @@
-ghost use Rattle.std.specs.Prelude.{◌≡◌, ◌==◌, ◌+◌, ◌<◌, ◌≤◌, [], ◌∷◌, ◌++◌, length, Some, true, IsSomeAnd, IfOk, OnOk, OnErr};
+ghost use Rattle.std.specs.Prelude.{◌≡◌, ◌≢◌, ◌==◌, ◌+◌, ◌<◌, ◌≤◌, [], ◌∷◌, ◌++◌, length, Some, None, true, IsSomeAnd, IfOk, OnOk, OnErr};
 ghost use Rattle.std.specs.Option.{option_copied};
 ghost use Rattle.std.specs.List.{position};
 ghost use Rattle.cfg_directory.specs.Items.{IsItems, HasNoName, HasNoSelect, IsFileSelect, AreNumberedFrom, total_size, file_limit};
-ghost use Rattle.cfg_directory.specs.Items.{bytes_limit, named, selected, with_bytes_at};
+ghost use Rattle.cfg_directory.specs.Items.{bytes_limit, named, selected, with_bytes_at, with_bytes_behind};
 ghost use Rattle.cfg_directory.specs.Restored.{AreKept, kept_bytes, kept_of, restored, restored_item};
 
 use crate::item::Item;
@@ -123,6 +123,33 @@ impl Items {
         }
     }
 
+    /// Adds `bytes` at the end of the file with the selector `select`. There must be such a file, and with `bytes` the files may have at most
+    /// 67,108,864 bytes. It doesn't test whether the guest may write the file. It fails with `OutOfMemory` only where memory runs out, and
+    /// then the files are unchanged.
+    pub fn extend(&mut self, select: u16, bytes: &[u8]) -> Result<(), OutOfMemory>
+        requires there { selected self.old select ≢ None }
+        requires small { total_size self.old + length bytes.now ≤ bytes_limit }
+        ensures ok { OnOk result (self.new ≡ with_bytes_behind self.old select bytes.now) }
+        ensures err { OnErr result (self.new ≡ self.old) }
+    {
+        match index_of(self.items.as_slice(), select) {
+            Some(place) => self.items.get_mut(place).bytes.extend(bytes),
+            None => Ok(()),
+        }
+    }
+
+    /// Returns a copy of the files, with all memory from `alloc`. It fails with `OutOfMemory` only where memory runs out.
+    pub fn copy(&self, alloc: Global) -> Result<Items, OutOfMemory>
+        ensures { IfOk result (λ copy. copy ≡ self.now) }
+    {
+        let items = self.items.as_slice();
+        let mut copies = List::with_room(alloc, items.len())?;
+        for item in items {
+            copies.push(copy_of(alloc, item)?)?;
+        }
+        Ok(Items::of(copies))
+    }
+
     /// Returns what each file that may be written holds, and no bytes for each other one, in the files' order: what `restore`
     /// puts back. All memory comes from `alloc`. It fails with `OutOfMemory` only where memory runs out.
     pub fn kept(&self, alloc: Global) -> Result<List<Bytes>, OutOfMemory>
@@ -160,6 +187,20 @@ fn index_of(items: &[Item], select: u16) -> Option<usize>
     ensures { result ≡ position (λ item. item.select == select) items.now }
 {
     items.iter().position(|item| item.select == select)
+}
+
+// A copy of an item.
+fn copy_of(alloc: Global, item: &Item) -> Result<Item, OutOfMemory>
+    ensures { IfOk result (λ copy. copy ≡ item.now) }
+{
+    let mut bytes = Bytes::new(alloc);
+    bytes.extend(item.bytes.as_slice())?;
+    Ok(Item {
+        name: item.name,
+        select: item.select,
+        writable: item.writable,
+        bytes,
+    })
 }
 
 // What an item holds that may be written, and no bytes of any other.

@@ -20,6 +20,7 @@ mod listing;
 mod opening;
 mod reader;
 mod reading;
+mod smbios_names;
 
 pub use container::{ImageFault, read_image, write_image};
 pub use directory::directory_bytes;
@@ -28,3 +29,4 @@ pub use items::Items;
 pub use listed::Listed;
 pub use listing::{ENTRY_SIZE, list_entries};
 pub use reader::ImageReader;
+pub use smbios_names::{anchor_name, structures_name};

@@ -69,6 +69,7 @@ loaded_over May its events closing handed answer w kept is placed =
       )) at_end.ended.ran;
       stage = is;
       placed = placed;
+      apart = kept.now.loading.apart;
       shape = kept.now.shape;
       idle = at_end.ended.idle;
       top = kept.now.top;

@@ -12,7 +12,7 @@ use Rattle.loader_script.specs.declared.entry.Entry.{Entry}
 use Rattle.loader_script.specs.Run.{End}
 use Rattle.cfg_directory.specs.Files.{files_of}
 use Rattle.command_acts.specs.declared.fault.LoadFault.{LoadFault}
-use Rattle.command_acts.specs.FilesInMemory.{placed_ranges}
+use Rattle.command_acts.specs.FilesInMemory.{ArePlaced, placed_ranges}
 use Rattle.command_acts.specs.Runs.{Answers, IsRun, result_of}
 use Rattle.command_acts.specs.Script.{script_in}
 use Rattle.load_states.specs.declared.event.Event.{Event}
@@ -65,14 +65,16 @@ HasRun May items script handed answer w =
     (end : End) × IsRun May (files_of items) script handed end (progress_of w) × (answer ≡ result_of end)
 
 -- A load is over, with this answer. Nothing was handed out where there was no script, and no item changed; else the script was run, and of
--- the items their bytes alone may have changed. The rest of memory is as the other processors left it, over the events so far; the BIOS area,
--- which they can't write, holds the fill byte. Where the load is done the work range holds it too, and each transfer is told.
+-- the items their bytes alone may have changed. The files that are placed stand in RAM, apart from each other. The rest of memory is as the
+-- other processors left it, over the events so far; the BIOS area, which they can't write, holds the fill byte. Where the load is done the
+-- work range holds it too, and each transfer is told.
 pub record IsLoadedOver (May : Answers) (its : Opening) (events : List Event) (handed : List Range)
     (answer : Result (Unit {0}) LoadFault) (w : LoadState) : Type 0 where
   pub unread : IfErr (script_in its.items) (λ why. (answer ≡ Err why) × (handed ≡ []) × (items_now w ≡ its.items))
   pub ran : IfOk (script_in its.items) (λ script. HasRun May its.items script handed answer w)
   pub stage : w.stage ≡ stage_after answer
   pub placed : handed ≡ placed_ranges w.placed
+  pub apart : ArePlaced its.top w.placed
   pub shape : HaveOneShape its.items (items_now w)
   pub idle : w.attached.device.flight ≡ None
   pub top : (memory_of w).top ≡ its.top

@@ -1,9 +1,9 @@
 -- The run of a script, command by command.
-use Rattle.std.proofs.Common.{◌≡◌, ℕ, zero, suc, ◌+◌, List, [], ◌∷◌, take, slice_get, Option, Some, None, refl, ap, sym, ◌∙◌, arith}
+use Rattle.std.proofs.Common.{◌≡◌, ℕ, zero, suc, ◌+◌, List, [], ◌∷◌, ◌++◌, length, take, slice_get, Option, Some, None, refl, ap, sym, ◌∙◌, arith}
 use Rattle.std.proofs.lemmas.Option.{same_Some, none-some}
 use Rattle.loader_script.specs.declared.entry.Entry.{Entry}
 use Rattle.loader_script.specs.declared.refusing.Cause.{Cause}
-use Rattle.loader_script.specs.Run.{Progress, End, Done, Command, NoRoom, cause_of, carried_out, goes_on, run_from}
+use Rattle.loader_script.specs.Run.{Progress, End, Done, Command, NoRoom, cause_of, carried_out, goes_on, run_from, run_on}
 
 -- a command that is carried out leads to the rest of the script
 pub goes-on : (index : ℕ) (entry : Entry) (script : List Entry) (p next : Progress) → cause_of entry p ≡ None → carried_out entry p ≡ Some next
@@ -186,3 +186,27 @@ without_from index script p is =
       ap (λ k. carried_out is.entry (after_some k 0 script p)) (sym same) ∙ is.without,
       is.stops ∙ ap (λ k. after_some k 0 script p) same,
     )
+
+-- Two scripts, one behind the other.
+
+-- the first of them, whose command at an index is refused, finds no place, or is carried out
+joined_on : (index : ℕ) (front back : List Entry) (p : Progress) (refused : Option Cause) (after : Option Progress)
+    → ((next : Progress) → run_from (suc index) (front ++ back) next
+    ≡ run_on (suc index + length front) back (run_from (suc index) front next).0 (run_from (suc index) front next).1)
+    → goes_on index p refused after (run_from (suc index) (front ++ back))
+    ≡ run_on (suc index + length front) back (goes_on index p refused after (run_from (suc index) front)).0
+    (goes_on index p refused after (run_from (suc index) front)).1
+joined_on index front back p (Some cause) after rest = refl
+joined_on index front back p None None rest = refl
+joined_on index front back p None (Some next) rest = rest next
+
+pub joined : (index : ℕ) (front back : List Entry) (p : Progress)
+    → run_from index (front ++ back) p ≡ run_on (index + length front) back (run_from index front p).0 (run_from index front p).1
+joined index [] back p =
+    let none : index ≡ index + 0 = omega arith in
+    ap (λ n. run_from n back p) none
+joined index (entry ∷ front) back p =
+    let later : suc index + length front ≡ index + suc (length front) = omega arith in
+    let run = run_from index (entry ∷ front) p in
+    joined_on index front back p (cause_of entry p) (carried_out entry p) (joined (suc index) front back)
+    ∙ ap (λ n. run_on n back run.0 run.1) later

@@ -124,6 +124,11 @@ abbrev pub run_from : ℕ → List Entry → Progress → End × Progress
 run_from index [] p = (Done, p)
 run_from index (entry ∷ script) p = goes_on index p (cause_of entry p) (carried_out entry p) (run_from (suc index) script)
 
+-- how a run goes on with more of a script, the first command of which has this index: where it is done, from there
+abbrev pub run_on : ℕ → List Entry → End → Progress → End × Progress
+run_on index script Done p = run_from index script p
+run_on index script end p = (end, p)
+
 -- no file is placed yet
 abbrev pub opening : List File → List ℕ → Progress
 opening files places = record { files = files; placed = []; places = places }

@@ -1,9 +1,9 @@
 //! Laws over the definitions, each the contract of a function that does nothing.
 
-ghost use Rattle.std.specs.Prelude.{◌≡◌, ℕ, suc, ◌*◌, ◌↔◌, List, length, slice_get, Some, None};
+ghost use Rattle.std.specs.Prelude.{◌≡◌, ℕ, suc, ◌+◌, ◌*◌, ◌↔◌, List, ◌++◌, length, slice_get, Some, None};
 ghost use Rattle.std.specs.List.{flat_map, AllByRecursion};
 ghost use Rattle.vt_outside.specs.File.{File};
-ghost use Rattle.loader_script.specs.Run.{Progress, Done, Command, NoRoom, cause_of, carried_out, run, after_first};
+ghost use Rattle.loader_script.specs.Run.{Progress, Done, Command, NoRoom, cause_of, carried_out, run, run_from, run_on, after_first};
 ghost use Rattle.loader_script.specs.Conditions.{CanCarryOut};
 ghost use Rattle.loader_script.specs.declared.refusing.Cause.{Cause};
 ghost use Rattle.loader_script.specs.Spelling.{entry_of, entries_of, entry_bytes, Fits, CanBeWritten};
@@ -40,6 +40,14 @@ pub fn done_runs_carry_out_each_command()
         → run files script places ≡ (Done, end) → slice_get script index ≡ Some entry
         → (cause_of entry (after_first index files script places) ≡ None)
         × (carried_out entry (after_first index files script places) ≡ Some (after_first (suc index) files script places)) }
+{}
+
+/// States that the run of two scripts, one behind the other, is that of the first and, where it is done, that of the second from there, with the
+/// indexes going on.
+pub fn a_script_is_run_in_two_parts()
+    ensures { (index : ℕ) (front back : List Entry) (p : Progress)
+        → run_from index (front ++ back) p
+        ≡ run_on (index + length front) back (run_from index front p).0 (run_from index front p).1 }
 {}
 
 /// States that a run that ends at a command is refused there for the first cause, and that the command changes nothing.

@@ -6,7 +6,8 @@ use Rattle.vt_bytes.specs.Parts.{part}
 use Rattle.blob_holes.specs.Blob.{IsBlob}
 use Rattle.blob_holes.specs.Filled.{PlacesFit}
 use Rattle.blob_holes.specs.Grown.{IsLinkable}
-use Rattle.vm_image.specs.Image.{anchor_blob, structures_name}
+use Rattle.vm_image.specs.Image.{anchor_blob}
+use Rattle.cfg_directory.specs.SmbiosNames.{structures_name}
 
 -- it has 24 bytes
 pub length-anchor : (size : ℕ) → length (anchor_blob size).bytes ≡ 24

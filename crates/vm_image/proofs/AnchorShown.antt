@@ -12,7 +12,8 @@ use Rattle.blob_holes.specs.Rows.{AreRows}
 use Rattle.blob_holes.specs.Held.{HoldsFilled}
 use Rattle.blob_holes.proofs.HeldRows.{held_where_appended}
 use Rattle.image_files.specs.Files.{whole}
-use Rattle.vm_image.specs.Image.{anchor_blob, structures_name}
+use Rattle.vm_image.specs.Image.{anchor_blob}
+use Rattle.cfg_directory.specs.SmbiosNames.{structures_name}
 use Rattle.vm_image.proofs.Whole.{whole_kept}
 use Rattle.vm_image.proofs.Grown.{extends_self}
 

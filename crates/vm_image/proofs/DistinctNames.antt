@@ -9,7 +9,8 @@ use Rattle.image_files.specs.Files.{ImageFile}
 use Rattle.loader_script.specs.LoaderName.{loader_name}
 use Rattle.image_files.specs.Linkable.{HasNoName, AreDistinct}
 use Rattle.dsdt_terms.specs.Dsdt.{generation_file}
-use Rattle.vm_image.specs.Image.{anchor_name, structures_name, rsdp_name, address_name, acpi_part, smbios_placed, structures_file, generation_part, image_files}
+use Rattle.vm_image.specs.Image.{rsdp_name, address_name, acpi_part, smbios_placed, structures_file, generation_part, image_files}
+use Rattle.cfg_directory.specs.SmbiosNames.{anchor_name, structures_name}
 
 -- the names of files are, in order, some of these names
 abbrev AreSome : List (List ℕ) → List ImageFile → Type 0

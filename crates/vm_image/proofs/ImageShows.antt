@@ -13,7 +13,8 @@ use Rattle.smbios_model.specs.Smbios.{AreStructures}
 use Rattle.loader_script.specs.Run.{place_of as place_in}
 use Rattle.image_files.specs.Files.{ImageFile}
 use Rattle.image_files.specs.Places.{ArePlaces}
-use Rattle.vm_image.specs.Image.{acpi_part, smbios_placed, structures_file, generation_part, image_files, anchor_name}
+use Rattle.vm_image.specs.Image.{acpi_part, smbios_placed, structures_file, generation_part, image_files}
+use Rattle.cfg_directory.specs.SmbiosNames.{anchor_name}
 use Rattle.vm_image.specs.AcpiHeld.{AreAcpiKnown}
 use Rattle.vm_image.specs.Promised.{IsShownAnywhere, AreShownAlike}
 use Rattle.vm_image.proofs.Accepted.{Lawful, lawful}

@@ -5,7 +5,8 @@ use Rattle.vt_bytes.specs.Memory.{Memory, seen}
 use Rattle.smbios_model.specs.Anchor.{HasAnchor}
 use Rattle.smbios_model.specs.Smbios.{AreStructures, ShowsSmbios}
 use Rattle.smbios_model.specs.declared.smbios.Structure.{Structure}
-use Rattle.vm_image.specs.Image.{smbios_placed, anchor_name, structures_name}
+use Rattle.vm_image.specs.Image.{smbios_placed}
+use Rattle.cfg_directory.specs.SmbiosNames.{anchor_name, structures_name}
 use Rattle.vm_image.proofs.Whole.{holds_whole}
 use Rattle.vm_image.proofs.AnchorShown.{AnchorHeld, anchor_shown, anchor_shows}
 use Rattle.vm_image.proofs.Standing.{Stands}

@@ -24,15 +24,10 @@ use Rattle.smbios_model.specs.MachineStructures.{structures_of}
 use Rattle.vt_layout.specs.declared.row.Row.TheVariants.{Pointer}
 use Rattle.zone_alloc.specs.declared.zone.Zone.{Zone}
 use Rattle.zone_alloc.specs.declared.zone.Zone.TheVariants.{High, Fseg}
+use Rattle.cfg_directory.specs.SmbiosNames.{anchor_name, structures_name}
 use Rattle.image_files.specs.Files.{ImageFile, whole}
 use Rattle.image_files.specs.Script.{script_of}
 use Rattle.image_files.specs.Items.{items_of}
-
-abbrev pub anchor_name : List ℕ
-anchor_name = codes "etc/smbios/smbios-anchor"
-
-abbrev pub structures_name : List ℕ
-structures_name = codes "etc/smbios/smbios-tables"
 
 abbrev pub rsdp_name : List ℕ
 rsdp_name = codes "etc/acpi/rsdp"

@@ -1,25 +1,11 @@
 //! The names of an image's files in the directory of fw_cfg.
 
 ghost use Rattle.std.specs.Prelude.{◌≡◌};
-ghost use Rattle.vm_image.specs.Image.{anchor_name, structures_name, rsdp_name, address_name};
+ghost use Rattle.vm_image.specs.Image.{rsdp_name, address_name};
 ghost use Rattle.acpi_model.specs.Kinds.{tables_name as acpi_tables_name};
 
 use acpi_append::TABLES_FILE;
 use vt_outside::Name;
-
-/// Returns the name of the file of the SMBIOS anchor.
-pub(crate) fn anchor_name() -> Name
-    ensures { result ≡ anchor_name }
-{
-    Name::of("etc/smbios/smbios-anchor").unwrap()
-}
-
-/// Returns the name of the file of the SMBIOS structures.
-pub(crate) fn structures_name() -> Name
-    ensures { result ≡ structures_name }
-{
-    Name::of("etc/smbios/smbios-tables").unwrap()
-}
 
 /// Returns the name of the file of the RSDP.
 pub(crate) fn rsdp_name() -> Name

@@ -5,11 +5,12 @@ ghost use Rattle.machine_desc.specs.Rules.{IsAccepted};
 ghost use Rattle.smbios_model.specs.MachineStructures.{structures_of};
 ghost use Rattle.smbios_model.specs.Smbios.{AreStructures};
 ghost use Rattle.image_files.specs.Files.{whole};
-ghost use Rattle.vm_image.specs.Image.{anchor_blob, anchor_name, smbios_placed, structures_file, structures_name, placed_file};
+ghost use Rattle.vm_image.specs.Image.{anchor_blob, smbios_placed, structures_file, placed_file};
+ghost use Rattle.cfg_directory.specs.SmbiosNames.{anchor_name, structures_name};
 
-use crate::names::{anchor_name, structures_name};
 use crate::placed::{placed_file, without_holes};
 use blob_holes::{Blob, append_rows};
+use cfg_directory::{anchor_name, structures_name};
 use image_files::ImageFile;
 use machine_desc::Machine;
 use smbios_build::{SmbiosBuildFault, build_smbios};

@@ -1,6 +1,7 @@
 use Rattle.std.proofs.Common.{length, ◌++◌, ◌∷◌, [], arith, ap, ◌∙◌}
 use Rattle.zone_alloc.specs.declared.zone.Zone.TheVariants.{Fseg}
-use Rattle.vm_image.specs.Image.{placed_file, anchor_name, anchor_blob, smbios_placed}
+use Rattle.vm_image.specs.Image.{placed_file, anchor_blob, smbios_placed}
+use Rattle.cfg_directory.specs.SmbiosNames.{anchor_name}
 use Rattle.vm_image.proofs.Pushed.{two_more}
 use Rattle.vm_image.proofs.StructuresSize.{structures_size}
 use Rattle.vm_image.proofs.smbios.push_smbios.Goals as goal

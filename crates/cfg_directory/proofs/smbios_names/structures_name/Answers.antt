@@ -1,6 +1,6 @@
 use Rattle.std.proofs.Common.{rules}
 use Rattle.vt_outside.specs.Name.{name_of}
-use Rattle.vm_image.proofs.names.anchor_name.Goals as goal
+use Rattle.cfg_directory.proofs.smbios_names.structures_name.Goals as goal
 
 pub unwrap-requires : goal.unwrap-requires
 unfolding name_of
