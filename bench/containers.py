@@ -9,8 +9,9 @@ most that one may have: each file is placed, and then pointers and sums follow, 
 these files and commands, and `written.container` is `many` with files that a guest may write. `writes.container` has as many commands as `many`,
 all of which but the first, which places a file, write its place to another file of fw_cfg, and `pointers.container` as many that add its place to
 a number in memory. `full.container` has as many bytes as an input may have, most of them in a file that no command names; `writable.container` is
-the same, but that a guest may write that file. `alone.container` has a script of no commands and no other file. All are spelled as docs/FORMATS.md
-says.
+the same, but that a guest may write that file. `install.container` has the SMBIOS files of a small machine without a script, and beside them as many
+bytes as leave room for the commands that install them; `scripted.container` is the same with a script of these commands. `alone.container` has a script of
+no commands and no other file. All are spelled as docs/FORMATS.md says.
 """
 
 import pathlib
@@ -27,6 +28,8 @@ FIRST_SELECTOR = 0x20
 MOST_COMMANDS = 8192
 MANY_FILES = 1000
 MOST_BYTES = 64 << 20  # of an input
+ANCHOR, STRUCTURES = "etc/smbios/smbios-anchor", "etc/smbios/smbios-tables"
+END_OF_TABLE = b"\x7f\x04\x00\x7f\x00\x00"
 
 
 def name_field(name):
@@ -97,6 +100,17 @@ def pointers():
     return container([("source", bytes(4096)), (SCRIPT, script)])
 
 
+def smbios(scripted):
+    """SMBIOS files, with a script that installs them or without one, and another file, so that all have as many bytes as an input may have."""
+    anchor = struct.pack("<5sBBBBBBBIQ", b"_SM3_", 0, 24, 3, 0, 0, 1, 0, len(END_OF_TABLE), 0)
+    pointer = command(2, name_field(ANCHOR) + name_field(STRUCTURES) + struct.pack("<IB", 16, 8))
+    total = command(3, name_field(ANCHOR) + struct.pack("<III", 5, 0, 24))
+    script = (SCRIPT, allocate(STRUCTURES) + allocate(ANCHOR, zone=2) + pointer + total)
+    named = [(ANCHOR, anchor), (STRUCTURES, END_OF_TABLE)]
+    rest = bytes(MOST_BYTES - len(container([*named, ("unnamed", b""), script])))
+    return container([*named, ("unnamed", rest), *([script] if scripted else [])])
+
+
 def main(folder):
     folder = folder_of(folder)
     (folder / "large.container").write_bytes(large())
@@ -108,6 +122,8 @@ def main(folder):
     (folder / "pointers.container").write_bytes(pointers())
     (folder / "full.container").write_bytes(full())
     (folder / "writable.container").write_bytes(full(writable=("unnamed",)))
+    (folder / "install.container").write_bytes(smbios(scripted=False))
+    (folder / "scripted.container").write_bytes(smbios(scripted=True))
     (folder / "alone.container").write_bytes(container([(SCRIPT, b"")]))
 
 

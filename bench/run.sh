@@ -238,6 +238,14 @@ add_writable() {
     against "cat of as many bytes as the container has" "$work/writable.container" cat
 }
 
+# SMBIOS files that `load` installs by itself, beside the same with a script that does so.
+add_install() {
+    local name="load install"
+    against "load --install" "$work/install.container" "$program" load --install
+    against "load of the same files with such a script" "$work/scripted.container" "$program" load
+    against "cat of as many bytes as the container has" "$work/install.container" cat
+}
+
 # add_resets NAME: a load of a container whose guest is reset so often before it begins, by the program of cases, which makes such a plan.
 add_resets() {
     local name="resets $1" count
@@ -343,9 +351,10 @@ compare_all_memory() {
         compare_memory "$input" boot
         compare_memory "$input" build
     done
-    for input in large many full writable random writes; do
+    for input in large many full writable random writes scripted; do
         compare_memory "$work/$input.container" load
     done
+    compare_memory "$work/install.container" load --install
     compare_memory /dev/null gen "${processors[0]}"
     compare_memory "$work/server/dump" decode
     compare_memory "$work/processors/dump" decode
@@ -432,6 +441,7 @@ for container in large full many random; do
 done
 add_writes
 add_writable
+add_install
 for container in "${reset_often[@]}"; do
     add_resets "$container"
 done

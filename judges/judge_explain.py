@@ -44,6 +44,7 @@ NUMBERED = {
     ("How a dump is read", "number", "fault", "comes where", "tells"): explain.DUMP_FAULTS,
     ("The line of a fault of the tables", "number", "fault of the ACPI tables", "comes where", "tells"): explain.ACPI_FAULTS,
     ("The line of a fault of the tables", "number", "fault of the SMBIOS structures", "comes where", "tells"): explain.SMBIOS_FAULTS,
+    ("Installing SMBIOS files", "number", "fault", "comes where"): explain.INSTALL_FAULTS,
 }
 
 # Tables that tell when a fault comes, in the order of tests, so that a number may stand there twice.
@@ -240,6 +241,7 @@ def numbers_of_lines(tables):
         "dump: fault F line N": ("F", by_number(rows_named(tables, [*NUMBERED][2]))),
         "tables: acpi fault F at X": ("F", by_number(rows_named(tables, [*NUMBERED][3]))),
         "tables: smbios fault F at P": ("F", by_number(rows_named(tables, [*NUMBERED][4]))),
+        "install: fault F": ("F", by_number(rows_named(tables, [*NUMBERED][5]))),
         "tables: not this profile, item N": ("N", by_number(rows_named(tables, ITEMS_TABLE))),
         "description: rule R index I": ("R", by_number(rows_named(tables, RULES_TABLE))),
     }
@@ -352,6 +354,9 @@ ENDS = [
     (["load"], container([]), 5),
     (["load"], container([(SCRIPT, b"1")]), 5),
     (["load"], container([(SCRIPT, allocate("none"))]), 5),
+    (["load", "--install"], b"", 5),
+    (["load", "--install"], container([]), 5),
+    (["load", "--install", "--install"], b"", 2),
     (["decode"], b"", 6),
     (["decode"], bad_memory(pointer_to(NO_RAM)), 7),
     (["decode"], dump_text(Memory(64 << 20, 0)), 7),
@@ -360,6 +365,12 @@ ENDS = [
     (["decode", "--legacy"], bad_memory(pointer_to(NO_RAM)), 7),
     (["decode", "--legacy"], bad_memory(legacy_pointer_to(NO_RAM)), 7),
     (["decode", "--list", "--legacy"], bad_memory(legacy_pointer_to(0)), 7),
+    (["decode", "--list", "--any"], bad_memory(legacy_pointer_to(0)), 7),
+    (["decode", "--list", "--any"], bad_memory(pointer_to(NO_RAM)), 7),
+    (["decode", "--list", "--smbios2"], b"", 6),
+    (["decode", "--smbios2"], b"", 2),
+    (["decode", "--any"], b"", 2),
+    (["decode", "--list", "--any", "--legacy"], b"", 2),
     (["boot"], bytes(MOST_INPUT + 1), 10),
 ]
 

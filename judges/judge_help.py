@@ -8,6 +8,7 @@ PROGRAM stands for ./vmtables. What must hold:
 
 - the synopsis of the page has the lines of usage that are printed, and `--help` and `--version`, and no other;
 - the page has each command, each option and each status that is printed, and no other, and says of each what is printed of it;
+- it says of the same options as the text that one may be given only with another, and that at most one of two may be given;
 - the statuses are those of tools/explain.py.
 
 Then a fault must be found wherever one of these is missing in the page or in the text, or is another.
@@ -31,17 +32,22 @@ PAGE = ROOT / "docs/vmtables.1"
 SHOWN = 12  # of the faults
 
 
+# What is said of two options.
+PAIRS = [re.compile(r"(--\w+) may be given only with (--\w+)"), re.compile(r"at most one of (--\w+) and (--\w+) may be given")]
+
+
 class NoHelp(Exception):
     pass
 
 
 class Said(NamedTuple):
-    """The lines of usage, and what is said of each command, option and status."""
+    """The lines of usage, and what is said of each command, option and status, and of pairs of options."""
 
     usages: set
     commands: dict
     options: dict
     statuses: dict
+    pairs: set
 
 
 def put(entries, name, texts):
@@ -54,9 +60,11 @@ def said_by_help(text):
     """What the text of `--help` says. A part is a line at the margin, and what is indented behind it."""
     usage, _, rest = text.partition("\n\n")
     usages = {line.removeprefix("usage:").strip() for line in usage.splitlines()}
-    commands, options, statuses = {}, {}, {}
+    commands, options, statuses, pairs = {}, {}, {}, set()
     for head, *lines in (part.splitlines() for part in re.split(r"\n(?=\S)", rest)):
-        lines = [line for line in lines if line]
+        said = {line.strip() for line in lines if any(pair.fullmatch(line.strip()) for pair in PAIRS)}
+        pairs |= said
+        lines = [line for line in lines if line and line.strip() not in said]
         if head == "Status:":
             statuses = numbered(lines)
         elif head.startswith("--"):
@@ -66,7 +74,7 @@ def said_by_help(text):
             put(commands, head, [lines[0].strip(), *operands(lines[1:])])
             for name, texts in options_in(lines[1:]):
                 put(options, name, texts)
-    return Said(usages, commands, options, statuses)
+    return Said(usages, commands, options, statuses, pairs)
 
 
 def numbered(lines):
@@ -152,12 +160,9 @@ def said_by_page(page):
     sections = sections_of(page)
     usages = [" ".join(shown_line(line) for line in part.splitlines()) for part in "\n".join(sections.get("SYNOPSIS", [])).split(".Nm\n") if part]
     statuses = {int(number): texts for number, texts in items_of(sections.get("EXIT STATUS", [])).items()}
-    return Said(
-        {f"vmtables {usage}" for usage in usages},
-        items_of(sections.get("Commands", [])),
-        items_of(sections.get("Options", [])),
-        statuses,
-    )
+    options = items_of(sections.get("Options", []))
+    pairs = {found[0] for text in options.values() for pair in PAIRS for found in pair.finditer(" ".join(text))}
+    return Said({f"vmtables {usage}" for usage in usages}, items_of(sections.get("Commands", [])), options, statuses, pairs)
 
 
 def more_in(what, printed, paged):
@@ -176,7 +181,8 @@ def differences(help_text, page):
     """What the text and the page say otherwise."""
     printed, paged = said_by_help(help_text), said_by_page(page)
     yield from more_in("usage", printed.usages, paged.usages)
-    for what, one, other in zip(("command", "option", "status"), printed[1:], paged[1:]):
+    yield from more_in("what is said of options", printed.pairs, paged.pairs)
+    for what, one, other in zip(("command", "option", "status"), printed[1:4], paged[1:4]):
         yield from more_in(what, one.keys(), other.keys())
         yield from text_differences(what, one, other)
     known = {0} | {line.status for line in LINES}

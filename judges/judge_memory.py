@@ -5,8 +5,9 @@ each write to standard output fails, one at a time, over several commands. It is
 usage: judge_memory.py PROGRAM DESCRIPTION..
 
 PROGRAM is the program itself, or ./vmtables, which runs the one that is built. Each DESCRIPTION is booted, without options and with them, and
-built; what that gives is loaded, decoded and listed, and so with `--legacy` once its tables have that form; and `gen` generates a machine. Each
-command first runs undisturbed, and its calls are counted. Then it runs once for each of them, which alone fails, and once more. What must hold:
+built; what that gives is loaded, decoded and listed, and so with `--legacy` and with `--any` once its tables have that form; of its files without a
+script, and with one that is skipped, those of SMBIOS are installed; and `gen` generates a machine. Each command first runs undisturbed, and its calls
+are counted. Then it runs once for each of them, which alone fails, and once more. What must hold:
 
 - without an allocation the status is 9, nothing is on standard output, and standard error has the line `out of memory`;
 - without a read the status is 1, nothing is on standard output, and standard error has the line `read fault`;
@@ -31,8 +32,10 @@ import tempfile
 import tomllib
 
 from calls import Refused, built_program
+from fw_cfg_files import COMMAND_SIZE, SCRIPT, read_container_file
 from legacy_memory import SECOND, legacy_memory
 from memory_dump import dump_text, read_dump_file
+from plain.images import container
 
 KINDS = {"allocation": (9, b"out of memory\n"), "read": (1, b"read fault\n"), "write": (8, b"write fault\n")}  # of calls; the status and the line
 PROCESSORS = "8"  # of the machine that `gen` generates
@@ -184,6 +187,10 @@ def commands_of(refusing, description, folder):
     for word in ["build", "boot"]:
         made[word] = folder / f"{pathlib.Path(description).stem}.{word}"
         made[word].write_bytes(refusing.whole_run([word], description)[0][1])
+    files = read_container_file(made["build"])
+    for word, script in {"bare": {}, "skipped": {SCRIPT: bytes(COMMAND_SIZE)}}.items():
+        made[word] = folder / f"{pathlib.Path(description).stem}.{word}"
+        made[word].write_bytes(container({name: content for name, content in files.items() if name != SCRIPT} | script))
     made["legacy"] = folder / f"{pathlib.Path(description).stem}.legacy"
     made["legacy"].write_bytes(dump_text(legacy_memory(read_dump_file(made["boot"]), SECOND, 3)))
     top = str(tomllib.loads(pathlib.Path(description).read_text(encoding="utf-8"))["top_mib"])
@@ -192,10 +199,13 @@ def commands_of(refusing, description, folder):
         (["boot", *OPTIONS], description),
         (["build"], description),
         (["load", "--top", top], made["build"]),
+        (["load", "--install", "--top", top], made["bare"]),
+        (["load", "--install", "--top", top], made["skipped"]),
         (["decode"], made["boot"]),
         (["decode", "--list"], made["boot"]),
         (["decode", "--legacy"], made["legacy"]),
         (["decode", "--list", "--legacy"], made["legacy"]),
+        (["decode", "--list", "--any"], made["legacy"]),
     ]
 
 

@@ -1,6 +1,6 @@
 #!/usr/bin/env python3
-"""Judges what `vmtables decode --list --legacy` says of ACPI tables by a plain reader (judges/plain/tables.py), made of docs/FORMATS.md alone. It is no
-part of the product: it serves the checks of judges/run.sh alone.
+"""Judges what `vmtables decode --list --legacy` and `--any` say of ACPI tables by a plain reader (judges/plain/tables.py), made of docs/FORMATS.md alone.
+It is no part of the product: it serves the checks of judges/run.sh alone.
 
 usage: judge_read_legacy.py PROGRAM [SEED [PERCENT]]
 
@@ -13,7 +13,8 @@ leads to an RSDT (ACPI 6.5, 5.2.5.3 and 5.2.7):
 - RSDPs of other revisions, sums and places, beside one another and beside one of revision 2, and where they lead;
 - tables of each kind that a seed draws, some with a fault, behind an RSDT, whose FADTs have any length.
 
-Some of them are listed without `--legacy`, too. SEED is another seed, and PERCENT how many of the memories that are drawn, 100 where nothing is said:
+Some of them are listed without `--legacy`, too, some with `--any`, and those of RSDPs beside one another with both; and so are drawn tables behind an
+XSDT, whose FADTs have any length, with `--any`. SEED is another seed, and PERCENT how many of the memories that are drawn, 100 where nothing is said:
 2000 has 100,000 of them.
 
 Status 0: all of this holds; 1: something doesn't, each with a line; 2: PROGRAM can't be run.
@@ -27,7 +28,7 @@ from every_table import SUM_AT, TOP, changed
 from judge_read_tables import BITS, FAULTS, READ, VALUES, Drawing, outcome_of
 from made_roots import LEGACY_POINTER, legacy_pointer_to, pointer_to, rsdt_of, summed, table_of, xsdt_of
 from memory_dump import Memory, dump_text
-from plain.lists import LEGACY, listed_memory
+from plain.lists import ANY, LEGACY, listed_memory
 
 NO_RAM = 0xA0000
 POINTER_SUM_AT = 8
@@ -39,8 +40,9 @@ MOST_FADT = 280  # up to which it has each length
 HUGE = [1 << 16, (1 << 31) - 1, 1 << 31, (1 << 32) - 1]
 
 DRAWN = 5_000
+DRAWN_ANY = 2_500
 LEAST = 40  # how often each outcome must come
-ALSO_PLAIN = 16  # one of so many memories is listed without the option, too
+ALSO_PLAIN, ALSO_ANY = 16, 4  # one of so many memories is listed without the option, too, and one with `--any`
 
 
 def facs():
@@ -179,35 +181,48 @@ def root_pointers():
                 yield f"{first.hex()}, and {second.hex()} {between:#x} behind it", changed(changed(bare, 0xE0000, first), 0xE0000 + between, second)
 
 
-class LegacyDrawing(Drawing):
-    """Draws memories with an RSDT, whose FADTs are of any length."""
-
-    root, width, pointer_to = b"RSDT", 4, staticmethod(legacy_pointer_to)
+class ShortDrawing(Drawing):
+    """Draws memories with an XSDT, whose FADTs are of any length."""
 
     def fadt_size(self):
         return self.draws.choice([116, 116, 244, 244, 276, self.draws.randrange(130, 150), self.draws.randrange(108, MOST_FADT)])
 
 
-def drawn_memories(seeds):
-    drawing = LegacyDrawing(seeds.draws("legacy tables"))
-    for number in range(seeds.count(DRAWN)):
+class LegacyDrawing(ShortDrawing):
+    """The same with an RSDT."""
+
+    root, width, pointer_to = b"RSDT", 4, staticmethod(legacy_pointer_to)
+
+
+def drawn_memories(seeds, drawing, count):
+    for number in range(seeds.count(count)):
         yield f"memory {number} of seed {seeds.seed}", drawing.memory()
 
 
 def all_memories(seeds):
-    for memories in (changed_memories, length_memories, root_memories, root_pointers):
+    for memories in (changed_memories, length_memories, root_memories):
         yield from memories()
-    yield from drawn_memories(seeds)
+    yield from drawn_memories(seeds, LegacyDrawing(seeds.draws("legacy tables")), DRAWN)
 
 
 def main(program, *words):
     seeds = Seeds(words)
     comparison = Comparison(Program(program, "decode", "--list"), outcome_of, READ)
+
+    def compare(what, memory, *options):
+        comparison.judge(f"{what} {options}", dump_text(memory), listed_memory(memory, *options), *options)
+
     for number, (what, memory) in enumerate(all_memories(seeds)):
-        dump = dump_text(memory)
-        comparison.judge(what, dump, listed_memory(memory, LEGACY), LEGACY)
+        compare(what, memory, LEGACY)
         if number % ALSO_PLAIN == 0:
-            comparison.judge(f"{what}; without the option", dump, listed_memory(memory))
+            compare(what, memory)
+        if number % ALSO_ANY == 0:
+            compare(what, memory, ANY)
+    for what, memory in root_pointers():
+        for options in ((LEGACY,), (), (ANY,)):
+            compare(what, memory, *options)
+    for what, memory in drawn_memories(seeds, ShortDrawing(seeds.draws("short FADTs")), DRAWN_ANY):
+        compare(what, memory, ANY)
     return comparison.report("memories with legacy tables", comparison.lacking([READ, *FAULTS.values()], LEAST))
 
 

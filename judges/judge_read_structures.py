@@ -7,7 +7,8 @@ usage: judge_read_structures.py PROGRAM [SEED [PERCENT]]
 PROGRAM stands for ./vmtables. It must list the version, the types and the handles, or tell the first fault with its place, of each of these:
 
 - a table with a structure of every type, each front of it, and each of its bytes with every value;
-- anchors and tables at the border of each rule, made by hand;
+- anchors of both forms and tables at the border of each rule, made by hand, each byte of an old anchor changed, with its sums mended and not, and
+  anchors beside one another, all of them listed with `--smbios2` and `--any`, too;
 - structures that a seed draws, some with a fault; and bytes among which NULs, types and lengths are many.
 
 Structures without a fault stand one behind the other, up to the next with a fault. SEED is another seed, and PERCENT how many of the inputs that are
@@ -16,20 +17,22 @@ drawn, 100 where nothing is said.
 Status 0: all of this holds; 1: something doesn't, each with a line; 2: PROGRAM can't be run.
 """
 
+import itertools
 import sys
 
 from calls import Comparison, Joined, Program, Seeds
 from endings import ended
-from made_roots import anchor_of, pointer_to, summed, xsdt_of
+from made_roots import anchor_of, old_anchor_of, pointer_to, summed, summed_old, xsdt_of
 from memory_dump import Memory, dump_text
 from plain.ended import Refused
-from plain.lists import listed_memory
+from plain.lists import ANY, SMBIOS2, listed_memory
 from plain.structures import NO_END, NO_SUCH_STRING, SHORT_STRUCTURE, STRING_FIELDS, TRUNCATED, refused, structures_in
 
 TOP = 64 << 20
 POINTER, XSDT = 0xE0000, 0x1000  # of ACPI tables that name nothing
 ANCHOR_AT, TABLE_AT = 0xF0000, TOP - (16 << 20)
 NO_RAM = 0xA0000
+SEARCHES = [(), (SMBIOS2,), (ANY,)]  # options of a list
 
 # A structure of every type, a raw one, and the end (DSP0134, 6.1 and chapter 7). Neighbouring numbers differ, and strings are named out of their
 # order, twice, or not at all.
@@ -92,8 +95,8 @@ class Tables:
     def compare(self, what, table, inputs=1):
         self.list(what, memory_of(table), inputs)
 
-    def list(self, what, memory, inputs=1):
-        self.comparison.judge(what, dump_text(memory), listed_memory(memory), inputs=inputs)
+    def list(self, what, memory, inputs=1, options=()):
+        self.comparison.judge(f"{what} {options}", dump_text(memory), listed_memory(memory, *options), *options, inputs=inputs)
 
     def add(self, what, table):
         """Adds a table to those of a call, which ends with the first that has a fault or an end."""
@@ -196,6 +199,41 @@ def anchors():
         yield f"a table of fill bytes {fill:#x}", memory
 
 
+def changed_old_anchors():
+    """Memories with an old anchor (DSP0134 5.2.1), each byte of which is another, its sums mended or not."""
+    right = old_anchor_of(TABLE_AT, len(END))
+    yield "an old anchor", memory_of(END, right)
+    for at, byte in enumerate(right):
+        for value in {0, 1, 0x1E, 0x1F, 0x20, 0x24, byte ^ 1, byte ^ 0x80, 0xFF} - {byte}:
+            changed = right[:at] + bytes([value]) + right[at + 1 :]
+            yield f"byte {at} of an old anchor is {value:#04x}", memory_of(END, changed)
+            yield f"byte {at} of an old anchor is {value:#04x}, mended", memory_of(END, summed_old(changed))
+            yield f"byte {at} of an old anchor is {value:#04x}, its first sum mended", memory_of(END, summed(changed, 4))
+            yield f"byte {at} of an old anchor is {value:#04x}, its second sum mended", memory_of(END, changed[:16] + summed(changed[16:], 5))
+
+
+def old_anchors():
+    """Memories with an old anchor at other places, with other numbers, and beside others."""
+    right, new = old_anchor_of(TABLE_AT, len(END)), anchor_of(TABLE_AT + 0x100, len(END))
+    for at in (0, 0x9FFE0, 0xE0000, 0xEFFE0, 0xEFFF0, 0xF0008, 0xF0010, 0xF0FF0, 0xFFFD0, 0xFFFE0):
+        yield f"an old anchor at {at:#x}", memory_of(END, right, at)
+    yield "an old anchor past the end", memory_of(END, right[:16], 0xFFFF0)
+    for size in (0, 1, 4, 5, 6, 7, 0xFFFF):
+        yield f"{size} bytes behind an old anchor", memory_of(END, old_anchor_of(TABLE_AT, size))
+        yield f"{size} bytes of no end behind an old anchor", memory_of(EVERY[10], old_anchor_of(TABLE_AT, size))
+    for address in (0, NO_RAM, NO_RAM - 6, NO_RAM - 5, TOP, TOP - 6, TOP - 5, (1 << 32) - 1):
+        yield f"an old anchor that leads to {address:#x}", memory_of(END, old_anchor_of(address, len(END)))
+    for version in ((0, 0), (2, 255), (255, 3)):
+        yield f"an old anchor of version {version}", memory_of(END, old_anchor_of(TABLE_AT, len(END), version))
+    yield "a table of 65,535 bytes", memory_of(EVERY[10] * 10_000 + END, old_anchor_of(TABLE_AT, 0xFFFF))
+    wrong = [right[:4] + bytes([right[4] ^ 1]) + right[5:], new[:5] + bytes([new[5] ^ 1]) + new[6:], old_anchor_of(TABLE_AT, 5), anchor_of(TABLE_AT, 5)]
+    for (first, second), between in itertools.product(itertools.product((right, new, *wrong), repeat=2), (0x20, 0x1000)):
+        memory = memory_of(END, first)
+        memory.write(ANCHOR_AT + between, second)
+        memory.write(TABLE_AT + 0x100, END)
+        yield f"{first.hex()}, and {second.hex()} {between:#x} behind it", memory
+
+
 class Drawing:
     """Draws structures by a random generator, most of which have a type that is known, its length and few strings."""
 
@@ -257,8 +295,9 @@ def main(program, *words):
     for what, table in all_inputs(seeds):
         tables.add(what, table)
     tables.joined.give("the last ones")
-    for what, memory in anchors():
-        tables.list(what, memory)
+    for what, memory in [*anchors(), *changed_old_anchors(), *old_anchors()]:
+        for options in SEARCHES:
+            tables.list(what, memory, options=options)
     return tables.comparison.report("tables of structures", tables.comparison.lacking([READ, *FAULTS.values()], seeds.count(LEAST)))
 
 

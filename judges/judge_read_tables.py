@@ -11,7 +11,7 @@ PROGRAM stands for ./vmtables. It must list the tables, or tell the first fault 
 - memories at the border of each rule, made by hand (judges/hand_tables.py);
 - memories of tables that a seed draws, some with a fault.
 
-SEED is another seed, and PERCENT how many of the memories that are drawn, 100 where nothing is said.
+Some of them are listed with `--any`, too. SEED is another seed, and PERCENT how many of the memories that are drawn, 100 where nothing is said.
 
 Status 0: all of this holds; 1: something doesn't, each with a line; 2: PROGRAM can't be run.
 """
@@ -24,7 +24,7 @@ from every_table import DIGITS, NAMES, PLACES, POINTER, SUM_AT, TABLES, TOP, cha
 from hand_tables import hand_memories
 from made_roots import pointer_to, summed, xsdt_of
 from memory_dump import Memory, dump_text
-from plain.lists import listed_memory
+from plain.lists import ANY, listed_memory
 from plain.tables import BAD_ENTRY, BAD_LENGTH, BAD_SUM, OUTSIDE_RAM, TWICE_GIVEN, WRONG_SIGNATURE, refused
 
 READ = "read"
@@ -38,6 +38,7 @@ FAULTS = {
 }
 DRAWN = 60_000
 LEAST = 500  # how often each outcome must come
+ALSO_ANY = 16  # one of so many memories is listed with `--any`, too
 
 # What a byte is changed to, and in which bits it is changed.
 VALUES, BITS = [0x00, 0x02, 0x24, 0xFF], [0x01, 0x03, 0x80]
@@ -319,8 +320,10 @@ def all_memories(seeds):
 def main(program, *words):
     seeds = Seeds(words)
     comparison = Comparison(Program(program, "decode", "--list"), outcome_of, READ)
-    for what, memory in all_memories(seeds):
+    for number, (what, memory) in enumerate(all_memories(seeds)):
         comparison.judge(what, dump_text(memory), listed_memory(memory))
+        if number % ALSO_ANY == 0:
+            comparison.judge(f"{what} {ANY}", dump_text(memory), listed_memory(memory, ANY), ANY)
     return comparison.report("memories with tables", comparison.lacking([READ, *FAULTS.values()], seeds.count(LEAST)))
 
 

@@ -1,7 +1,8 @@
 """What other programs tell of a guest's memory, as the lines that `vmtables decode --list` prints of it: dmidecode of the SMBIOS
 structures, and iasl of the ACPI tables; and the judging of a list by that. What the judges of lists share.
 
-The list has the tables of an XSDT, to which a root pointer of revision 2 leads, or with `--legacy` those of an RSDT, to which one of revision 0 does.
+The list has the tables of an XSDT, to which a root pointer of revision 2 leads, or with `--legacy` those of an RSDT, to which one of revision 0 does;
+and the structures of an anchor of 24 bytes, or with `--smbios2` of one of 31. With `--any` it has those of the first pointer and of the first anchor.
 
 A list is judged once more wherever one of these bits is flipped in the memory that the program is given: of the handles of the first and
 the last structure, of the root pointer, and of the last byte of each table that has a sum, the DSDT behind an FADT among them. The list must
@@ -19,14 +20,14 @@ import tempfile
 sys.path.append(str(pathlib.Path(__file__).resolve().parent.parent / "tools"))  # whose modules the judges share
 
 from dump_tables import smbios_files
-from memory_dump import acpi_table, dump_text, led_addresses, led_tables, listed_addresses, listed_tables, number_at
-from memory_dump import root_address, root_pointer, root_table
+from memory_dump import NEW_MARK, OLD_MARK, acpi_table, dump_text, led_addresses, led_tables, listed_addresses, listed_tables
+from memory_dump import root_address, root_pointer, root_table, smbios_anchor
 
 # The signatures of tables that have a record, in the order of the list. The tables behind an FADT are told from it alone.
 KNOWN = [b"XSDT", b"FACP", b"FACS", b"DSDT", b"APIC", b"SRAT", b"SLIT", b"MCFG", b"HPET"]
 NAMED = [b"FACP", b"APIC", b"SRAT", b"SLIT", b"MCFG", b"HPET"]
 
-VERSION = re.compile(r"SMBIOS (\d+\.\d+\.\d+) present\.")
+VERSION = re.compile(r"SMBIOS (\d+\.\d+)(\.\d+)? present\.")  # of an old anchor without a revision
 HANDLE = re.compile(r"Handle 0x([0-9A-F]{4}), DMI type (\d+), \d+ bytes")
 TABLE = re.compile(r"ACPI: (.{4}) 0x0{16} ([0-9A-F]{6})\b")
 
@@ -40,7 +41,9 @@ PLAIN = {"DefinitionBlock", "Package", "Buffer", "EisaId", "ToUUID", "Unicode", 
 
 SHOWN = 5  # of the faults
 
-LIST, LEGACY_LIST = ("--list",), ("--list", "--legacy")  # options of a list
+# The options of a list.
+LIST, LEGACY_LIST, OLD_LIST, GUEST_LIST = ("--list",), ("--list", "--legacy"), ("--list", "--smbios2"), ("--list", "--legacy", "--smbios2")
+ANY_LIST = ("--list", "--any")
 
 Listed = collections.namedtuple("Listed", "status out said")
 Told = collections.namedtuple("Told", "signature length foreign")
@@ -73,15 +76,22 @@ def told_by(folder, *words):
     return said
 
 
-def structure_lines(memory):
-    """The lines of the SMBIOS structures, from the only anchor of 24 bytes on."""
-    files = smbios_files(memory)
+def marks_of(options):
+    """How the anchors begin that a list by these options looks for."""
+    if "--any" in options:
+        return (NEW_MARK, OLD_MARK)
+    return (OLD_MARK,) if "--smbios2" in options else (NEW_MARK,)
+
+
+def structure_lines(memory, options=LIST):
+    """The lines of the SMBIOS structures, from the least anchor on that a list by these options looks for."""
+    files = smbios_files(memory, marks_of(options))
     if not files:
         return ["smbios none"]
     with tempfile.TemporaryDirectory() as folder:
         pathlib.Path(folder, "smbios.bin").write_bytes(files["smbios.bin"])
         lines = told_by(folder, "dmidecode", "--from-dump", "smbios.bin").splitlines()
-    versions = [found[1] for line in lines if (found := VERSION.fullmatch(line))]
+    versions = [found[1] + (found[2] or ".0") for line in lines if (found := VERSION.fullmatch(line))]
     structures = [(found[2], found[1].lower()) for line in lines if (found := HANDLE.fullmatch(line))]
     if len(versions) != 1 or not structures:
         raise NotTold("dmidecode tells no version or no structure")
@@ -119,9 +129,11 @@ def shown(text):
 
 
 def pointer_of(memory, options):
-    """The least root pointer, where it is of the form that a list by these options reads, or None."""
+    """The least root pointer, where it is of a form that a list by these options reads, or None."""
     pointer = root_pointer(memory)
-    return pointer if pointer is not None and (pointer[15] < 2) == (options == LEGACY_LIST) else None
+    if pointer is None or "--any" in options:
+        return pointer
+    return pointer if (pointer[15] < 2) == ("--legacy" in options) else None
 
 
 def table_lines(memory, options):
@@ -146,7 +158,7 @@ def table_lines(memory, options):
 
 
 def told_lines(memory, options=LIST):
-    return structure_lines(memory) + table_lines(memory, options)
+    return structure_lines(memory, options) + table_lines(memory, options)
 
 
 def list_faults(listed, told):
@@ -173,11 +185,9 @@ def sum_fault(address):
 
 def flips(memory, options):
     """Addresses of bits that a list by these options shows, where they are flipped."""
-    at = memory.find(b"_SM3_", 0xF0000, 0x100000)
-    if at is not None:
-        anchor = memory.read(at, 24, "the SMBIOS anchor")
-        size, table = number_at(anchor, 0x0C, 4), number_at(anchor, 0x10, 8)
-        yield from (table + 2, table + size - 4)
+    anchor = smbios_anchor(memory, marks_of(options))
+    if anchor is not None:
+        yield from (anchor.table + 2, anchor.table + anchor.size - 4)
     if pointer_of(memory, options) is not None:
         yield memory.find(b"RSD PTR ", 0xE0000, 0x100000) + 9
 

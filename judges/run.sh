@@ -6,9 +6,10 @@
 # writes. The devices that a DSDT tells of are judged by iasl's text of it, by that text compiled again, and by acpiexec, which loads and decodes
 # it (judge_dsdt.py). Then `vmtables load` is given files that QEMU made for machines of its own, and what `vmtables build` makes for each
 # description, and judge_load.py judges the memory that it leaves of them; of a description it must be the memory that `boot` leaves,
-# and of a machine what SeaBIOS leaves in its guest, as judge_guest.py compares them. What `vmtables decode --list` prints of the dumps of
-# the descriptions, of the memory of QEMU's machines, and of tables that others made is judged by what dmidecode and iasl tell of the same
-# bytes (judge_list.py), and what it tells of bad dumps and of memories with a fault by judge_bad_dumps.py. What `vmtables decode` prints of
+# and of a machine what SeaBIOS leaves in its guest, as judge_guest.py compares them; and `load --install` is given files that QEMU made for
+# five machines, which are kept beside the repository where they are there (judge_install.py). What `vmtables decode --list` prints of the dumps of
+# the descriptions, of the memory of QEMU's machines, with SeaBIOS, qboot and OVMF, and of tables that others made is judged by what dmidecode and iasl
+# tell of the same bytes (judge_list.py), and what it tells of bad dumps and of memories with a fault by judge_bad_dumps.py. What `vmtables decode` prints of
 # the dumps of descriptions, of drawn ones too, must be what is described, and boot to the same dump; `vmtables gen` must count what the
 # machine has that it generates (judge_round_trips.py); and of memories that are no machine's `decode` must tell the first item that fails
 # (judge_items.py). AML terms that iasl compiles must come back as they are from `aml_again`, which reads terms and writes them again. Debian's
@@ -16,7 +17,7 @@
 # come back as they are from the folders that tools/container.py makes of them (judge_container.py). Second readers and writers, which are made of
 # docs/FORMATS.md alone (judges/plain), work out what `decode --list`, `build`, `load` and `aml_again` have to say of a great many inputs, hostile
 # ones among them (judge_read_dumps.py, judge_read_tables.py, judge_read_legacy.py, judge_read_structures.py, judge_builds.py, judge_loads.py,
-# judge_terms.py); and the dumps of some seeds, with resets and without, have hashes that one more program worked out (judge_seeds.py). Last, the
+# judge_install.py, judge_terms.py); and the dumps of some seeds, with resets and without, have hashes that one more program worked out (judge_seeds.py). Last, the
 # commands that README.md and docs/USES.md show must print what these say. Beside these stand two judges of what the program says of itself:
 # tools/explain.py has to say each line that docs/FORMATS.md lists (judge_explain.py), and docs/vmtables.1, which mandoc reads, what `--help` says
 # (judge_help.py). Nothing is proved here.
@@ -47,6 +48,8 @@ kernels=(linux-image-cloud-amd64 linux-image-amd64)            # the packages th
 asked=()                                                       # the judges that were asked
 checksum=9                                                     # the byte of an ACPI table that is its checksum
 machines=(pc q35)                                              # the machines of QEMU whose files are loaded
+others=(isapc microvm)                                         # those whose memory alone is listed
+cases=$(dirname "$root")/shared/cases                          # files and guests of real machines, which are no part of the repository
 of_machine=                                                    # the one whose files are loaded, where they are of one
 guest_top=2048                                                 # the top of memory of those whose firmware runs, in MiB
 wrong_lines=(2 4)                                              # lines of a dump that a program gets wrong: of the RSDP, and of another file
@@ -368,6 +371,7 @@ judge_all_plainly() {
     judge_plainly judge_read_structures.py "$program"
     judge_plainly judge_builds.py "$program" examples/*.toml "$work"/{greatest,bridge,processors}.toml
     judge_plainly judge_loads.py "$program" examples/*.toml
+    judge_plainly judge_install.py "$program" drawn
     judge_plainly judge_seeds.py "$program"
 }
 
@@ -448,6 +452,31 @@ judge_machines() {
     for machine in "${machines[@]}"; do
         judge_machine "$machine"
     done
+    for machine in "${others[@]}"; do
+        description="the machine $machine of QEMU"
+        echo "$description"
+        judge_list machine "$machine"
+    done
+    description="OVMF"
+    echo "$description"
+    judge_list ovmf
+}
+
+# Has the files of real machines installed, and their guests listed, where they are there.
+judge_real_machines() {
+    local said
+    description="files of real machines"
+    echo "$description"
+    said=$(python3 "$here/judge_install.py" "$program" files "$cases" 2>&1)
+    case $? in
+    0)
+        note_asked dmidecode
+        echo "  load --install: $said"
+        ;;
+    3) echo "  skipped: $said"; return ;;
+    *) fault judge_install.py "the files" "$said" ;;
+    esac
+    judge_list expected "$cases/guests"
 }
 
 # Has the tables of the folder judged.
@@ -650,6 +679,7 @@ judge_all() {
     judge_round_trips
     judge_items
     judge_templates
+    judge_real_machines
     judge_bad_dumps
     judge_all_plainly
     judge_memory

@@ -22,7 +22,11 @@ import tempfile
 
 LONGEST = 600  # seconds that a command may take
 QEMU, OVMF = "qemu-system-x86_64", "/usr/share/ovmf/OVMF.fd"
-NEEDED = {"q35": [QEMU], "i440fx": [QEMU], "isapc": [QEMU], "ovmf": [QEMU, OVMF]}  # what a command needs which has this in it
+# What a command needs which has this in it.
+NEEDED = {
+    **{"q35": [QEMU], "i440fx": [QEMU], "isapc": [QEMU], "microvm": [QEMU], "guest-": [QEMU], "pc-": [QEMU], "pc.": [QEMU], "guest.": [QEMU]},
+    **{"ovmf": [QEMU, OVMF]},
+}
 OF_TRIES = ("checked: ended", "run=ended")  # how lines begin by which `rt try` says that nothing is proved
 
 

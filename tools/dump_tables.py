@@ -13,34 +13,39 @@ Writes into FOLDER what the memory holds of these:
                   FADT that it lists leads, as FACS.aml and DSDT.aml, named by the signature; a second table of a signature is
                   SIGNATURE-2.aml
 
-Where a table can't be cut, a line says which and why, and the others are written all the same.
+Of the SMBIOS anchors, which have 24 bytes or 31, the one that stands first is taken. Where a table can't be cut, a line says which and why, and the
+others are written all the same.
 
-Status 0: done; 1: a table can't be cut; 2: DUMP is no dump, or a file can't be read or written. A memory without an anchor of 24 bytes has no
-structures, and one without a root pointer no ACPI tables, which is no fault.
+Status 0: done; 1: a table can't be cut; 2: DUMP is no dump, or a file can't be read or written. A memory without an anchor has no structures, and one
+without a root pointer no ACPI tables, which is no fault.
 """
 
 import re
 import sys
 
 from endings import ended, folder_of, refused
-from memory_dump import NotADump, NotFound, acpi_table, led_addresses, listed_addresses, read_dump_file, root_pointer, root_table
+from memory_dump import ANCHOR_FIELDS, NEW_MARK, OLD_MARK, NotADump, NotFound, acpi_table, led_addresses, listed_addresses, read_dump_file
+from memory_dump import root_pointer, root_table, smbios_anchor
 
 SHOWN = 12  # of the tables that can't be cut
 
+TABLE_AT = 0x20  # where structures stand in smbios.bin
+SUMS = {NEW_MARK: 0x05, OLD_MARK: 0x15}  # where the sum of the bytes stands among which an anchor has their address
 
-def smbios_files(memory):
-    """The anchor (DSP0134, 5.2.2) and its table, where there is one. Its address is changed as dmidecode does, so that a wrong checksum
-    stays wrong.
+
+def smbios_files(memory, marks=(NEW_MARK, OLD_MARK)):
+    """The first anchor with one of these marks (DSP0134, 5.2.2 and 5.2.1) and its table, where there is one. Its address is changed as dmidecode does,
+    so that a wrong checksum stays wrong.
     """
-    at = memory.find(b"_SM3_", 0xF0000, 0x100000)
-    if at is None:
+    found = smbios_anchor(memory, marks)
+    if found is None:
         return {}
-    anchor = bytearray(memory.read(at, 24, "the SMBIOS anchor"))
-    size, address = int.from_bytes(anchor[0x0C:0x10], "little"), int.from_bytes(anchor[0x10:0x18], "little")
-    table = memory.read(address, size, "the SMBIOS table")
-    anchor[0x05] = (anchor[0x05] + sum(anchor[0x10:0x18]) - 0x20) % 256
-    anchor[0x10:0x18] = (0x20).to_bytes(8, "little")
-    return {"smbios.bin": bytes(anchor).ljust(0x20, b"\0") + table}
+    anchor, sum_at = bytearray(found.content), SUMS[found.mark]
+    table = memory.read(found.table, found.size, "the SMBIOS table")
+    _, (at, width) = ANCHOR_FIELDS[found.mark]
+    anchor[sum_at] = (anchor[sum_at] + sum(anchor[at : at + width]) - TABLE_AT) % 256
+    anchor[at : at + width] = TABLE_AT.to_bytes(width, "little")
+    return {"smbios.bin": bytes(anchor).ljust(TABLE_AT, b"\0") + table}
 
 
 class Cut:

@@ -58,6 +58,18 @@ CONTAINER_FAULTS = {
     9: Named("TooLarge", "the sizes in the entries are more than 67,108,864 bytes in all"),
 }
 
+INSTALL_FAULTS = {
+    1: Named("NoAnchor", "there is no file `etc/smbios/smbios-anchor`"),
+    2: Named("NoTables", "there is no file `etc/smbios/smbios-tables`"),
+    3: Named("EmptyTables", "the file `etc/smbios/smbios-tables` has no bytes"),
+    4: Named("BadAnchor", "the file `etc/smbios/smbios-anchor` is an anchor of neither form"),
+    5: Named("ScriptLength", "the length of `etc/table-loader` is no multiple of 128, or above 1,048,576"),
+    6: Named("AlreadyPlaced", "an ALLOCATE of the script names one of the two files"),
+    7: Named("ScriptFull", "with the commands that are added the script has more than 1,048,576 bytes"),
+    8: Named("TooMany", "with the script that is added there are more than 1,024 files"),
+    9: Named("TooLarge", "with the commands that are added the files have more than 67,108,864 bytes in all"),
+}
+
 CAUSES = {
     1: Named("BadName", "a name is no name", "each"),
     2: Named("NoFile", "there is no file of that name, either one", "each"),
@@ -94,7 +106,11 @@ ACPI_FAULTS = {
     2: Named("BadSum", "the bytes of a table don't sum to zero", "the table"),
     3: Named("BadLength", "the length that a table tells isn't one of its form", "the table"),
     4: Named("BadEntry", "an entry of an `APIC` or an `SRAT` is shorter than those of its type, or runs past its table's end", "the entry"),
-    5: Named("WrongSignature", "another signature stands where an XSDT, or with `--legacy` an RSDT, a FACS or a DSDT is due", "the table"),
+    5: Named(
+        "WrongSignature",
+        "another signature stands where an XSDT, or by an RSDP of revision 0 or 1 an RSDT, a FACS or a DSDT is due",
+        "the table",
+    ),
     6: Named("TwiceGiven", "a table of the same signature was read before", "the table"),
 }
 
@@ -278,7 +294,19 @@ LINES = [
         "The bytes are no container for fault {F}, {F_name}: {F_means}.",
         {"F": CONTAINER_FAULTS},
     ),
-    Line("script: none", 5, "No file of the container has the name `etc/table-loader`, so that it has no script."),
+    Line(
+        "install: fault F",
+        5,
+        "The container's files of SMBIOS structures, `etc/smbios/smbios-anchor` and `etc/smbios/smbios-tables`, aren't installed, for fault {F}, "
+        "{F_name}: {F_means}. Nothing was loaded.",
+        {"F": INSTALL_FAULTS},
+    ),
+    Line(
+        "script: none",
+        5,
+        "No file of the container has the name `etc/table-loader`, so that it has no script. `load --install` makes one for the SMBIOS files that "
+        "QEMU gives.",
+    ),
     Line(
         "script: length",
         5,
@@ -313,7 +341,8 @@ LINES = [
         "tables: not this profile, item N",
         7,
         "The tables have no fault, but no machine that can be described has them. The first item that fails is {N}, in which is compared: "
-        "{N_means}. `decode --list` lists such a memory. Both read an RSDP of revision 0 or 1 with `--legacy`, and one of 2 or above without it.",
+        "{N_means}. `decode --list --any` lists what a guest finds there. `decode` reads an RSDP of revision 0 or 1 with `--legacy`, and one of 2 or "
+        "above without it, and no SMBIOS anchor of 31 bytes.",
         {"N": ITEMS},
     ),
     Line("write fault", 8, "Standard output failed; it took a part of the text from its front, perhaps all."),

@@ -1,5 +1,5 @@
 """A root pointer of revision 2 and an XSDT (ACPI 6.5, 5.2.5.3 and 5.2.8) to put into a memory, or one of revision 0 and an RSDT (5.2.7), tables for
-it to name (5.2.6), and an SMBIOS anchor (DSP0134 5.2.2): what the judges of lists and the benchmark share.
+it to name (5.2.6), and SMBIOS anchors (DSP0134 3.0.0, 5.2.2 and 5.2.1): what the judges of lists and the benchmark share.
 """
 
 import struct
@@ -10,6 +10,8 @@ HEADER = struct.Struct("<4sIBB6s8sI4sI")
 POINTER = struct.Struct("<8sB6sBIIQB3x")
 LEGACY_POINTER = struct.Struct("<8sB6sBI")
 ANCHOR = struct.Struct("<5sBBBBBBxIQ")
+OLD_ANCHOR = struct.Struct("<4sBBBBHB5x5sBHIHB")
+OLD_RANGE = 0x10  # from where on the last bytes of an old anchor have a sum of their own
 
 MAKER, MAKERS_TABLE, CREATOR = b"JUDGES", b"OF LISTS", b"LIST"
 
@@ -45,6 +47,17 @@ def legacy_pointer_to(rsdt, revision=0):
 
 def anchor_of(table, size):
     return summed(ANCHOR.pack(b"_SM3_", 0, ANCHOR.size, 3, 0, 0, 1, size, table), 5)
+
+
+def old_anchor_of(table, size, version=(2, 8)):
+    content = OLD_ANCHOR.pack(b"_SM_", 0, OLD_ANCHOR.size, *version, 0, 0, b"_DMI_", 0, size, table, 0, 0)
+    return summed_old(content)
+
+
+def summed_old(anchor):
+    """An old anchor with both of its sums right. Bytes behind it stay."""
+    front, more = anchor[: OLD_ANCHOR.size], anchor[OLD_ANCHOR.size :]
+    return summed(front[:OLD_RANGE] + summed(front[OLD_RANGE:], 5), 4) + more
 
 
 def free_place(memory, start, end, size):

@@ -3,6 +3,7 @@
 import copy
 import pathlib
 import re
+from typing import NamedTuple
 
 HEADER = re.compile(rb"top ([0-9a-f]{8}) fill ([0-9a-f]{2})")
 ROW = re.compile(rb"([0-9a-f]{8}) ([0-9a-f]{32})")
@@ -11,6 +12,12 @@ LOWER_WINDOW = [(0x00000, 0xA0000), (0xE0000, 0x100000)]
 UPPER_WINDOW_SIZE = 32 << 20
 LEAST_TOP_MIB, MOST_TOP_MIB = 64, 3072
 
+# How an SMBIOS anchor begins, and the old one (DSP0134 3.0.0, 5.2.2 and 5.2.1): how many bytes it has, and where it tells the most bytes of its
+# structures and their address, in how many bytes.
+NEW_MARK, OLD_MARK = b"_SM3_", b"_SM_"
+ANCHOR_SIZES = {NEW_MARK: 24, OLD_MARK: 31}
+ANCHOR_FIELDS = {NEW_MARK: ((0x0C, 4), (0x10, 8)), OLD_MARK: ((0x16, 2), (0x18, 4))}
+
 
 class NotADump(Exception):
     pass
@@ -18,6 +25,16 @@ class NotADump(Exception):
 
 class NotFound(Exception):
     pass
+
+
+class Anchor(NamedTuple):
+    """An SMBIOS anchor: where it stands, how it begins, its bytes, and the size and the address that it tells of its structures."""
+
+    address: int
+    mark: bytes
+    content: bytes
+    size: int
+    table: int
 
 
 class Memory:
@@ -125,6 +142,17 @@ def dump_text(memory):
 
 def number_at(content, offset, size):
     return int.from_bytes(content[offset : offset + size], "little")
+
+
+def smbios_anchor(memory, marks=(NEW_MARK, OLD_MARK)):
+    """The least SMBIOS anchor that begins with one of these marks, or None."""
+    found = [(at, mark) for mark in marks if (at := memory.find(mark, 0xF0000, 0x100000)) is not None]
+    if not found:
+        return None
+    at, mark = min(found)
+    content = memory.read(at, ANCHOR_SIZES[mark], "the SMBIOS anchor")
+    size, table = (number_at(content, *field) for field in ANCHOR_FIELDS[mark])
+    return Anchor(at, mark, content, size, table)
 
 
 def byte_sum(content):

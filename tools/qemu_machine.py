@@ -25,6 +25,9 @@ MACHINES = {
     "q35": ["-machine", "q35", "-smp", "4", "-device", "vmgenid,guid=6f1a5e0c-2b4d-4c7e-9a38-0d5c1b7e42f9"],
 }
 
+# Machines that give their firmware no SMBIOS files, or no script: their memory alone is of use.
+OTHERS = {"isapc": ["-machine", "isapc"], "microvm": ["-machine", "microvm,acpi=on", "-smp", "2"]}
+
 STOPPED = ["-S", "-accel", "tcg", "-display", "none", "-nodefaults", "-no-user-config", "-monitor", "none"]
 DRIVEN = ["-qtest", "stdio", "-qtest-log", "none", "-mon", "chardev=control,mode=control"]
 
@@ -40,7 +43,11 @@ DMA_ERROR, DMA_SELECT, DMA_WRITE = 0x01, 0x08, 0x10
 DESCRIPTOR, DESCRIPTOR_SIZE, BYTE = 0x1000, 16, 0x2000
 
 F_SEGMENT, F_SEGMENT_SIZE = 0xF0000, 0x10000
-RSDP, RSDP_SIZE = b"RSD PTR ", 20
+
+# What a firmware places last, by how it begins, and how many of its bytes sum to zero: the root pointer (ACPI 6.5, 5.2.5) or, of a machine without ACPI
+# tables, the old SMBIOS anchor (DSP0134 3.0.0, 5.2.1).
+RSDP, OLD_ANCHOR = (b"RSD PTR ", 20), (b"_SM_", 31)
+PLACED_LAST = {"isapc": OLD_ANCHOR}
 
 # So many lines are sent before their answers are read; they and their answers fit into a pipe.
 LINES_AT_ONCE = 1024
@@ -51,15 +58,17 @@ class NoAnswer(Exception):
 
 
 class Machine:
-    """A machine with the options of one of MACHINES and others. It stands still but in `run`, and is ended where `with` ends."""
+    """A machine with the options of one of MACHINES or OTHERS and more. It stands still but in `run`, and is ended where `with` ends."""
 
-    def __init__(self, name, options):
+    def __init__(self, name, options, seconds=SECONDS):
+        self.seconds = seconds
+        self.placed_last = PLACED_LAST.get(name, RSDP)
         if shutil.which(PROGRAM) is None:
             raise NoAnswer(f"{PROGRAM} isn't installed")
         ours, theirs = socket.socketpair()
         handle = theirs.fileno()
         driven = [*DRIVEN, "-chardev", f"socket,id=control,fd={handle}"]
-        command = ["timeout", "--kill-after=5", str(SECONDS), PROGRAM, *STOPPED, *driven, *MACHINES[name], *options]
+        command = ["timeout", "--kill-after=5", str(seconds), PROGRAM, *STOPPED, *driven, *{**MACHINES, **OTHERS}[name], *options]
         with ours, theirs:
             self.process = subprocess.Popen(
                 command, stdin=subprocess.PIPE, stdout=subprocess.PIPE, pass_fds=[handle], text=True
@@ -92,7 +101,7 @@ class Machine:
 
     def ending(self):
         status = self.process.wait()
-        return f"it takes more than {SECONDS} seconds" if status in (124, 137) else f"it ended with status {status}"
+        return f"it takes more than {self.seconds} seconds" if status in (124, 137) else f"it ended with status {status}"
 
     def command(self, name, **arguments):
         """Has QEMU carry out a command of QMP. What it says of itself and of events is passed over."""
@@ -108,18 +117,23 @@ class Machine:
         self.command("stop")
 
     def run_firmware(self):
-        """Lets the firmware run until it has placed its last table, the root pointer of the others (ACPI 6.5, 5.2.5), and summed it up."""
+        """Lets the firmware run until it has placed what it places last, and summed it up."""
+        self.run_until(self.has_placed_last, f"its firmware has left no {self.placed_last[0].decode().strip()} in the F segment")
+
+    def run_until(self, is_done, else_says, seconds=FIRMWARE_SECONDS):
+        """Lets the machine run, for the first time, until something holds."""
         self.command("qmp_capabilities")
-        end = time.monotonic() + FIRMWARE_SECONDS
-        while not self.has_root_pointer():
+        end = time.monotonic() + seconds
+        while not is_done():
             if time.monotonic() > end:
-                raise NoAnswer(f"its firmware has left no RSDP in the F segment after {FIRMWARE_SECONDS} seconds")
+                raise NoAnswer(f"{else_says} after {seconds} seconds")
             self.run()
 
-    def has_root_pointer(self):
+    def has_placed_last(self):
+        mark, size = self.placed_last
         segment = self.read_memory(F_SEGMENT, F_SEGMENT_SIZE)
-        found = (segment[at : at + RSDP_SIZE] for at in range(0, F_SEGMENT_SIZE, 16))
-        return any(pointer.startswith(RSDP) and byte_sum(pointer) == 0 for pointer in found)
+        found = (segment[at : at + size] for at in range(0, F_SEGMENT_SIZE, 16))
+        return any(anchor.startswith(mark) and byte_sum(anchor) == 0 for anchor in found)
 
     def ask(self, *lines):
         """What qtest answers to each line behind its OK."""

@@ -1,6 +1,8 @@
 """Containers, read into a device's files, or refused for their first fault (docs/FORMATS.md, "The container")."""
 
+import collections
 import dataclasses
+import struct
 
 from plain.ended import Refused
 
@@ -12,10 +14,14 @@ SELECTORS = range(0x20, 0x4000)
 NAME_SIZE = 56
 
 
+Entry = collections.namedtuple("Entry", "size selector")
+
+
 @dataclasses.dataclass
 class File:
-    """A file of a device: whether a guest may write it, its bytes, and where it is placed, once it is."""
+    """A file of a device: its selector, whether a guest may write it, its bytes, and where it is placed, once it is."""
 
+    selector: int
     is_writable: bool
     content: bytearray
     place: int | None = None
@@ -56,36 +62,43 @@ def read_container(content):
     flags = reader.taken(count)
     if any(flag > 1 for flag in flags):
         raise refused(BAD_FLAG)
-    if sum(entries.values()) > MOST_BYTES:
+    size = sum(entry.size for entry in entries.values())
+    if size > MOST_BYTES:
         raise refused(TOO_LARGE)
-    files = reader.taken(sum(entries.values()))
+    files = reader.taken(size)
     if reader.at < len(content):
         raise refused(TRAILING_BYTES)
     return directory, files_of(entries, flags, files)
 
 
 def read_entries(content):
-    """The sizes of files by their names."""
-    sizes, selectors = {}, set()
+    """The sizes and the selectors of files by their names."""
+    entries, selectors = {}, set()
     for at in range(0, len(content), ENTRY_SIZE):
         name = name_in(content[at + 8 : at + ENTRY_SIZE])
         selector = int.from_bytes(content[at + 4 : at + 6], "big")
         if name is None:
             raise refused(BAD_NAME)
-        if name in sizes:
+        if name in entries:
             raise refused(TWICE_NAMED)
         if selector not in SELECTORS:
             raise refused(BAD_SELECT)
         if selector in selectors:
             raise refused(TWICE_SELECTED)
-        sizes[name] = int.from_bytes(content[at : at + 4], "big")
+        entries[name] = Entry(int.from_bytes(content[at : at + 4], "big"), selector)
         selectors.add(selector)
-    return sizes
+    return entries
 
 
 def files_of(entries, flags, content):
     files, at = {}, 0
-    for flag, (name, size) in zip(flags, entries.items()):
-        files[name] = File(flag == 1, bytearray(content[at : at + size]))
-        at += size
+    for flag, (name, entry) in zip(flags, entries.items()):
+        files[name] = File(entry.selector, flag == 1, bytearray(content[at : at + entry.size]))
+        at += entry.size
     return files
+
+
+def directory_of(files):
+    """The directory of files, in their order."""
+    entries = (struct.pack(">IHH56s", len(file.content), file.selector, 0, name) for name, file in files.items())
+    return len(files).to_bytes(COUNT_SIZE, "big") + b"".join(entries)

@@ -1,15 +1,15 @@
-"""The list of what a memory shows (docs/FORMATS.md, "The list"): `decode --list` of a dump, with `--legacy` or without."""
+"""The list of what a memory shows (docs/FORMATS.md, "The list"): `decode --list` of a dump, with each of its options or without."""
 
 from plain.dumps import read_dump
 from plain.ended import Refused
-from plain.structures import read_structures
-from plain.tables import LEGACY_FORM, XSDT_FORM, read_tables
+from plain.structures import ANY_ANCHOR, NEW_ANCHOR, OLD_ANCHOR, read_structures
+from plain.tables import ANY_FORMS, LEGACY_FORM, XSDT_FORM, read_tables
 
 # The tables with a record, in the order of the list.
 RECORDED = (b"XSDT", b"FACP", b"FACS", b"DSDT", b"APIC", b"SRAT", b"SLIT", b"MCFG", b"HPET")
 
-
-LEGACY = "--legacy"  # the option by which the tables are those of the legacy form
+# The options by which tables are those of the legacy form, structures those of the old anchor, and both those of the first of any form.
+LEGACY, SMBIOS2, ANY = "--legacy", "--smbios2", "--any"
 
 
 def listed(content, *options):
@@ -23,12 +23,24 @@ def listed(content, *options):
 def listed_memory(memory, *options):
     """How `decode --list` of a memory's dump ends, with more options behind."""
     try:
-        tables = read_tables(memory, LEGACY_FORM if LEGACY in options else XSDT_FORM)  # a fault of these comes first
-        structures = read_structures(memory)
+        tables = read_tables(memory, root_forms(options))  # a fault of these comes first
+        structures = read_structures(memory, anchor_forms(options))
     except Refused as refusal:
         return refusal.status, b"", refusal.said
     lines = [*structure_lines(structures), *table_lines(tables)]
     return 0, "".join(f"{line}\n" for line in lines).encode(), b""
+
+
+def root_forms(options):
+    if ANY in options:
+        return ANY_FORMS
+    return (LEGACY_FORM,) if LEGACY in options else (XSDT_FORM,)
+
+
+def anchor_forms(options):
+    if ANY in options:
+        return ANY_ANCHOR
+    return OLD_ANCHOR if SMBIOS2 in options else NEW_ANCHOR
 
 
 def structure_lines(structures):

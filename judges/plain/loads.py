@@ -1,12 +1,13 @@
-"""Loads of a container over the events of a seed (docs/FORMATS.md, "A loader script", "Loads and seeds", "The dump")."""
+"""Loads of a container over the events of a seed (docs/FORMATS.md, "A loader script", "Installing SMBIOS files", "Loads and seeds", "The dump")."""
 
 import collections
 import copy
 
 from memory_dump import Memory, dump_text
 
-from plain.containers import name_in, read_container
+from plain.containers import directory_of, name_in, read_container
 from plain.ended import Refused
+from plain.install import MOST_SCRIPT, installed
 from plain.places import F_SEGMENT, HIGH_SIZE, Zones
 from plain.seeds import Words
 
@@ -15,7 +16,7 @@ BAD_NAME, NO_FILE, ALREADY_PLACED, NOT_PLACED, EMPTY, BAD_ALIGN, BAD_ZONE, BAD_S
 ALLOCATE, ADD_POINTER, ADD_CHECKSUM, WRITE_POINTER = range(1, 5)
 
 SCRIPT = b"etc/table-loader"
-COMMAND_SIZE, MOST_SCRIPT, ENTRY_SIZE = 128, 1_048_576, 64
+COMMAND_SIZE, ENTRY_SIZE = 128, 64
 PIECE = 4096  # of the directory and the script, that is read at a time
 DESCRIPTORS, BUFFER, BUFFER_SIZE = 0x7000, 0x8000, 0x1000
 EVENTS, GREATEST_PIECE = 4096, (1 << 32) - 1
@@ -34,10 +35,13 @@ def number_in(content, offset, size):
     return int.from_bytes(content[offset : offset + size], "little")
 
 
-def loaded(content, top_mib=64, fill=0, policy="low", seed=0):
-    """How `load` of a container ends: its status, the dump, and its line."""
+def loaded(content, top_mib=64, fill=0, policy="low", seed=0, install=False):
+    """How `load` of a container ends, whose SMBIOS files are installed or not: its status, the dump, and its line."""
     try:
         directory, files = read_container(content)
+        if install:
+            files = installed(files)
+            directory = directory_of(files)
         load = Load(directory, files, Memory(top_mib << 20, fill), policy, Words(seed))
         load.run(seed)
     except Refused as refusal:

@@ -17,6 +17,7 @@ HEADER_SIZE, FACS_SIZE, ID_SIZE = 36, 64, 16
 Form = collections.namedtuple("Form", "revisions pointer_size sums root root_at width least_fadt")
 XSDT_FORM = Form(range(2, 256), 36, (20, 36), b"XSDT", 24, 8, 276)
 LEGACY_FORM = Form(range(2), 20, (20,), b"RSDT", 16, 4, 116)
+ANY_FORMS = (XSDT_FORM._replace(least_fadt=116), LEGACY_FORM)  # of which the RSDP that stands first has one
 
 MOST_ENTRIES, MOST_NODES = 256, 1024
 
@@ -39,20 +40,21 @@ def refused(fault, address):
     return Refused(STATUS, f"tables: acpi fault {fault} at {address:016x}")
 
 
-def read_tables(memory, form):
-    """The tables of a form, or None where no valid RSDP stands."""
-    pointer = valid_pointer(memory, form)
-    return None if pointer is None else Walk(memory, form).tables(pointer)
+def read_tables(memory, forms=(XSDT_FORM,)):
+    """The tables behind the least valid RSDP of these forms, by its form, or None where none stands."""
+    found = [(address, form, pointer) for form in forms for address, pointer in valid_pointers(memory, form)]
+    if not found:
+        return None
+    _, form, pointer = min(found, key=lambda one: one[0])
+    return Walk(memory, form).tables(pointer)
 
 
-def valid_pointer(memory, form):
-    """The bytes of the least valid RSDP of a form, or None."""
-    for address in rows_with(memory, b"RSD PTR ", POINTERS, POINTERS_END):
-        if address + form.pointer_size <= POINTERS_END:
-            pointer = bytes_at(memory, address, form.pointer_size)
-            if pointer[15] in form.revisions and all(sums_to_zero(pointer[:count]) for count in form.sums):
-                return pointer
-    return None
+def valid_pointers(memory, form):
+    """The address and the bytes of each valid RSDP of a form."""
+    for address in rows_with(memory, b"RSD PTR ", POINTERS, POINTERS_END - form.pointer_size + 1):
+        pointer = bytes_at(memory, address, form.pointer_size)
+        if pointer[15] in form.revisions and all(sums_to_zero(pointer[:count]) for count in form.sums):
+            yield address, pointer
 
 
 class Walk:

@@ -1,11 +1,12 @@
 -- What a view of memory shows by its legacy ACPI tables (ACPI 6.5, 5.2.5.3 and 5.2.7).
-use Rattle.std.specs.Prelude.{ℕ, List}
+use Rattle.std.specs.Prelude.{ℕ, true, false, List}
 use Rattle.vt_bytes.specs.View.{View}
 use Rattle.acpi_records.specs.declared.header.Head.{Head}
 use Rattle.acpi_model.specs.Form.{legacy_form}
 use Rattle.acpi_model.specs.Rsdp.{IsRsdpBy, HasRsdpBy}
 use Rattle.acpi_model.specs.Xsdt.{IsRoot}
 use Rattle.table_model.specs.declared.inventory.Inventory.{Inventory}
+use Rattle.table_model.specs.Search.{search_of}
 use Rattle.table_model.specs.Inventory.{ShowsBy}
 use Rattle.anchor_scan.specs.declared.fault.ScanFault.{ScanFault}
 use Rattle.anchor_scan.specs.Scan.{RefusesBy}
@@ -29,8 +30,8 @@ IsRsdt view address h tables = IsRoot legacy_form view address h tables
 
 -- a memory below a top shows the inventory, whose ACPI tables are the legacy ones
 abbrev pub ShowsLegacy : ℕ → View → Inventory → Type 0
-ShowsLegacy top view inventory = ShowsBy legacy_form top view inventory
+ShowsLegacy top view inventory = ShowsBy (search_of true false) top view inventory
 
 -- the first fault of the tables of such a memory
 abbrev pub RefusesLegacy : View → ScanFault → Type 0
-RefusesLegacy view fault = RefusesBy legacy_form view fault
+RefusesLegacy view fault = RefusesBy (search_of true false) view fault

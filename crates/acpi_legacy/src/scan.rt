@@ -11,7 +11,7 @@ use acpi_model::LEGACY_FORM;
 use anchor_scan::{ScanFault, find_rsdp_by, scan_by};
 use guest_memory::GuestMemory;
 use std::alloc::Global;
-use table_model::Inventory;
+use table_model::{Inventory, Search};
 
 /// Finds the legacy RSDP of `memory` (ACPI 6.5, 5.2.5.1 and 5.2.5.3): the least multiple of 16 from 0xE0000 on where a valid one stands. It
 /// begins with `RSD PTR `, its 20 bytes end at or below 0x100000 and sum to zero, and its revision is below 2. What stands behind them isn't
@@ -35,5 +35,5 @@ pub fn scan_legacy(alloc: Global, memory: &GuestMemory) -> Result<Inventory, Sca
     ensures refused { IfErr result (λ fault. (fault ≡ NoMemory) ⊎ RefusesLegacy (seen memory.now.memory) fault) }
     ensures refuses { (fault : ScanFault) → RefusesLegacy (seen memory.now.memory) fault → OrOutOfMemory result (Err fault) }
 {
-    scan_by(alloc, memory, LEGACY_FORM)
+    scan_by(alloc, memory, Search::of(true, false))
 }

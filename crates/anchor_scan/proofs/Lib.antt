@@ -4,6 +4,9 @@ pub mod OldAnchors
 pub mod AnchorsByForm
 pub mod ReadAndSeen
 pub mod Rsdps
+pub mod FirstOf
+pub mod SoughtForms
 pub mod Scanned
 pub mod SeenWithin
+pub mod OneSmbiosScan
 pub mod OneScan

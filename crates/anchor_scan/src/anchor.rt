@@ -1,5 +1,6 @@
 ghost use Rattle.std.specs.Prelude.{◌≡◌, ◌+◌, ◌%◌, ◌<◌, ◌≤◌, ◌↔◌, None, refl, length, IsTrue, IfSome};
 ghost use Rattle.vt_bytes.specs.Memory.{IsRamRange, seen};
+ghost use Rattle.smbios_model.specs.declared.anchor.AnchorForm.TheVariants.{Smbios2};
 ghost use Rattle.smbios_model.specs.Anchor.{HasAnchor, HasAnchorBy, least_length};
 ghost use Rattle.anchor_scan.specs.Shown.{HasNoAnchor, HasNoAnchorBy, IsFirstAnchor, IsFirstAnchorBy};
 ghost use Rattle.anchor_scan.specs.Found.{HasMark, HasNumbers, HasNumbersBy, anchor_place};
@@ -38,6 +39,15 @@ pub fn find_smbios(memory: &GuestMemory) -> Option<u64>
     ensures none { result ≡ None ↔ HasNoAnchor (seen memory.now.memory) }
 {
     find_smbios_by(memory, AnchorForm::Smbios3)
+}
+
+/// Finds the old anchor of `memory` (DSP0134 5.2.1): the least multiple of 16 from 0xF0000 on where a valid one stands, the last of its 31
+/// bytes below 0x100000. Returns `None` when there is none. It takes no memory.
+pub fn find_smbios2(memory: &GuestMemory) -> Option<u64>
+    ensures some { IfSome result (IsFirstAnchorBy Smbios2 (seen memory.now.memory)) }
+    ensures none { result ≡ None ↔ HasNoAnchorBy Smbios2 (seen memory.now.memory) }
+{
+    find_smbios_by(memory, AnchorForm::Smbios2)
 }
 
 /// Does the same by the form `form`. A valid anchor of the old form (DSP0134 5.2.1) begins with `_SM_` and has `_DMI_` at offset 0x10, and

@@ -9,13 +9,12 @@ ghost use Rattle.anchor_scan.specs.Scan.{Refuses, RefusesBy, OrOutOfMemory};
 
 use crate::acpi::scan_acpi;
 use crate::fault::ScanFault;
-use crate::smbios::scan_smbios;
+use crate::smbios::scan_structures;
 use acpi_decode::Walked;
-use acpi_model::{Form, XSDT_FORM};
 use guest_memory::GuestMemory;
 use smbios_model::SmbiosTable;
 use std::alloc::Global;
-use table_model::Inventory;
+use table_model::{Inventory, Search};
 
 /// Reads what `memory` shows from its two anchors: the ACPI tables from its RSDP on (ACPI 6.5, 5.2), and then the SMBIOS structures
 /// (DSP0134 5.2.2). An anchor that isn't there is no fault: that part is `None`. What is read takes its memory from `alloc`.
@@ -30,27 +29,28 @@ pub fn scan(alloc: Global, memory: &GuestMemory) -> Result<Inventory, ScanFault>
     ensures refused { IfErr result (λ fault. (fault ≡ NoMemory) ⊎ Refuses (seen memory.now.memory) fault) }
     ensures refuses { (fault : ScanFault) → Refuses (seen memory.now.memory) fault → OrOutOfMemory result (Err fault) }
 {
-    scan_by(alloc, memory, XSDT_FORM)
+    scan_by(alloc, memory, Search::of(false, false))
 }
 
-/// Does the same by the form `form`: the ACPI tables are those of its RSDP and its root, and an FADT has as many bytes as it tells at least.
-pub fn scan_by(alloc: Global, memory: &GuestMemory, form: Form) -> Result<Inventory, ScanFault>
-    ensures shown { IfOk result (ShowsBy form memory.now.memory.top (seen memory.now.memory)) }
-    ensures shows { (inventory : Inventory) → ShowsBy form memory.now.memory.top (seen memory.now.memory) inventory
+/// Does the same by the search `search`: the ACPI tables are those of the first RSDP that it looks for, by the form of that RSDP, and the SMBIOS
+/// structures those of the first anchor that it looks for.
+pub fn scan_by(alloc: Global, memory: &GuestMemory, search: Search) -> Result<Inventory, ScanFault>
+    ensures shown { IfOk result (ShowsBy search memory.now.memory.top (seen memory.now.memory)) }
+    ensures shows { (inventory : Inventory) → ShowsBy search memory.now.memory.top (seen memory.now.memory) inventory
         → OrOutOfMemory result (Ok inventory) }
-    ensures refused { IfErr result (λ fault. (fault ≡ NoMemory) ⊎ RefusesBy form (seen memory.now.memory) fault) }
-    ensures refuses { (fault : ScanFault) → RefusesBy form (seen memory.now.memory) fault → OrOutOfMemory result (Err fault) }
+    ensures refused { IfErr result (λ fault. (fault ≡ NoMemory) ⊎ RefusesBy search (seen memory.now.memory) fault) }
+    ensures refuses { (fault : ScanFault) → RefusesBy search (seen memory.now.memory) fault → OrOutOfMemory result (Err fault) }
 {
-    scan_both(alloc, memory, form)
+    scan_both(alloc, memory, search)
 }
 
 // The same, without that there is one reading.
-fn scan_both(alloc: Global, memory: &GuestMemory, form: Form) -> Result<Inventory, ScanFault>
-    ensures shown { IfOk result (ShowsBy form memory.now.memory.top (seen memory.now.memory)) }
-    ensures refused { IfErr result (λ fault. (fault ≡ NoMemory) ⊎ RefusesBy form (seen memory.now.memory) fault) }
+fn scan_both(alloc: Global, memory: &GuestMemory, search: Search) -> Result<Inventory, ScanFault>
+    ensures shown { IfOk result (ShowsBy search memory.now.memory.top (seen memory.now.memory)) }
+    ensures refused { IfErr result (λ fault. (fault ≡ NoMemory) ⊎ RefusesBy search (seen memory.now.memory) fault) }
 {
-    let acpi = scan_acpi(alloc, memory, form)?;
-    let smbios = scan_smbios(alloc, memory)?;
+    let acpi = scan_acpi(alloc, memory, search.root)?;
+    let smbios = scan_structures(alloc, memory, search.anchor)?;
     Ok(inventory_of(memory.top(), acpi, smbios))
 }
 

@@ -4,7 +4,7 @@
 //! An anchor stands on a multiple of 16 below 1 MiB. The contract is that the least valid one of each kind is found exactly, and that [`scan`]
 //! reads the inventory of a memory, which is what both lead to, exactly where the memory shows it, and else tells the first fault: that of the
 //! ACPI tables, or where these have none that of the SMBIOS structures. An anchor that isn't there is no fault. [`scan_by`] does so by any
-//! form of the ACPI tables. The law is that a memory is scanned in one way by each form.
+//! search, which says of what form the anchors are. The law is that a memory is scanned in one way by each search.
 #![tactic(auto)]
 
 mod acpi;
@@ -17,9 +17,11 @@ mod range;
 mod rsdp;
 mod smbios;
 mod smbios2;
+mod sought_anchor;
+mod sought_root;
 mod view;
 
-pub use anchor::{find_smbios, find_smbios_by};
+pub use anchor::{find_smbios, find_smbios_by, find_smbios2};
 pub use fault::ScanFault;
 pub use inventory::{scan, scan_by};
 pub use rsdp::{find_rsdp, find_rsdp_by};

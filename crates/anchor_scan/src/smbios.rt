@@ -4,14 +4,19 @@ ghost use Rattle.smbios_model.specs.declared.smbios.SmbiosTable.{SmbiosTable};
 ghost use Rattle.smbios_model.specs.Smbios.{ShowsSmbios, ShowsSmbiosBy};
 ghost use Rattle.smbios_decode.specs.declared.fault.SmbiosFault.{SmbiosFault};
 ghost use Rattle.smbios_decode.specs.declared.fault.SmbiosFault.TheVariants.{OutOfMemory as NoMemory};
+ghost use Rattle.table_model.specs.Search.{HasNoAnchorOf};
+ghost use Rattle.table_model.specs.Inventory.{ShowsStructuresOf};
+ghost use Rattle.anchor_scan.specs.Scan.{RefusesSmbiosOf};
 ghost use Rattle.anchor_scan.specs.Shown.{HasNoAnchor, HasNoAnchorBy, RefusesSmbios, RefusesSmbiosBy, OrNoMemory};
 
-use crate::anchor::{find_smbios_by, read_anchor};
+use crate::anchor::read_anchor;
 use crate::range::range_from;
+use crate::sought_anchor::first_anchor;
 use guest_memory::GuestMemory;
 use smbios_decode::{SmbiosFault, decode_table};
 use smbios_model::{AnchorForm, SmbiosTable};
 use std::alloc::Global;
+use table_model::AnchorSearch;
 
 /// Reads the SMBIOS table of `memory` from its anchor (DSP0134 5.2.2): the structures in the bytes from the address on that the
 /// anchor tells, as many as its maximum size says and as are RAM without a gap. What is read takes its memory from `alloc`, and so
@@ -31,7 +36,7 @@ pub fn scan_smbios(alloc: Global, memory: &GuestMemory) -> Result<Option<SmbiosT
     scan_smbios_by(alloc, memory, AnchorForm::Smbios3)
 }
 
-/// Does the same by the form `form`: the anchor is one of that form, as [`find_smbios_by`] finds it.
+/// Does the same by the form `form`: the anchor is one of that form, as [`find_smbios_by`](crate::find_smbios_by) finds it.
 pub fn scan_smbios_by(
     alloc: Global,
     memory: &GuestMemory,
@@ -43,10 +48,23 @@ pub fn scan_smbios_by(
     ensures refused { IfErr result (λ fault. (fault ≡ NoMemory) ⊎ RefusesSmbiosBy form (seen memory.now.memory) fault) }
     ensures refuses { (fault : SmbiosFault) → RefusesSmbiosBy form (seen memory.now.memory) fault → OrNoMemory result (Err fault) }
 {
-    let Some(address) = find_smbios_by(memory, form) else {
+    scan_structures(alloc, memory, AnchorSearch::One(form))
+}
+
+/// Does the same by the search `search`: the anchor is the first that it looks for.
+pub(crate) fn scan_structures(
+    alloc: Global,
+    memory: &GuestMemory,
+    search: AnchorSearch,
+) -> Result<Option<SmbiosTable>, SmbiosFault>
+    ensures none { result ≡ Ok None ↔ HasNoAnchorOf search (seen memory.now.memory) }
+    ensures shown { IfOk result (λ found. IfSome found (ShowsStructuresOf search (seen memory.now.memory))) }
+    ensures refused { IfErr result (λ fault. (fault ≡ NoMemory) ⊎ RefusesSmbiosOf search (seen memory.now.memory) fault) }
+{
+    let Some(first) = first_anchor(memory, search) else {
         return Ok(None);
     };
-    let found = read_anchor(memory, form, address);
+    let found = read_anchor(memory, first.form, first.address);
     let bytes = range_from(alloc, memory, found.structures, found.anchor.maximum_size)?;
     let structures = decode_table(alloc, &bytes)?;
     Ok(Some(SmbiosTable {

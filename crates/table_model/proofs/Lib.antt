@@ -1,1 +1,3 @@
+pub mod OneSearch
+pub mod SearchOfOne
 pub mod OneInventory

@@ -1,3 +1,4 @@
+pub mod Search
 pub mod Inventory
 pub use Rattle.vt_bytes.specs.View
 pub use Rattle.machine_desc.specs.Rules

@@ -1,12 +1,13 @@
 //! The inventory of a machine: what its tables say together, and what a view of memory shows of them.
 //!
 //! The records of SMBIOS structures are those of `smbios_model`, and those of ACPI tables are those of `acpi_model`; both are passed
-//! on. The contract is that `inventory_of` gives the inventory of a machine exactly, and the law is that a view shows at most one
-//! inventory.
+//! on. What a view shows depends on which anchors a guest looks for, which a `Search` says. The contract is that `inventory_of` gives the
+//! inventory of a machine exactly, and the law is that a view shows at most one inventory by each search.
 #![tactic(auto)]
 
 mod inventory;
 pub mod laws;
+mod search;
 
 pub use acpi_model::{
     AcpiTables, ApicAffinity, DSDT_PLACE, Dsdt, FACS_PLACE, FACS_SIZE, Facs, Fadt, FadtLinks,
@@ -17,6 +18,7 @@ pub use acpi_model::{
     madt_of_machine, mcfg_of_bridge, rsdp_rows, slit_of_machine, srat_of_machine, tables_of,
 };
 pub use inventory::{Inventory, inventory_of};
+pub use search::{AnchorSearch, RootSearch, Search};
 pub use smbios_model::{
     ARRAY_TYPE, Anchor, ArrayInfo, BIOS_TYPE, BOOT_TYPE, BiosInfo, Body, BootInfo, CHASSIS_TYPE,
     ChassisInfo, DEVICE_TYPE, DeviceInfo, END_TYPE, MAPPED_TYPE, MappedInfo, OEM_STRINGS_TYPE,

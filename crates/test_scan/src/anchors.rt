@@ -15,8 +15,8 @@ const RSDP: &[u8] = b"RSD PTR JABCDEF\x02\0\0\0\0$\0\0\0\0\0\0\x03\0\0\0\0\xd9\0
 // One whose first 20 bytes sum to zero, but all 36 don't.
 const WRONG_SUM: &[u8] = b"RSD PTR JABCDEF\x02\0\0\0\0$\0\0\0\0\0\0\x03\0\0\0\0\xda\0\0\0";
 
-// Version 3.5.7, at most 42 bytes at 0x03000000.
-const ANCHOR: &[u8] = b"_SM3_\x1a\x18\x03\x05\x07\x01\x00\x2a\0\0\0\0\0\0\x03\0\0\0\0";
+/// A 64-bit entry point of version 3.5.7, for at most 42 bytes at 0x03000000.
+pub const ANCHOR: &[u8] = b"_SM3_\x1a\x18\x03\x05\x07\x01\x00\x2a\0\0\0\0\0\0\x03\0\0\0\0";
 
 const WRONG_ANCHOR: &[u8] = b"_SM3_\x1b\x18\x03\x05\x07\x01\x00\x2a\0\0\0\0\0\0\x03\0\0\0\0";
 

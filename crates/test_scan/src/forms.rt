@@ -1,5 +1,6 @@
 //! What a scan by each form of the tables tells of a memory that has two: a legacy RSDP with its RSDT, and one of revision 2 with its XSDT,
-//! which name the same FADT of 116 bytes. They were made by hand from ACPI 6.5, 5.2.5.3, 5.2.7, 5.2.8 and 5.2.9.
+//! which name the same FADT of 116 bytes; and what one by any form tells, which goes by the RSDP at the lower address. They were made by hand
+//! from ACPI 6.5, 5.2.5.1, 5.2.5.3, 5.2.7, 5.2.8 and 5.2.9.
 
 use crate::scans::told_of;
 use crate::told::are_words;
@@ -9,10 +10,11 @@ use acpi_model::Form;
 use anchor_scan::{ScanFault, find_rsdp, scan, scan_by};
 use fixtures::{Put, mend_all, put_all};
 use guest_memory::GuestMemory;
+use smbios_model::AnchorForm;
 use std::alloc::Global;
 use std::process::Abort;
 use std::test::Fail;
-use table_model::Inventory;
+use table_model::{AnchorSearch, Inventory, RootSearch, Search};
 
 const LEGACY_RSDP: u64 = 0xE_0100;
 
@@ -30,13 +32,13 @@ const ANY_FADT: Form = Form {
     least_fadt: 116,
 };
 
+// The RSDP of revision 2, which leads to the XSDT.
+const EXTENDED_RSDP: &[u8] = b"RSD PTR JABCDEF\x02\0\0\0\0$\0\0\0\0\x01\0\x03\0\0\0\0\xd8\0\0\0";
+
 // The first entry of each root is zero. The sums of the tables are still to be set.
 static PUTS: [Put; 5] = [
     (LEGACY_RSDP, b"RSD PTR IABCDEF\0\0\0\0\x03"),
-    (
-        RSDP,
-        b"RSD PTR JABCDEF\x02\0\0\0\0$\0\0\0\0\x01\0\x03\0\0\0\0\xd8\0\0\0",
-    ),
+    (RSDP, EXTENDED_RSDP),
     (
         RSDT,
         b"RSDT\x2c\0\0\0\x01\0ABCDEFGHIJKLMN\x05\0\0\0OPQR\x06\0\0\0\0\0\0\0\0\x02\0\x03",
@@ -54,6 +56,9 @@ static PUTS: [Put; 5] = [
         \x33\0\0\0\xa5\x01\0\0",
     ),
 ];
+
+// No RSDP of revision 2 stands below the legacy one any more, but one above it.
+static MOVED: [Put; 2] = [(RSDP, b"\0"), (0xE_0200, EXTENDED_RSDP)];
 
 const LEGACY_TOLD: &str = "
 top 04000000
@@ -81,10 +86,36 @@ fn each_is_told(rt: &impl Abort, alloc: Global, memory: &mut GuestMemory) -> Res
     assert_eq!(rt; find_legacy(memory), Some(LEGACY_RSDP));
     assert_eq!(rt; find_rsdp(memory), Some(RSDP));
     is_told(rt, alloc, scan_legacy(alloc, memory)?, LEGACY_TOLD)?;
-    is_told(rt, alloc, scan_by(alloc, memory, LEGACY_FORM)?, LEGACY_TOLD)?;
-    is_told(rt, alloc, scan_by(alloc, memory, ANY_FADT)?, ANY_FADT_TOLD)?;
+    is_scanned(rt, alloc, memory, search_for(LEGACY_FORM), LEGACY_TOLD)?;
+    is_scanned(rt, alloc, memory, search_for(ANY_FADT), ANY_FADT_TOLD)?;
     is_too_short(rt, alloc, memory);
-    Ok(())
+    lower_counts(rt, alloc, memory)
+}
+
+// By any form that RSDP counts which stands at the lower address, whatever its revision.
+fn lower_counts(rt: &impl Abort, alloc: Global, memory: &mut GuestMemory) -> Result<(), Fail> {
+    is_scanned(rt, alloc, memory, Search::any(), ANY_FADT_TOLD)?;
+    put_all(memory, &MOVED)?;
+    assert_eq!(rt; find_rsdp(memory), Some(0xE_0200));
+    is_scanned(rt, alloc, memory, Search::any(), LEGACY_TOLD)
+}
+
+// The search for an RSDP of one form.
+fn search_for(form: Form) -> Search {
+    Search {
+        root: RootSearch::One(form),
+        anchor: AnchorSearch::One(AnchorForm::Smbios3),
+    }
+}
+
+fn is_scanned(
+    rt: &impl Abort,
+    alloc: Global,
+    memory: &GuestMemory,
+    search: Search,
+    wanted: &str,
+) -> Result<(), Fail> {
+    is_told(rt, alloc, scan_by(alloc, memory, search)?, wanted)
 }
 
 fn is_told(rt: &impl Abort, alloc: Global, inventory: Inventory, wanted: &str) -> Result<(), Fail> {

@@ -9,6 +9,7 @@ use Rattle.machine_desc.specs.Rules.{IsAccepted}
 use Rattle.machine_desc.specs.Fields.{HasFittingFields}
 use Rattle.machine_desc.proofs.Accepted.{generation_needs_power}
 use Rattle.acpi_model.specs.Header.{head_of, padded}
+use Rattle.acpi_model.specs.Form.{xsdt_form}
 use Rattle.acpi_model.specs.Rsdp.{rsdp_rows, HasRsdp}
 use Rattle.acpi_model.specs.Acpi.{linked_table, tables_of, targets_of, acpi_of, id_of}
 use Rattle.acpi_model.proofs.AcceptedAcpi.{accepted_fits}
@@ -19,7 +20,9 @@ use Rattle.acpi_model.proofs.MachineTables.{machine_distinct}
 use Rattle.acpi_model.proofs.MachineTargets.{machine_leads}
 use Rattle.acpi_model.specs.Kinds.{tables_name}
 use Rattle.acpi_model.specs.Found.{ShowsBytes}
-use Rattle.table_model.specs.Inventory.{ShowsTables}
+use Rattle.table_model.specs.declared.search.RootSearch.TheVariants.{One}
+use Rattle.table_model.specs.Inventory.{ShowsTablesBy}
+use Rattle.table_model.proofs.SearchOfOne.{tables_of_one, no_root_of_one}
 use Rattle.acpi_append.specs.Tables.{table_pointer}
 use Rattle.vm_image.specs.Image.{acpi_files, acpi_part, generation_part, tables_begin, rsdp_name, xsdt_place}
 use Rattle.vm_image.specs.AcpiHeld.{HoldsTables, AreAcpiKnown}
@@ -55,9 +58,10 @@ module _ (m : Memory) (place_of : List ℕ → ℕ) (high : 0x4000000 ≤ m.top)
       → ((limit : ℕ) → limit ≤ 0x100000 → AllByRecursion (IsClearFile m (rsdp_mark limit) place_of) (acpi_part machine maker)
       → (other : ℕ) → other < limit → HasRsdp (seen m) other → ⊥)
       → ShowsBytes (seen m) → AllByRecursion (Stands m place_of) (generation_part machine.generation)
-      → ShowsTables (seen m) (option_map (acpi_of machine) maker) (id_of machine)
+      → ShowsTablesBy (One xsdt_form) (seen m) (option_map (acpi_of machine) maker) (id_of machine)
   acpi_shown machine None is accepted fit known stand no_rsdp bytes ids = (
-    λ address has. let within = has.2.within in no_rsdp 0x100000 (omega arith) tt address (omega arith) has,
+    no_root_of_one xsdt_form (seen m)
+        (λ address has. let within = has.2.within in no_rsdp 0x100000 (omega arith) tt address (omega arith) has),
     no_id machine is accepted,
   )
   acpi_shown machine (Some acpi) is accepted fit known stand no_rsdp bytes ids =
@@ -71,7 +75,7 @@ module _ (m : Memory) (place_of : List ℕ → ℕ) (high : 0x4000000 ≤ m.top)
       let held : HoldsTables (seen m) place_of (xsdt_place (tables_begin machine acpi) (tables_of machine acpi) + place_of tables_name)
       (head_of acpi 1) (tables_of machine acpi) =
       known.tables_file.held (seen m) (place_of tables_name) place_of tables.held refl (omega arith) in
-      record {
+      tables_of_one xsdt_form (seen m) (acpi_of machine acpi) (id_of machine) (record {
         rsdp = place_of rsdp_name;
         least = no_rsdp (place_of rsdp_name) (omega arith) (
           clear_behind m (rsdp_mark (place_of rsdp_name)) (place_of tables_name)
@@ -107,4 +111,4 @@ module _ (m : Memory) (place_of : List ℕ → ℕ) (high : 0x4000000 ≤ m.top)
             its_id = refl;
           };
         };
-      }
+      })

@@ -3,8 +3,13 @@ use Rattle.std.proofs.Common.{ℕ, ◌^◌, ◌<◌, ◌≤◌, List, length, re
 use Rattle.std.specs.List.{AllByRecursion}
 use Rattle.vt_bytes.specs.Memory.{Memory, seen}
 use Rattle.smbios_model.specs.Anchor.{HasAnchor}
-use Rattle.smbios_model.specs.Smbios.{AreStructures, ShowsSmbios}
+use Rattle.smbios_model.specs.Smbios.{AreStructures}
+use Rattle.smbios_model.specs.declared.anchor.AnchorForm.TheVariants.{Smbios3}
 use Rattle.smbios_model.specs.declared.smbios.Structure.{Structure}
+use Rattle.smbios_model.specs.declared.smbios.SmbiosTable.{SmbiosTable}
+use Rattle.table_model.specs.declared.search.AnchorSearch.TheVariants.{One}
+use Rattle.table_model.specs.Inventory.{ShowsStructuresOf}
+use Rattle.table_model.proofs.SearchOfOne.{structures_of_one}
 use Rattle.vm_image.specs.Image.{smbios_placed}
 use Rattle.cfg_directory.specs.SmbiosNames.{anchor_name, structures_name}
 use Rattle.vm_image.proofs.Whole.{holds_whole}
@@ -50,9 +55,11 @@ module _ (m : Memory) (place_of : List ℕ → ℕ) (high : 0x4000000 ≤ m.top)
   pub smbios_shown : (bytes : List ℕ) (structures : List Structure) → length bytes < 2 ^ 32 → AreStructures bytes structures
       → AllByRecursion (Stands m place_of) (smbios_placed bytes)
       → ((other : ℕ) → other < place_of anchor_name → HasAnchor (seen m) other → ⊥)
-      → ShowsSmbios (seen m) (record { major = 3; minor = 0; docrev = 0; structures = structures })
+      → ShowsStructuresOf (One Smbios3) (seen m) (record { major = 3; minor = 0; docrev = 0; structures = structures })
   smbios_shown bytes structures few are stand least =
       let anchor = stand.1.0 in
-      anchor_shows (seen m) (place_of anchor_name) (place_of structures_name) bytes structures few (omega (arith, anchor.from))
+      let table : SmbiosTable = record { major = 3; minor = 0; docrev = 0; structures = structures } in
+      structures_of_one Smbios3 (seen m) table
+      (anchor_shows (seen m) (place_of anchor_name) (place_of structures_name) bytes structures few (omega (arith, anchor.from))
       (omega (arith, anchor.aligned.1)) (omega (arith, anchor.within))
-      (holds_whole (seen m) (place_of structures_name) bytes place_of stand.0.held) (anchor_held bytes stand) least are
+      (holds_whole (seen m) (place_of structures_name) bytes place_of stand.0.held) (anchor_held bytes stand) least are)

@@ -160,7 +160,7 @@ nothing_refused Gives (Some (Gen processors)) before after ended source source_a
 nothing_refused Gives (Some (Load options)) before after ended source source_after out out_after ran = tt
 nothing_refused Gives (Some Build) before after ended source source_after out out_after ran = tt
 nothing_refused Gives (Some (Decode legacy)) before after ended source source_after out out_after ran = tt
-nothing_refused Gives (Some (Listing legacy)) before after ended source source_after out out_after ran = tt
+nothing_refused Gives (Some (Listing sought)) before after ended source source_after out out_after ran = tt
 nothing_refused Gives None before after ended source source_after out out_after ran = tt
 
 -- nor does the command that the words are

@@ -54,7 +54,7 @@ gives_free Gives begun top free are handed request place may =
     subst (λ (zone : Range). IsFree zone handed request.size request.align place) (are request.zone) (free begun handed request place may)
 
 -- what a load of items leaves
-leaves_of : (Gives : Answering) (items : List Item) (top : ℕ) (setting : Setting) (answer : Result (Unit {0}) LoadFault)
+pub leaves_of : (Gives : Answering) (items : List Item) (top : ℕ) (setting : Setting) (answer : Result (Unit {0}) LoadFault)
     (before after : Seen) (loaded : IsImageLoaded Gives items top setting answer before after)
     → IsLoadedOver (Gives after.place.begun) (begun_with items top setting.fill) loaded.load.taken after.place.handed answer loaded.world
 leaves_of Gives items top setting answer before after loaded =
@@ -87,7 +87,7 @@ holds_files May its events handed answer world leaves bytes = record {
 }
 
 -- how a run ends whose load answered so
-ended_done : (end : End) → Ok tt ≡ result_of end → end ≡ Done
+pub ended_done : (end : End) → Ok tt ≡ result_of end → end ≡ Done
 ended_done Done is = refl
 ended_done (Command index cause) is = absurd (cc)
 ended_done (NoRoom index) is = absurd (cc)

@@ -1,9 +1,8 @@
 -- Calls with a lawful input of which nothing outside failed: they are done, or memory ran out.
-use Rattle.std.proofs.Common.{◌≡◌, ◌⊎◌, inl, inr, ℕ, ◌<◌, ◌≤◌, List, length, map, Some, IfOk, Result, Ok, Err, arith, refl, ap, sym, subst, ◌∙◌}
+use Rattle.std.proofs.Common.{◌≡◌, ◌⊎◌, inl, inr, ℕ, Bool, ◌<◌, ◌≤◌, List, length, map, Some, IfOk, Result, Ok, Err, arith, refl, ap, sym, subst, ◌∙◌}
 use Rattle.vt_outside.specs.Placement.{Range}
 use Rattle.vt_outside.specs.Stream.{SourceSeen, SinkSeen, Rose}
 use Rattle.cfg_directory.specs.declared.item.Item.{Item}
-use Rattle.cfg_directory.specs.Container.{read_so}
 use Rattle.cfg_directory.specs.Items.{total_size}
 use Rattle.cfg_directory.proofs.Containers.{contained_is_read}
 use Rattle.desc_toml.specs.declared.fault.DescFault.{DescFault}
@@ -18,6 +17,7 @@ use Rattle.command_acts.specs.declared.fault.LoadFault.{LoadFault}
 use Rattle.command_acts.specs.Runs.{result_of}
 use Rattle.command_acts.specs.Script.{script_in}
 use Rattle.vm_image.specs.Image.{image_items}
+use Rattle.smbios_install.specs.declared.fault.InstallFault.{InstallFault}
 use Rattle.vt_words.specs.declared.command.Command.{Command as CommandOf}
 use Rattle.vt_words.specs.declared.command.Command.TheVariants.{Boot, Build, Gen, Load}
 use Rattle.vt_words.specs.declared.command.LoadOptions.{LoadOptions}
@@ -26,7 +26,7 @@ use Rattle.vmtables.specs.Boot.{BootMakes, FailsToBoot, too_large, not_built, wi
 use Rattle.vmtables.specs.Boot as boot_made
 use Rattle.vmtables.specs.Build.{BuildMakes}
 use Rattle.vmtables.specs.Build as build_made
-use Rattle.vmtables.specs.Load.{LoadMakes, mib, not_read, not_loaded}
+use Rattle.vmtables.specs.Load.{IsToLoad, LoadMakes, mib, not_read, not_loaded, to_load}
 use Rattle.vmtables.specs.Calls.{Answering, Input, Unread, Cut, Whole, Made, ReadsAll, ReadsNone, Wrote, WasRead, Seen}
 use Rattle.vmtables.specs.Complete.{Call, IsFed, HasRoom, IsDone, DescribesFew, RunsWhole}
 use Rattle.vmtables.specs.Described.{IsTooLarge}
@@ -35,7 +35,8 @@ use Rattle.vmtables.specs.Generate.{GenMakes, not_counted, plain}
 use Rattle.vmtables.specs.Loading.{IsImageLoaded, FailsToLoad, ended_early, not_begun}
 use Rattle.vmtables.specs.Outcome.{input_limit, status_of}
 use Rattle.vmtables.proofs.Ends.{ends_as, for_want, with_text, with_fault}
-use Rattle.vmtables.proofs.Refused.{IsUnbuilt, undescribed, of_large, no_memory, why_unbuilt, IsUnread, not_container, no_room, why_unread}
+use Rattle.vmtables.proofs.Refused.{IsUnbuilt, undescribed, of_large, no_memory, why_unbuilt, IsUnread, not_container, not_installed, no_room}
+use Rattle.vmtables.proofs.Refused.{why_unread}
 use Rattle.vmtables.proofs.Refused.{IsUndescribed, none_read, unread, why_undescribed}
 use Rattle.vmtables.specs.declared.fault.Fault.{Fault}
 use Rattle.vmtables.specs.declared.status.Status.TheVariants as status
@@ -72,7 +73,7 @@ items_read items = Ok items
 same_machine : (a b : Machine) → machine_read a ≡ Ok b → a ≡ b
 same_machine a b is = cc
 
-same_items : (a b : List Item) → items_read a ≡ Ok b → a ≡ b
+pub same_items : (a b : List Item) → items_read a ≡ Ok b → a ≡ b
 same_items a b is = cc
 
 -- a description of a machine whose files are few isn't one of a machine whose files are too many
@@ -150,10 +151,30 @@ load_fault Gives items top setting before after why whole loaded =
     let ends : (run (files_of items) whole.0 (map (λ (r : Range). r.start) after.place.handed)).0 ≡ ran.0 = ap (λ (e : End × Progress). e.0) ran.1.ends in
     ended_whole why ran.0 (sym ends ∙ whole.2) ran.2
 
--- bytes that are a container aren't read for want of memory alone
-unread_fault : (bytes : List ℕ) (items : List Item) → read_so bytes ≡ Ok items → (f : Fault) → IsUnread bytes f → Completed (Err f)
-unread_fault bytes items read f (not_container refused) = absurd (cc)
-unread_fault bytes items read f no_room = inr refl
+-- two lists of items that are loaded of the same bytes
+items_told : List Item → Result (List Item) InstallFault
+items_told items = Ok items
+
+same_loaded : (install : Bool) (bytes : List ℕ) (a b : List Item) → IsToLoad install bytes a → IsToLoad install bytes b → a ≡ b
+unfolding items_told
+same_loaded install bytes a b is also =
+    let read = sym (contained_is_read bytes is.contained is.container) ∙ contained_is_read bytes also.contained also.container in
+    let same : is.contained ≡ also.contained = same_items is.contained also.contained read in
+    let both : items_told a ≡ items_told b = sym is.loaded ∙ ap (to_load install) same ∙ also.loaded in
+    cc both
+
+-- of bytes of which items are loaded, none are for want of memory alone
+unread_fault : (install : Bool) (bytes : List ℕ) (items : List Item) → IsToLoad install bytes items → (f : Fault) → IsUnread install bytes f
+    → Completed (Err f)
+unread_fault install bytes items is f (not_container refused) =
+    let read = contained_is_read bytes is.contained is.container in
+    absurd (cc)
+unread_fault install bytes items is f (not_installed refused) =
+    let read = sym (contained_is_read bytes is.contained is.container) ∙ contained_is_read bytes refused.contained refused.container in
+    let same : is.contained ≡ refused.contained = same_items is.contained refused.contained read in
+    let both = sym is.loaded ∙ ap (to_load install) same ∙ refused.refused in
+    absurd (cc both)
+unread_fault install bytes items is f no_room = inr refl
 
 failed_load : (Gives : Answering) (items : List Item) (top : ℕ) (setting : Setting) (before after : Seen)
     → RunsWhole items (map (λ (r : Range). r.start) after.place.handed) → (f : Fault) → FailsToLoad Gives items top setting before after f
@@ -162,24 +183,25 @@ failed_load Gives items top setting before after whole f (ended_early {why = why
     absurd (load_fault Gives items top setting before after why whole loaded)
 failed_load Gives items top setting before after whole f (not_begun unloaded) = inr refl
 
-load_ends : (Gives : Answering) (top_mib : ℕ) (setting : Setting) (bytes : List ℕ) (items : List Item) (before after : Seen) → read_so bytes ≡ Ok items
-    → RunsWhole items (map (λ (r : Range). r.start) after.place.handed)
-    → (f : Fault) → LoadMakes Gives top_mib setting bytes before after (Err f) → Completed (Err f)
-load_ends Gives top_mib setting bytes items before after read whole f (not_read cannot same) = unread_fault bytes items read f (why_unread bytes f cannot)
-load_ends Gives top_mib setting bytes items before after read whole f (not_loaded others contained failed) =
-    let same : items ≡ others = same_items items others (sym read ∙ contained_is_read bytes others contained) in
-    failed_load Gives items (mib top_mib) setting before after whole f
-    (subst (λ those. FailsToLoad Gives those (mib top_mib) setting before after f) (sym same) failed)
+load_ends : (Gives : Answering) (options : LoadOptions) (bytes : List ℕ) (items : List Item) (before after : Seen)
+    → IsToLoad options.install bytes items → RunsWhole items (map (λ (r : Range). r.start) after.place.handed)
+    → (f : Fault) → LoadMakes Gives options bytes before after (Err f) → Completed (Err f)
+load_ends Gives options bytes items before after is whole f (not_read cannot same) =
+    unread_fault options.install bytes items is f (why_unread options.install bytes f cannot)
+load_ends Gives options bytes items before after is whole f (not_loaded others also failed) =
+    let same : items ≡ others = same_loaded options.install bytes items others is also in
+    failed_load Gives items (mib options.top_mib) options.setting before after whole f
+    (subst (λ those. FailsToLoad Gives those (mib options.top_mib) options.setting before after f) (sym same) failed)
 
 pub load_completed : (Gives : Answering) (options : LoadOptions) (bytes : List ℕ) (items : List Item) (call : Call Gives (Load options))
-    → read_so bytes ≡ Ok items → RunsWhole items (map (λ (r : Range). r.start) call.after.place.handed) → IsFed bytes call → HasRoom call → IsDone call
-load_completed Gives options bytes items call read whole fed room =
+    → IsToLoad options.install bytes items → RunsWhole items (map (λ (r : Range). r.start) call.after.place.handed) → IsFed bytes call → HasRoom call
+    → IsDone call
+load_completed Gives options bytes items call is whole fed room =
     let ran = call.answered.ran in
     call_done Gives (Load options) call
-    (whole_call (LoadMakes Gives options.top_mib options.setting) call.before call.after bytes ran.input ran.made call.answered.ended call.source
-    call.source_after
+    (whole_call (LoadMakes Gives options) call.before call.after bytes ran.input ran.made call.answered.ended call.source call.source_after
     call.out call.out_after fed.had fed.within fed.read fed.written ran.did ran.read ran.wrote
-    (load_ends Gives options.top_mib options.setting bytes items call.before call.after read whole))
+    (load_ends Gives options bytes items call.before call.after is whole))
 
 -- a call that reads nothing is done, or ends with a fault that it makes
 plain_call : (Makes : Seen → Seen → Made → Type 0) (before after : Seen) (in_all : Input) (made : Made) (ended : Result (Unit {0}) Fault)

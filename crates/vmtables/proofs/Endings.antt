@@ -12,7 +12,7 @@ use Rattle.vmtables.specs.Causes.{input_fault}
 use Rattle.vmtables.specs.Does.{Does}
 use Rattle.vmtables.specs.Outcome.{input_limit, given_count, status_of, status_of_fault}
 use Rattle.load_states.specs.LoadState.{LoadState, memory_of}
-use Rattle.acpi_model.specs.declared.form.Form.{Form}
+use Rattle.table_model.specs.declared.search.Search.{Search}
 use Rattle.vt_words.specs.declared.command.Command.{Command}
 use Rattle.vmtables.specs.declared.fault.Fault.{Fault}
 use Rattle.vmtables.specs.declared.fault.Fault.TheVariants as fault
@@ -44,12 +44,12 @@ pub commanded : (Gives : Answering) (known command : Option Command) (r : Result
 commanded Gives known command r before after source source_after out out_after is =
     subst (λ those. Ran (Does Gives those before after) r source source_after out out_after) is
 
--- nor on how the form of the tables is told that it reads by
-pub by_form : (Makes : Form → List ℕ → Seen → Seen → Made → Type 0) (form known : Form) (r : Result (Unit {0}) Fault) (before after : Seen)
-    (source source_after : SourceSeen) (out out_after : SinkSeen) → form ≡ known
-    → Ran (ReadsAll (Makes form) before after) r source source_after out out_after
+-- nor on how the search is told by which it reads
+pub by_search : (Makes : Search → List ℕ → Seen → Seen → Made → Type 0) (search known : Search) (r : Result (Unit {0}) Fault) (before after : Seen)
+    (source source_after : SourceSeen) (out out_after : SinkSeen) → search ≡ known
+    → Ran (ReadsAll (Makes search) before after) r source source_after out out_after
     → Ran (ReadsAll (Makes known) before after) r source source_after out out_after
-by_form Makes form known r before after source source_after out out_after is =
+by_search Makes search known r before after source source_after out out_after is =
     subst (λ those. Ran (ReadsAll (Makes those) before after) r source source_after out out_after) is
 
 abbrev pub read_as : {A : Type 0} → A → Result A InputFault

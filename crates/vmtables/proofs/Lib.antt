@@ -10,6 +10,8 @@ pub mod ImageRuns
 pub mod ImageRunEnds
 pub mod NeverEnded
 pub mod ItemsLoaded
+pub mod ItemsToLoad
+pub mod InstalledFiles
 pub mod PlacedFiles
 pub mod Listed
 pub mod NeverRefused

@@ -1,12 +1,12 @@
 -- Calls of `decode --list` of which nothing outside failed: out took the list, or the first fault was told, or memory ran out.
-use Rattle.std.proofs.Common.{◌≡◌, ◌≢◌, ◌⊎◌, inl, inr, ℕ, List, ◌++◌, Result, Ok, Err, IfErr, Bool, false, refl, ap, sym, subst, ◌∙◌}
+use Rattle.std.proofs.Common.{◌≡◌, ◌≢◌, ◌⊎◌, inl, inr, ℕ, List, ◌++◌, Result, Ok, Err, IfErr, false, refl, ap, sym, subst, ◌∙◌}
 use Rattle.std.proofs.lemmas.List.{append_cancel_left}
 use Rattle.vt_outside.specs.Stream.{SinkSeen, Bytes, behind}
 use Rattle.vt_bytes.specs.Memory.{Memory, seen}
 use Rattle.desc_toml.specs.Reading.{Reads}
 use Rattle.machine_desc.specs.declared.machine.Machine.{Machine}
-use Rattle.acpi_model.specs.declared.form.Form.{Form}
-use Rattle.acpi_model.specs.Form.{form_of, xsdt_form}
+use Rattle.table_model.specs.declared.search.Search.{Search}
+use Rattle.table_model.specs.Search.{search_of}
 use Rattle.table_model.specs.declared.inventory.Inventory.{Inventory}
 use Rattle.table_model.specs.Inventory.{ShowsBy, inventory_of}
 use Rattle.memory_dump.specs.declared.fault.DumpFault.{DumpFault}
@@ -20,11 +20,13 @@ use Rattle.load_states.specs.LoadState.{memory_of}
 use Rattle.scan_text.specs.List.{list_of}
 use Rattle.vt_words.specs.declared.command.Command.{Command}
 use Rattle.vt_words.specs.declared.command.Command.TheVariants.{Boot, List as Listing}
+use Rattle.vt_words.specs.declared.command.Sought.{Sought}
+use Rattle.vt_words.specs.declared.command.Sought.TheVariants.{One}
 use Rattle.vt_words.specs.declared.setting.Setting.{Setting}
 use Rattle.vmtables.specs.Boot.{BootMakes, booted}
 use Rattle.vmtables.specs.Calls.{Answering, Made, ReadsAll, Said, Seen, TookWhole, Wrote}
 use Rattle.vmtables.specs.Complete.{Call, HasBooted, IsDone, IsFed, IsListed, IsRefused}
-use Rattle.vmtables.specs.Decode.{CannotBeListed, ListMakes, DumpRefuses, DumpShows, listed, not_listed}
+use Rattle.vmtables.specs.Decode.{CannotBeListed, ListMakes, DumpRefuses, DumpShows, listed, not_listed, search_for}
 use Rattle.vmtables.specs.Dumped.{IsDumpOf}
 use Rattle.vmtables.specs.Outcome.{faulty_line, line_of, status_of, status_of_fault}
 use Rattle.vmtables.specs.declared.fault.Fault.{Fault}
@@ -48,26 +50,26 @@ abbrev scan_told : ScanFault → Result Inventory ScanFault
 scan_told why = Err why
 
 -- a dump's memory shows one inventory
-pub one_shown : (form : Form) (bytes : List ℕ) (a b : Inventory) → DumpShows form bytes a → DumpShows form bytes b → a ≡ b
-one_shown form bytes a b is also =
+pub one_shown : (search : Search) (bytes : List ℕ) (a b : Inventory) → DumpShows search bytes a → DumpShows search bytes b → a ≡ b
+one_shown search bytes a b is also =
     let same = one_memory also.memory is.memory bytes also.dumped is.dumped in
-    let both : scanned a ≡ scanned b = one_scan form is.memory.top (seen is.memory) (Ok a) (Ok b) is.shown
-    (subst (λ m. ShowsBy form m.top (seen m) b) same also.shown) in
+    let both : scanned a ≡ scanned b = one_scan search is.memory.top (seen is.memory) (Ok a) (Ok b) is.shown
+    (subst (λ m. ShowsBy search m.top (seen m) b) same also.shown) in
     cc
 
 -- and then its tables have no fault
-pub never_both : (form : Form) (bytes : List ℕ) (inventory : Inventory) (why : ScanFault) → DumpShows form bytes inventory → DumpRefuses form bytes why → ⊥
-never_both form bytes inventory why is also =
+pub never_both : (search : Search) (bytes : List ℕ) (inventory : Inventory) (why : ScanFault) → DumpShows search bytes inventory → DumpRefuses search bytes why → ⊥
+never_both search bytes inventory why is also =
     let same = one_memory also.memory is.memory bytes also.dumped is.dumped in
-    let both : scanned inventory ≡ scan_told why = one_scan form is.memory.top (seen is.memory) (Ok inventory) (Err why) is.shown
-    (subst (λ m. RefusesBy form (seen m) why) same also.refuses) in
+    let both : scanned inventory ≡ scan_told why = one_scan search is.memory.top (seen is.memory) (Ok inventory) (Err why) is.shown
+    (subst (λ m. RefusesBy search (seen m) why) same also.refuses) in
     absurd (cc)
 
-one_refused : (form : Form) (bytes : List ℕ) (a b : ScanFault) → DumpRefuses form bytes a → DumpRefuses form bytes b → a ≡ b
-one_refused form bytes a b is also =
+one_refused : (search : Search) (bytes : List ℕ) (a b : ScanFault) → DumpRefuses search bytes a → DumpRefuses search bytes b → a ≡ b
+one_refused search bytes a b is also =
     let same = one_memory also.memory is.memory bytes also.dumped is.dumped in
-    let both : scan_told a ≡ scan_told b = one_scan form is.memory.top (seen is.memory) (Err a) (Err b) is.refuses
-    (subst (λ m. RefusesBy form (seen m) b) same also.refuses) in
+    let both : scan_told a ≡ scan_told b = one_scan search is.memory.top (seen is.memory) (Err a) (Err b) is.refuses
+    (subst (λ m. RefusesBy search (seen m) b) same also.refuses) in
     cc
 
 -- a dump has no fault of its own
@@ -77,110 +79,110 @@ dump_is_read m bytes why is read =
     absurd (cc)
 
 -- so that of a dump whose memory shows an inventory nothing but memory is wanting
-pub shown_fault : (form : Form) (bytes : List ℕ) (inventory : Inventory) (f : Fault) → DumpShows form bytes inventory → IsUnlisted form bytes f
+pub shown_fault : (search : Search) (bytes : List ℕ) (inventory : Inventory) (f : Fault) → DumpShows search bytes inventory → IsUnlisted search bytes f
     → f ≡ fault.OutOfMemory
-shown_fault form bytes inventory f is (no_dump {why = why} read line) = absurd (dump_is_read is.memory bytes why is.dumped read)
-shown_fault form bytes inventory f is (tables {why = why} refuses) = absurd (never_both form bytes inventory why is refuses)
-shown_fault form bytes inventory f is refused.memory = refl
+shown_fault search bytes inventory f is (no_dump {why = why} read line) = absurd (dump_is_read is.memory bytes why is.dumped read)
+shown_fault search bytes inventory f is (tables {why = why} refuses) = absurd (never_both search bytes inventory why is refuses)
+shown_fault search bytes inventory f is refused.memory = refl
 
 abbrev dump_fault : DumpFault → ℕ → Fault
 dump_fault why line = fault.Dump why line
 
 -- and bytes have one fault
-pub one_fault : (form : Form) (bytes : List ℕ) (a b : Fault) → a ≢ fault.OutOfMemory → b ≢ fault.OutOfMemory → IsUnlisted form bytes a
-    → IsUnlisted form bytes b → a ≡ b
-one_fault form bytes a b some other (no_dump {why = why} {line = line} read at) (no_dump {why = also} {line = there} read_too at_too) =
+pub one_fault : (search : Search) (bytes : List ℕ) (a b : Fault) → a ≢ fault.OutOfMemory → b ≢ fault.OutOfMemory → IsUnlisted search bytes a
+    → IsUnlisted search bytes b → a ≡ b
+one_fault search bytes a b some other (no_dump {why = why} {line = line} read at) (no_dump {why = also} {line = there} read_too at_too) =
     let told : dump_told why ≡ Err also = sym read ∙ read_too in
     let same : why ≡ also = cc in
     let line_is : line ≡ there = at ∙ ap (faulty_line bytes) same ∙ sym at_too in
     ap (λ w. dump_fault w line) same ∙ ap (dump_fault also) line_is
-one_fault form bytes a b some other (no_dump {why = why} read at) (tables refuses) = absurd (dump_is_read refuses.memory bytes why refuses.dumped read)
-one_fault form bytes a b some other (tables refuses) (no_dump {why = why} read at) = absurd (dump_is_read refuses.memory bytes why refuses.dumped read)
-one_fault form bytes a b some other (tables {why = why} refuses) (tables {why = also} refuses_too) =
-    ap (λ w. fault.Tables w) (one_refused form bytes why also refuses refuses_too)
-one_fault form bytes a b some other refused.memory is = absurd (some refl)
-one_fault form bytes a b some other is refused.memory = absurd (other refl)
+one_fault search bytes a b some other (no_dump {why = why} read at) (tables refuses) = absurd (dump_is_read refuses.memory bytes why refuses.dumped read)
+one_fault search bytes a b some other (tables refuses) (no_dump {why = why} read at) = absurd (dump_is_read refuses.memory bytes why refuses.dumped read)
+one_fault search bytes a b some other (tables {why = why} refuses) (tables {why = also} refuses_too) =
+    ap (λ w. fault.Tables w) (one_refused search bytes why also refuses refuses_too)
+one_fault search bytes a b some other refused.memory is = absurd (some refl)
+one_fault search bytes a b some other is refused.memory = absurd (other refl)
 
 -- What `decode --list` made of the bytes.
 
-made_of_shown : (form : Form) (bytes : List ℕ) (inventory : Inventory) (before after : Seen) (made : List ℕ) → DumpShows form bytes inventory
-    → ListMakes form bytes before after (Ok made) → made ≡ list_of inventory
-made_of_shown form bytes inventory before after made is (listed others shows written same) =
-    written ∙ ap list_of (one_shown form bytes others inventory shows is)
+made_of_shown : (search : Search) (bytes : List ℕ) (inventory : Inventory) (before after : Seen) (made : List ℕ) → DumpShows search bytes inventory
+    → ListMakes search bytes before after (Ok made) → made ≡ list_of inventory
+made_of_shown search bytes inventory before after made is (listed others shows written same) =
+    written ∙ ap list_of (one_shown search bytes others inventory shows is)
 
-fault_of_shown : (form : Form) (bytes : List ℕ) (inventory : Inventory) (before after : Seen) (f : Fault) → DumpShows form bytes inventory
-    → ListMakes form bytes before after (Err f) → f ≡ fault.OutOfMemory
-fault_of_shown form bytes inventory before after f is (not_listed cannot same) = shown_fault form bytes inventory f is (why_unlisted form bytes f cannot)
+fault_of_shown : (search : Search) (bytes : List ℕ) (inventory : Inventory) (before after : Seen) (f : Fault) → DumpShows search bytes inventory
+    → ListMakes search bytes before after (Err f) → f ≡ fault.OutOfMemory
+fault_of_shown search bytes inventory before after f is (not_listed cannot same) = shown_fault search bytes inventory f is (why_unlisted search bytes f cannot)
 
 -- of a dump of a memory whose tables have no fault memory alone is wanting
-sound_fault : (form : Form) (bytes : List ℕ) (m : Memory) (f : Fault) → IsDumpOf m bytes → ((why : ScanFault) → RefusesBy form (seen m) why → ⊥)
-    → IsUnlisted form bytes f → f ≡ fault.OutOfMemory
-sound_fault form bytes m f dumped sound (no_dump {why = why} read line) = absurd (dump_is_read m bytes why dumped read)
-sound_fault form bytes m f dumped sound (tables {why = why} refuses) =
+sound_fault : (search : Search) (bytes : List ℕ) (m : Memory) (f : Fault) → IsDumpOf m bytes → ((why : ScanFault) → RefusesBy search (seen m) why → ⊥)
+    → IsUnlisted search bytes f → f ≡ fault.OutOfMemory
+sound_fault search bytes m f dumped sound (no_dump {why = why} read line) = absurd (dump_is_read m bytes why dumped read)
+sound_fault search bytes m f dumped sound (tables {why = why} refuses) =
     let same = one_memory refuses.memory m bytes refuses.dumped dumped in
-    absurd (sound why (subst (λ those. RefusesBy form (seen those) why) same refuses.refuses))
-sound_fault form bytes m f dumped sound refused.memory = refl
+    absurd (sound why (subst (λ those. RefusesBy search (seen those) why) same refuses.refuses))
+sound_fault search bytes m f dumped sound refused.memory = refl
 
-fault_of_sound : (form : Form) (bytes : List ℕ) (m : Memory) (before after : Seen) (f : Fault) → IsDumpOf m bytes
-    → ((why : ScanFault) → RefusesBy form (seen m) why → ⊥) → ListMakes form bytes before after (Err f) → f ≡ fault.OutOfMemory
-fault_of_sound form bytes m before after f dumped sound (not_listed cannot same) = sound_fault form bytes m f dumped sound (why_unlisted form bytes f cannot)
+fault_of_sound : (search : Search) (bytes : List ℕ) (m : Memory) (before after : Seen) (f : Fault) → IsDumpOf m bytes
+    → ((why : ScanFault) → RefusesBy search (seen m) why → ⊥) → ListMakes search bytes before after (Err f) → f ≡ fault.OutOfMemory
+fault_of_sound search bytes m before after f dumped sound (not_listed cannot same) = sound_fault search bytes m f dumped sound (why_unlisted search bytes f cannot)
 
 -- Such a dump is listed.
-pub list_done : (Gives : Answering) (legacy : Bool) (bytes : List ℕ) (m : Memory) (call : Call Gives (Listing legacy)) → IsDumpOf m bytes
-    → ((why : ScanFault) → RefusesBy (form_of legacy) (seen m) why → ⊥) → IsFed bytes call → IsDone call
-list_done Gives legacy bytes m call dumped sound fed =
+pub list_done : (Gives : Answering) (sought : Sought) (bytes : List ℕ) (m : Memory) (call : Call Gives (Listing sought)) → IsDumpOf m bytes
+    → ((why : ScanFault) → RefusesBy (search_for sought) (seen m) why → ⊥) → IsFed bytes call → IsDone call
+list_done Gives sought bytes m call dumped sound fed =
     let ran = call.answered.ran in
-    elim (ends_as (ListMakes (form_of legacy)) call.before call.after bytes ran.input ran.made call.answered.ended call.source call.source_after
+    elim (ends_as (ListMakes (search_for sought)) call.before call.after bytes ran.input ran.made call.answered.ended call.source call.source_after
     call.out call.out_after
     fed.had fed.within fed.read fed.written ran.did ran.read ran.wrote) [
       | for_want ended ↦ inr (call.answered.status ∙ ap status_of ended)
       | with_text makes ended took ↦ inl (call.answered.status ∙ ap status_of ended)
       | with_fault {why = why} makes ended ↦ inr (call.answered.status ∙ ap status_of ended
-          ∙ ap status_of_fault (fault_of_sound (form_of legacy) bytes m call.before call.after why dumped sound makes))
+          ∙ ap status_of_fault (fault_of_sound (search_for sought) bytes m call.before call.after why dumped sound makes))
     ]
 
 -- The list of what the memory shows.
-pub list_listed : (Gives : Answering) (legacy : Bool) (bytes : List ℕ) (inventory : Inventory) (call : Call Gives (Listing legacy))
-    → DumpShows (form_of legacy) bytes inventory → IsFed bytes call → IsListed inventory call
-list_listed Gives legacy bytes inventory call is fed =
+pub list_listed : (Gives : Answering) (sought : Sought) (bytes : List ℕ) (inventory : Inventory) (call : Call Gives (Listing sought))
+    → DumpShows (search_for sought) bytes inventory → IsFed bytes call → IsListed inventory call
+list_listed Gives sought bytes inventory call is fed =
     let ran = call.answered.ran in
-    elim (ends_as (ListMakes (form_of legacy)) call.before call.after bytes ran.input ran.made call.answered.ended call.source call.source_after
+    elim (ends_as (ListMakes (search_for sought)) call.before call.after bytes ran.input ran.made call.answered.ended call.source call.source_after
     call.out call.out_after
     fed.had fed.within fed.read fed.written ran.did ran.read ran.wrote) [
       | for_want ended ↦ inr (call.answered.status ∙ ap status_of ended)
       | with_text {made = made} makes ended took ↦ inl (
         call.answered.status ∙ ap status_of ended,
-        subst (λ those. TookWhole those call.out call.out_after) (made_of_shown (form_of legacy) bytes inventory call.before call.after made is makes) took,
+        subst (λ those. TookWhole those call.out call.out_after) (made_of_shown (search_for sought) bytes inventory call.before call.after made is makes) took,
       )
       | with_fault {why = why} makes ended ↦ inr (call.answered.status ∙ ap status_of ended
-          ∙ ap status_of_fault (fault_of_shown (form_of legacy) bytes inventory call.before call.after why is makes))
+          ∙ ap status_of_fault (fault_of_shown (search_for sought) bytes inventory call.before call.after why is makes))
     ]
 
 -- a fault of the bytes comes of no text
-text_of_refused : (form : Form) (bytes made : List ℕ) (before after : Seen) (f : Fault) → f ≢ fault.OutOfMemory → CannotBeListed form bytes f
-    → ListMakes form bytes before after (Ok made) → ⊥
-text_of_refused form bytes made before after f other cannot (listed inventory shows written same) =
-    other (shown_fault form bytes inventory f shows (why_unlisted form bytes f cannot))
+text_of_refused : (search : Search) (bytes made : List ℕ) (before after : Seen) (f : Fault) → f ≢ fault.OutOfMemory → CannotBeListed search bytes f
+    → ListMakes search bytes before after (Ok made) → ⊥
+text_of_refused search bytes made before after f other cannot (listed inventory shows written same) =
+    other (shown_fault search bytes inventory f shows (why_unlisted search bytes f cannot))
 
 -- Whether a fault is want of memory.
 pub data IsWant (f : Fault) : Type 0 where
   is_memory : f ≡ fault.OutOfMemory → IsWant f
   is_other : (f ≡ fault.OutOfMemory → ⊥) → IsWant f
 
-pub is_want : (form : Form) (bytes : List ℕ) (f : Fault) → IsUnlisted form bytes f → IsWant f
-is_want form bytes f (no_dump read line) = is_other (λ is. cc)
-is_want form bytes f (tables refuses) = is_other (λ is. cc)
-is_want form bytes f refused.memory = is_memory refl
+pub is_want : (search : Search) (bytes : List ℕ) (f : Fault) → IsUnlisted search bytes f → IsWant f
+is_want search bytes f (no_dump read line) = is_other (λ is. cc)
+is_want search bytes f (tables refuses) = is_other (λ is. cc)
+is_want search bytes f refused.memory = is_memory refl
 
 -- which fault `decode --list` made of bytes that have one
-fault_of_refused : (form : Form) (bytes : List ℕ) (before after : Seen) (f made : Fault) → f ≢ fault.OutOfMemory → CannotBeListed form bytes f
-    → ListMakes form bytes before after (Err made) → (made ≡ f) ⊎ (made ≡ fault.OutOfMemory)
-fault_of_refused form bytes before after f made some cannot (not_listed cannot_too same) =
-    let is = why_unlisted form bytes f cannot in
-    let is_too = why_unlisted form bytes made cannot_too in
-    elim (is_want form bytes made is_too) [
+fault_of_refused : (search : Search) (bytes : List ℕ) (before after : Seen) (f made : Fault) → f ≢ fault.OutOfMemory → CannotBeListed search bytes f
+    → ListMakes search bytes before after (Err made) → (made ≡ f) ⊎ (made ≡ fault.OutOfMemory)
+fault_of_refused search bytes before after f made some cannot (not_listed cannot_too same) =
+    let is = why_unlisted search bytes f cannot in
+    let is_too = why_unlisted search bytes made cannot_too in
+    elim (is_want search bytes made is_too) [
       | is_memory same ↦ inr same
-      | is_other another ↦ inl (one_fault form bytes made f another some is_too is)
+      | is_other another ↦ inl (one_fault search bytes made f another some is_too is)
     ]
 
 -- A call of which nothing outside failed tells this fault, if its command makes no other of the bytes, and no text.
@@ -204,12 +206,12 @@ refused_call Gives command Makes bytes f call did fed no_text one_fault =
     ]
 
 -- The first fault of the bytes, and its line.
-pub list_told : (Gives : Answering) (legacy : Bool) (bytes : List ℕ) (f : Fault) (call : Call Gives (Listing legacy)) → f ≢ fault.OutOfMemory
-    → CannotBeListed (form_of legacy) bytes f → IsFed bytes call → IsRefused f call
-list_told Gives legacy bytes f call some cannot fed =
-    refused_call Gives (Listing legacy) (ListMakes (form_of legacy)) bytes f call call.answered.ran.did fed
-    (λ made. text_of_refused (form_of legacy) bytes made call.before call.after f some cannot)
-    (λ made. fault_of_refused (form_of legacy) bytes call.before call.after f made some cannot)
+pub list_told : (Gives : Answering) (sought : Sought) (bytes : List ℕ) (f : Fault) (call : Call Gives (Listing sought)) → f ≢ fault.OutOfMemory
+    → CannotBeListed (search_for sought) bytes f → IsFed bytes call → IsRefused f call
+list_told Gives sought bytes f call some cannot fed =
+    refused_call Gives (Listing sought) (ListMakes (search_for sought)) bytes f call call.answered.ran.did fed
+    (λ made. text_of_refused (search_for sought) bytes made call.before call.after f some cannot)
+    (λ made. fault_of_refused (search_for sought) bytes call.before call.after f made some cannot)
 
 -- A boot that is done, and then its dump listed.
 
@@ -218,6 +220,7 @@ never_ok fault.ReadFault is = cc
 never_ok fault.Usage is = cc
 never_ok (fault.Description why) is = cc
 never_ok (fault.Container why) is = cc
+never_ok (fault.Install why) is = cc
 never_ok (fault.Load load.NoScript) is = cc
 never_ok (fault.Load load.ScriptLength) is = cc
 never_ok (fault.Load (load.Command index cause)) is = cc
@@ -234,7 +237,7 @@ never_ok fault.ImageTooLarge is = cc
 pub record IsBootText (description text : List ℕ) : Type 0 where
   pub machine : Machine
   pub read : Reads description machine
-  pub shows : DumpShows xsdt_form text (inventory_of machine)
+  pub shows : DumpShows (search_of false false) text (inventory_of machine)
 
 boot_text : (Gives : Answering) (setting : Setting) (description text : List ℕ) (before after : Seen)
     → BootMakes Gives setting description before after (Ok text)
@@ -272,8 +275,8 @@ pub boot_wrote : (Gives : Answering) (setting : Setting) (description text : Lis
 boot_wrote Gives setting description text boot has = boot_done Gives setting description text boot boot.answered.ended refl has
 
 pub boot_listed : (Gives Others : Answering) (setting : Setting) (description text : List ℕ) (boot : Call Gives (Boot setting))
-    (list : Call Others (Listing false)) → HasBooted description text boot → IsFed text list
+    (list : Call Others (Listing (One false false))) → HasBooted description text boot → IsFed text list
     → (machine : Machine) × Reads description machine × IsListed (inventory_of machine) list
 boot_listed Gives Others setting description text boot list has fed =
     let is = boot_wrote Gives setting description text boot has in
-    (is.machine, is.read, list_listed Others false text (inventory_of is.machine) list is.shows fed)
+    (is.machine, is.read, list_listed Others (One false false) text (inventory_of is.machine) list is.shows fed)

@@ -7,7 +7,7 @@ use Rattle.machine_desc.specs.Rules.{IsAccepted}
 use Rattle.table_model.specs.Inventory.{inventory_of}
 use Rattle.vt_words.specs.declared.command.Command.TheVariants.{Boot, Decode}
 use Rattle.vt_words.specs.declared.setting.Setting.{Setting}
-use Rattle.acpi_model.specs.Form.{xsdt_form}
+use Rattle.table_model.specs.Search.{search_of}
 use Rattle.vmtables.specs.Calls.{Answering, Input, Unread, Cut, Whole, Made, ReadsAll, Wrote, WasRead, Seen}
 use Rattle.vmtables.specs.Causes.{input_fault}
 use Rattle.vmtables.specs.Complete.{Call, HasBooted}
@@ -40,8 +40,8 @@ cut_passes input.OutOfMemory = (λ e. cc, λ e. cc)
 
 -- nor does the way in which such a call ended
 ended_passes : (bytes : List ℕ) (m : Machine) (before after : Seen) (in_all : Input) (made : Made) (ended : Result (Unit {0}) Fault)
-    (source source_after : SourceSeen) (out out_after : SinkSeen) → IsAccepted m → HasFittingFields m → DumpShows xsdt_form bytes (inventory_of m)
-    → source.left ≡ Some bytes → ReadsAll (DecodeMakes xsdt_form) before after in_all made → WasRead in_all source source_after → Wrote made ended out out_after
+    (source source_after : SourceSeen) (out out_after : SinkSeen) → IsAccepted m → HasFittingFields m → DumpShows (search_of false false) bytes (inventory_of m)
+    → source.left ≡ Some bytes → ReadsAll (DecodeMakes (search_of false false)) before after in_all made → WasRead in_all source source_after → Wrote made ended out out_after
     → Passes (status_of ended)
 ended_passes bytes m before after Unread made ended source source_after out out_after accepted fits shows had did was wrote = absurd did
 ended_passes bytes m before after in_all made (Ok done) source source_after out out_after accepted fits shows had did was wrote = (λ e. cc, λ e. cc)
@@ -53,8 +53,8 @@ ended_passes bytes m before after (Cut why) (Err made) (Err f) source source_aft
 ended_passes bytes m before after (Whole read) (Err made) (Err f) source source_after out out_after accepted fits shows had did was wrote =
     let same : bytes ≡ read = same_bytes bytes read source.left source_after.left had was.given was.none_left in
     let want : made ≡ fault.OutOfMemory =
-    fault_of_sound xsdt_form bytes (inventory_of m) before after made shows (machine_sound m accepted fits)
-    (subst (λ b. DecodeMakes xsdt_form b before after (Err made)) (sym same) did) in
+    fault_of_sound (search_of false false) bytes (inventory_of m) before after made shows (machine_sound m accepted fits)
+    (subst (λ b. DecodeMakes (search_of false false) b before after (Err made)) (sym same) did) in
     quiet (status_of_fault f) status.OutOfMemory (ap status_of_fault (wrote.0 ∙ want)) (λ e. cc, λ e. cc)
 
 pub boot_never_refused : (Gives Others : Answering) (setting : Setting) (description text : List ℕ) (boot : Call Gives (Boot setting))

@@ -1,6 +1,6 @@
 -- Why no machine is read of bytes or booted, why no image is made of them, why they aren't read as a container, and why nothing is listed or told of
 -- them: the faults that these may be.
-use Rattle.std.proofs.Common.{◌≡◌, ◌<◌, ◌⊎◌, inl, inr, List, ℕ, Result, Ok, Err, IfErr, refl, subst}
+use Rattle.std.proofs.Common.{◌≡◌, ◌<◌, ◌⊎◌, inl, inr, Bool, List, ℕ, Result, Ok, Err, IfErr, refl, subst}
 use Rattle.std.specs.Result.{IsErrAnd}
 use Rattle.desc_toml.specs.declared.fault.DescFault.{DescFault}
 use Rattle.machine_desc.specs.declared.machine.Machine.{Machine}
@@ -14,18 +14,20 @@ use Rattle.table_describe.specs.declared.description.DescribeFault.{DescribeFaul
 use Rattle.table_describe.specs.declared.description.DescribeFault.TheVariants as describing
 use Rattle.table_describe.specs.Failing.{IsFirstFailing}
 use Rattle.table_model.specs.declared.inventory.Inventory.{Inventory}
+use Rattle.smbios_install.specs.declared.fault.InstallFault.{InstallFault}
+use Rattle.vt_words.specs.declared.command.LoadOptions.{LoadOptions}
 use Rattle.vt_words.specs.declared.setting.Setting.{Setting}
 use Rattle.cfg_directory.specs.Items.{total_size}
 use Rattle.image_files.specs.Items.{image_limit}
 use Rattle.vm_image.specs.Image.{image_items}
-use Rattle.acpi_model.specs.declared.form.Form.{Form}
+use Rattle.table_model.specs.declared.search.Search.{Search}
 use Rattle.vmtables.specs.Boot.{BootMakes, FailsToBoot, too_large, not_built, not_read}
 use Rattle.vmtables.specs.Build.{CannotBeBuilt}
 use Rattle.vmtables.specs.Calls.{Answering, Seen}
 use Rattle.vmtables.specs.Causes.{IsOfDescribing}
 use Rattle.vmtables.specs.Decode.{CannotBeListed, CannotBeTold, DumpFails, DumpRefuses, DumpShows}
 use Rattle.vmtables.specs.Described.{CannotBeDescribed, HasNoImage, IsTooLarge}
-use Rattle.vmtables.specs.Load.{CannotBeRead, LoadMakes}
+use Rattle.vmtables.specs.Load.{CannotBeRead, IsNotInstalled, LoadMakes}
 use Rattle.vmtables.specs.Load as load_made
 use Rattle.vmtables.specs.Outcome.{faulty_line}
 use Rattle.vmtables.specs.declared.fault.Fault.{Fault}
@@ -44,6 +46,7 @@ why_unbuilt bytes fault.OutOfMemory is = no_memory
 why_unbuilt bytes fault.ReadFault is = absurd is
 why_unbuilt bytes fault.Usage is = absurd is
 why_unbuilt bytes (fault.Container why) is = absurd is
+why_unbuilt bytes (fault.Install why) is = absurd is
 why_unbuilt bytes (fault.Load why) is = absurd is
 why_unbuilt bytes (fault.Dump why line) is = absurd is
 why_unbuilt bytes (fault.Tables why) is = absurd is
@@ -51,44 +54,47 @@ why_unbuilt bytes (fault.NotProfile item) is = absurd is
 why_unbuilt bytes fault.WriteFault is = absurd is
 why_unbuilt bytes fault.InputTooLong is = absurd is
 
--- a fault for which a container isn't read
-pub data IsUnread (bytes : List ℕ) : Fault → Type 0 where
-  not_container : {why : ImageFault} → read_so bytes ≡ Err why → IsUnread bytes (fault.Container why)
-  no_room : IsUnread bytes fault.OutOfMemory
+-- a fault for which nothing is loaded of a container
+pub data IsUnread (install : Bool) (bytes : List ℕ) : Fault → Type 0 where
+  not_container : {why : ImageFault} → read_so bytes ≡ Err why → IsUnread install bytes (fault.Container why)
+  not_installed : {why : InstallFault} → IsNotInstalled install bytes why → IsUnread install bytes (fault.Install why)
+  no_room : IsUnread install bytes fault.OutOfMemory
 
-pub why_unread : (bytes : List ℕ) (f : Fault) → CannotBeRead bytes f → IsUnread bytes f
-why_unread bytes (fault.Container why) is = not_container is
-why_unread bytes fault.OutOfMemory is = no_room
-why_unread bytes (fault.Description why) is = absurd is
-why_unread bytes fault.ImageTooLarge is = absurd is
-why_unread bytes fault.ReadFault is = absurd is
-why_unread bytes fault.Usage is = absurd is
-why_unread bytes (fault.Load why) is = absurd is
-why_unread bytes (fault.Dump why line) is = absurd is
-why_unread bytes (fault.Tables why) is = absurd is
-why_unread bytes (fault.NotProfile item) is = absurd is
-why_unread bytes fault.WriteFault is = absurd is
-why_unread bytes fault.InputTooLong is = absurd is
+pub why_unread : (install : Bool) (bytes : List ℕ) (f : Fault) → CannotBeRead install bytes f → IsUnread install bytes f
+why_unread install bytes (fault.Container why) is = not_container is
+why_unread install bytes (fault.Install why) is = not_installed is
+why_unread install bytes fault.OutOfMemory is = no_room
+why_unread install bytes (fault.Description why) is = absurd is
+why_unread install bytes fault.ImageTooLarge is = absurd is
+why_unread install bytes fault.ReadFault is = absurd is
+why_unread install bytes fault.Usage is = absurd is
+why_unread install bytes (fault.Load why) is = absurd is
+why_unread install bytes (fault.Dump why line) is = absurd is
+why_unread install bytes (fault.Tables why) is = absurd is
+why_unread install bytes (fault.NotProfile item) is = absurd is
+why_unread install bytes fault.WriteFault is = absurd is
+why_unread install bytes fault.InputTooLong is = absurd is
 
 -- a fault for which nothing is listed
-pub data IsUnlisted (form : Form) (bytes : List ℕ) : Fault → Type 0 where
-  no_dump : {why : DumpFault} {line : ℕ} → read_dump_so bytes ≡ Err why → line ≡ faulty_line bytes why → IsUnlisted form bytes (fault.Dump why line)
-  tables : {why : ScanFault} → DumpRefuses form bytes why → IsUnlisted form bytes (fault.Tables why)
-  memory : IsUnlisted form bytes fault.OutOfMemory
+pub data IsUnlisted (search : Search) (bytes : List ℕ) : Fault → Type 0 where
+  no_dump : {why : DumpFault} {line : ℕ} → read_dump_so bytes ≡ Err why → line ≡ faulty_line bytes why → IsUnlisted search bytes (fault.Dump why line)
+  tables : {why : ScanFault} → DumpRefuses search bytes why → IsUnlisted search bytes (fault.Tables why)
+  memory : IsUnlisted search bytes fault.OutOfMemory
 
-pub why_unlisted : (form : Form) (bytes : List ℕ) (f : Fault) → CannotBeListed form bytes f → IsUnlisted form bytes f
-why_unlisted form bytes (fault.Dump why line) is = no_dump is.0 is.1
-why_unlisted form bytes (fault.Tables why) is = tables is
-why_unlisted form bytes fault.OutOfMemory is = memory
-why_unlisted form bytes (fault.Container why) is = absurd is
-why_unlisted form bytes (fault.Description why) is = absurd is
-why_unlisted form bytes fault.ImageTooLarge is = absurd is
-why_unlisted form bytes (fault.NotProfile item) is = absurd is
-why_unlisted form bytes fault.ReadFault is = absurd is
-why_unlisted form bytes fault.Usage is = absurd is
-why_unlisted form bytes (fault.Load why) is = absurd is
-why_unlisted form bytes fault.WriteFault is = absurd is
-why_unlisted form bytes fault.InputTooLong is = absurd is
+pub why_unlisted : (search : Search) (bytes : List ℕ) (f : Fault) → CannotBeListed search bytes f → IsUnlisted search bytes f
+why_unlisted search bytes (fault.Dump why line) is = no_dump is.0 is.1
+why_unlisted search bytes (fault.Tables why) is = tables is
+why_unlisted search bytes fault.OutOfMemory is = memory
+why_unlisted search bytes (fault.Container why) is = absurd is
+why_unlisted search bytes (fault.Install why) is = absurd is
+why_unlisted search bytes (fault.Description why) is = absurd is
+why_unlisted search bytes fault.ImageTooLarge is = absurd is
+why_unlisted search bytes (fault.NotProfile item) is = absurd is
+why_unlisted search bytes fault.ReadFault is = absurd is
+why_unlisted search bytes fault.Usage is = absurd is
+why_unlisted search bytes (fault.Load why) is = absurd is
+why_unlisted search bytes fault.WriteFault is = absurd is
+why_unlisted search bytes fault.InputTooLong is = absurd is
 
 -- a fault for which no machine is read
 pub data IsUndescribed (bytes : List ℕ) : Fault → Type 0 where
@@ -102,6 +108,7 @@ why_undescribed bytes fault.ImageTooLarge is = absurd is
 why_undescribed bytes fault.ReadFault is = absurd is
 why_undescribed bytes fault.Usage is = absurd is
 why_undescribed bytes (fault.Container why) is = absurd is
+why_undescribed bytes (fault.Install why) is = absurd is
 why_undescribed bytes (fault.Load why) is = absurd is
 why_undescribed bytes (fault.Dump why line) is = absurd is
 why_undescribed bytes (fault.Tables why) is = absurd is
@@ -121,6 +128,7 @@ why_imageless m (fault.Description why) is = absurd is
 why_imageless m fault.ReadFault is = absurd is
 why_imageless m fault.Usage is = absurd is
 why_imageless m (fault.Container why) is = absurd is
+why_imageless m (fault.Install why) is = absurd is
 why_imageless m (fault.Load why) is = absurd is
 why_imageless m (fault.Dump why line) is = absurd is
 why_imageless m (fault.Tables why) is = absurd is
@@ -155,39 +163,40 @@ imageless_container m f (Ok made) none is = absurd is
 imageless_container m f (Err ended) none is = λ bytes read. rw is (unbuilt_machine bytes m f read none)
 
 -- a fault for which no machine is told of a dump: one for which nothing is listed, or that of an inventory which is no machine's
-pub data IsUntold (form : Form) (bytes : List ℕ) : Fault → Type 0 where
-  unlisted : {f : Fault} → CannotBeListed form bytes f → IsUntold form bytes f
-  no_machine : {item : ℕ} → DumpFails form bytes item → IsUntold form bytes (fault.NotProfile item)
+pub data IsUntold (search : Search) (bytes : List ℕ) : Fault → Type 0 where
+  unlisted : {f : Fault} → CannotBeListed search bytes f → IsUntold search bytes f
+  no_machine : {item : ℕ} → DumpFails search bytes item → IsUntold search bytes (fault.NotProfile item)
 
-pub why_untold : (form : Form) (bytes : List ℕ) (f : Fault) → CannotBeTold form bytes f → IsUntold form bytes f
-why_untold form bytes (fault.NotProfile item) is = no_machine is
-why_untold form bytes (fault.Dump why line) is = unlisted is
-why_untold form bytes (fault.Tables why) is = unlisted is
-why_untold form bytes fault.OutOfMemory is = unlisted is
-why_untold form bytes (fault.Container why) is = absurd is
-why_untold form bytes (fault.Description why) is = absurd is
-why_untold form bytes fault.ImageTooLarge is = absurd is
-why_untold form bytes fault.ReadFault is = absurd is
-why_untold form bytes fault.Usage is = absurd is
-why_untold form bytes (fault.Load why) is = absurd is
-why_untold form bytes fault.WriteFault is = absurd is
-why_untold form bytes fault.InputTooLong is = absurd is
+pub why_untold : (search : Search) (bytes : List ℕ) (f : Fault) → CannotBeTold search bytes f → IsUntold search bytes f
+why_untold search bytes (fault.NotProfile item) is = no_machine is
+why_untold search bytes (fault.Dump why line) is = unlisted is
+why_untold search bytes (fault.Tables why) is = unlisted is
+why_untold search bytes fault.OutOfMemory is = unlisted is
+why_untold search bytes (fault.Container why) is = absurd is
+why_untold search bytes (fault.Install why) is = absurd is
+why_untold search bytes (fault.Description why) is = absurd is
+why_untold search bytes fault.ImageTooLarge is = absurd is
+why_untold search bytes fault.ReadFault is = absurd is
+why_untold search bytes fault.Usage is = absurd is
+why_untold search bytes (fault.Load why) is = absurd is
+why_untold search bytes fault.WriteFault is = absurd is
+why_untold search bytes fault.InputTooLong is = absurd is
 
 -- and so is nothing of a dump whose memory shows no machine's inventory
-untold_fault : (form : Form) (bytes : List ℕ) (inventory : Inventory) (cause : DescribeFault) (f : Fault) → DumpShows form bytes inventory
+untold_fault : (search : Search) (bytes : List ℕ) (inventory : Inventory) (cause : DescribeFault) (f : Fault) → DumpShows search bytes inventory
     → (cause ≡ describing.OutOfMemory) ⊎ ((item : ℕ) × (cause ≡ describing.NotProfile item) × IsFirstFailing inventory item)
-    → IsOfDescribing cause f → CannotBeTold form bytes f
-untold_fault form bytes inventory describing.OutOfMemory f shows why is = rw is tt
-untold_fault form bytes inventory (describing.NotProfile item) f shows (inl same) is = absurd (cc)
-untold_fault form bytes inventory (describing.NotProfile item) f shows (inr (first, same, fails)) is =
+    → IsOfDescribing cause f → CannotBeTold search bytes f
+untold_fault search bytes inventory describing.OutOfMemory f shows why is = rw is tt
+untold_fault search bytes inventory (describing.NotProfile item) f shows (inl same) is = absurd (cc)
+untold_fault search bytes inventory (describing.NotProfile item) f shows (inr (first, same, fails)) is =
     rw is (record { inventory = inventory; shows = shows; fails = subst (IsFirstFailing inventory) (cc) fails })
 
-pub undescribed_so : (form : Form) {A : Type 0} (bytes : List ℕ) (inventory : Inventory) (cause : DescribeFault) (r : Result A Fault)
-    → DumpShows form bytes inventory
+pub undescribed_so : (search : Search) {A : Type 0} (bytes : List ℕ) (inventory : Inventory) (cause : DescribeFault) (r : Result A Fault)
+    → DumpShows search bytes inventory
     → (cause ≡ describing.OutOfMemory) ⊎ ((item : ℕ) × (cause ≡ describing.NotProfile item) × IsFirstFailing inventory item)
-    → IsErrAnd r (IsOfDescribing cause) → IfErr r (CannotBeTold form bytes)
-undescribed_so form bytes inventory cause (Ok done) shows why is = absurd is
-undescribed_so form bytes inventory cause (Err f) shows why is = untold_fault form bytes inventory cause f shows why is
+    → IsErrAnd r (IsOfDescribing cause) → IfErr r (CannotBeTold search bytes)
+undescribed_so search bytes inventory cause (Ok done) shows why is = absurd is
+undescribed_so search bytes inventory cause (Err f) shows why is = untold_fault search bytes inventory cause f shows why is
 
 -- a boot of which no machine was read leaves all as it was
 pub unread_boot : (Gives : Answering) (setting : Setting) (bytes : List ℕ) (seen : Seen) (f : Fault) (r : Result (Unit {0}) Fault)
@@ -210,9 +219,9 @@ pub unmade_boot : {A : Type 0} (Gives : Answering) (setting : Setting) (m : Mach
 unmade_boot Gives setting m seen f (Ok done) none is = absurd is
 unmade_boot Gives setting m seen f (Err ended) none is = rw is (without_image Gives setting m seen f none)
 
--- and a load of a container that isn't read
-pub unread_when : (Is : List ℕ → Type 0) (Gives : Answering) (top_mib : ℕ) (setting : Setting) (seen : Seen) (f : Fault) (r : Result (Unit {0}) Fault)
-    → ((bytes : List ℕ) → Is bytes → CannotBeRead bytes f) → IsErrAnd r (λ ended. ended ≡ f)
-    → IfErr r (λ ended. (bytes : List ℕ) → Is bytes → LoadMakes Gives top_mib setting bytes seen seen (Err ended))
-unread_when Is Gives top_mib setting seen f (Ok done) cannot is = absurd is
-unread_when Is Gives top_mib setting seen f (Err ended) cannot is = rw is (λ bytes given. load_made.not_read (cannot bytes given) refl)
+-- and a load of a container of which nothing is loaded
+pub unread_when : (Is : List ℕ → Type 0) (Gives : Answering) (options : LoadOptions) (seen : Seen) (f : Fault) (r : Result (Unit {0}) Fault)
+    → ((bytes : List ℕ) → Is bytes → CannotBeRead options.install bytes f) → IsErrAnd r (λ ended. ended ≡ f)
+    → IfErr r (λ ended. (bytes : List ℕ) → Is bytes → LoadMakes Gives options bytes seen seen (Err ended))
+unread_when Is Gives options seen f (Ok done) cannot is = absurd is
+unread_when Is Gives options seen f (Err ended) cannot is = rw is (λ bytes given. load_made.not_read (cannot bytes given) refl)

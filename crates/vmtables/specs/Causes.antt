@@ -8,12 +8,14 @@ use Rattle.image_files.specs.declared.image.ImageBuildFault.{ImageBuildFault}
 use Rattle.image_files.specs.declared.image.ImageBuildFault.TheVariants as image
 use Rattle.cfg_directory.specs.declared.container.ImageFault.{ImageFault}
 use Rattle.cfg_directory.specs.declared.container.ImageFault.TheVariants as container
+use Rattle.smbios_install.specs.declared.fault.InstallFault.{InstallFault}
+use Rattle.smbios_install.specs.declared.fault.InstallFault.TheVariants as install
 use Rattle.anchor_scan.specs.declared.fault.ScanFault.{ScanFault}
 use Rattle.anchor_scan.specs.declared.fault.ScanFault.TheVariants as scan
 use Rattle.table_describe.specs.declared.description.DescribeFault.{DescribeFault}
 use Rattle.table_describe.specs.declared.description.DescribeFault.TheVariants as describing
 use Rattle.vmtables.specs.declared.fault.Fault.{Fault}
-use Rattle.vmtables.specs.declared.fault.Fault.TheVariants.{ReadFault, Description, Container, Tables, NotProfile, OutOfMemory, InputTooLong, ImageTooLarge}
+use Rattle.vmtables.specs.declared.fault.Fault.TheVariants.{ReadFault, Description, Container, Install, Tables, NotProfile, OutOfMemory, InputTooLong, ImageTooLarge}
 
 -- that of the reading of an input
 abbrev pub input_fault : InputFault → Fault
@@ -32,6 +34,10 @@ IsOfImage image.OutOfMemory fault = fault ≡ OutOfMemory
 abbrev pub IsOfContainer : ImageFault → Fault → Type 0
 IsOfContainer container.OutOfMemory fault = fault ≡ OutOfMemory
 IsOfContainer refused fault = fault ≡ Container refused
+
+abbrev pub IsOfInstalling : InstallFault → Fault → Type 0
+IsOfInstalling install.OutOfMemory fault = fault ≡ OutOfMemory
+IsOfInstalling refused fault = fault ≡ Install refused
 
 abbrev pub IsOfTables : ScanFault → Fault → Type 0
 IsOfTables scan.OutOfMemory fault = fault ≡ OutOfMemory

@@ -3,12 +3,10 @@ use Rattle.std.specs.Prelude.{Bool, false, ◌≡◌, ◌≢◌, ◌⊎◌, ℕ,
 use Rattle.vt_outside.specs.Placement.{Range}
 use Rattle.vt_outside.specs.Stream.{SinkSeen, SourceSeen, Rose, Bytes, behind}
 use Rattle.cfg_directory.specs.declared.item.Item.{Item}
-use Rattle.cfg_directory.specs.Container.{read_so}
 use Rattle.cfg_directory.specs.Items.{total_size}
 use Rattle.vt_bytes.specs.Memory.{Memory, seen}
 use Rattle.anchor_scan.specs.declared.fault.ScanFault.{ScanFault}
 use Rattle.anchor_scan.specs.Scan.{RefusesBy}
-use Rattle.acpi_model.specs.Form.{form_of}
 use Rattle.desc_toml.specs.Reading.{Reads}
 use Rattle.cfg_directory.specs.Files.{files_of}
 use Rattle.image_files.specs.Items.{image_limit}
@@ -24,12 +22,16 @@ use Rattle.vm_image.specs.Image.{image_items}
 use Rattle.vt_words.specs.declared.command.Command.{Command}
 use Rattle.vt_words.specs.declared.command.Command.TheVariants.{Boot, Build, Decode, Gen, List as Listing, Load}
 use Rattle.vt_words.specs.declared.command.LoadOptions.{LoadOptions}
+use Rattle.vt_words.specs.declared.command.Sought.{Sought}
+use Rattle.vt_words.specs.declared.command.Sought.TheVariants.{One}
 use Rattle.vt_words.specs.declared.setting.Setting.{Setting}
 use Rattle.scan_text.specs.List.{list_of}
 use Rattle.table_model.specs.declared.inventory.Inventory.{Inventory}
 use Rattle.table_model.specs.Inventory.{inventory_of}
+use Rattle.table_model.specs.Search.{search_of}
 use Rattle.vmtables.specs.Calls.{Answered, Answering, Said, Seen, TookWhole}
-use Rattle.vmtables.specs.Decode.{CannotBeListed, CannotBeTold, DumpShows, IsDescriptionOf}
+use Rattle.vmtables.specs.Decode.{CannotBeListed, CannotBeTold, DumpShows, IsDescriptionOf, search_for}
+use Rattle.vmtables.specs.Load.{IsToLoad}
 use Rattle.vmtables.specs.Dumped.{IsDumpOf}
 use Rattle.vmtables.specs.Does.{Does}
 use Rattle.vmtables.specs.Outcome.{input_limit, line_of, status_of_fault}
@@ -83,7 +85,7 @@ RunsWhole items places = (script : List Entry) × (script_in items ≡ Ok script
 
 abbrev pub IsLoadComplete : Answering → Type 0
 IsLoadComplete Gives = (options : LoadOptions) (bytes : List ℕ) (items : List Item) (call : Call Gives (Load options))
-    → read_so bytes ≡ Ok items → RunsWhole items (map (λ (r : Range). r.start) call.after.place.handed) → IsFed bytes call → HasRoom call → IsDone call
+    → IsToLoad options.install bytes items → RunsWhole items (map (λ (r : Range). r.start) call.after.place.handed) → IsFed bytes call → HasRoom call → IsDone call
 
 -- a machine that is generated, whose files have no more bytes than an image may have
 abbrev pub IsGenComplete : Answering → Type 0
@@ -107,33 +109,33 @@ IsRefused why call =
 
 -- of the dump of a memory whose tables have no fault
 abbrev pub IsListComplete : Answering → Type 0
-IsListComplete Gives = (legacy : Bool) (bytes : List ℕ) (memory : Memory) (call : Call Gives (Listing legacy)) → IsDumpOf memory bytes
-    → ((why : ScanFault) → RefusesBy (form_of legacy) (seen memory) why → ⊥) → IsFed bytes call → IsDone call
+IsListComplete Gives = (sought : Sought) (bytes : List ℕ) (memory : Memory) (call : Call Gives (Listing sought)) → IsDumpOf memory bytes
+    → ((why : ScanFault) → RefusesBy (search_for sought) (seen memory) why → ⊥) → IsFed bytes call → IsDone call
 
 -- what such a memory shows is listed
 abbrev pub IsShownListed : Answering → Type 0
-IsShownListed Gives = (legacy : Bool) (bytes : List ℕ) (inventory : Inventory) (call : Call Gives (Listing legacy))
-    → DumpShows (form_of legacy) bytes inventory → IsFed bytes call → IsListed inventory call
+IsShownListed Gives = (sought : Sought) (bytes : List ℕ) (inventory : Inventory) (call : Call Gives (Listing sought))
+    → DumpShows (search_for sought) bytes inventory → IsFed bytes call → IsListed inventory call
 
 -- a fault of the bytes is told, unless memory runs out
 abbrev pub IsListExact : Answering → Type 0
-IsListExact Gives = (legacy : Bool) (bytes : List ℕ) (why : Fault) (call : Call Gives (Listing legacy)) → why ≢ fault.OutOfMemory
-    → CannotBeListed (form_of legacy) bytes why → IsFed bytes call → IsRefused why call
+IsListExact Gives = (sought : Sought) (bytes : List ℕ) (why : Fault) (call : Call Gives (Listing sought)) → why ≢ fault.OutOfMemory
+    → CannotBeListed (search_for sought) bytes why → IsFed bytes call → IsRefused why call
 
 -- of the dump of a memory that shows an inventory of which no item fails
 abbrev pub IsDecodeComplete : Answering → Type 0
 IsDecodeComplete Gives = (legacy : Bool) (bytes : List ℕ) (inventory : Inventory) (call : Call Gives (Decode legacy))
-    → DumpShows (form_of legacy) bytes inventory → ((item : ℕ) → IsFirstFailing inventory item → ⊥) → IsFed bytes call → IsDone call
+    → DumpShows (search_of legacy false) bytes inventory → ((item : ℕ) → IsFirstFailing inventory item → ⊥) → IsFed bytes call → IsDone call
 
 -- the machine is told whose inventory such a memory shows
 abbrev pub IsShownTold : Answering → Type 0
 IsShownTold Gives = (legacy : Bool) (bytes : List ℕ) (machine : Machine) (call : Call Gives (Decode legacy)) → IsAccepted machine → HasFittingFields machine
-    → DumpShows (form_of legacy) bytes (inventory_of machine) → IsFed bytes call → IsTold machine call
+    → DumpShows (search_of legacy false) bytes (inventory_of machine) → IsFed bytes call → IsTold machine call
 
 -- a fault of the bytes, or the first item that fails, is told, unless memory runs out
 abbrev pub IsDecodeExact : Answering → Type 0
 IsDecodeExact Gives = (legacy : Bool) (bytes : List ℕ) (why : Fault) (call : Call Gives (Decode legacy)) → why ≢ fault.OutOfMemory
-    → CannotBeTold (form_of legacy) bytes why → IsFed bytes call → IsRefused why call
+    → CannotBeTold (search_of legacy false) bytes why → IsFed bytes call → IsRefused why call
 
 -- A call of `boot` that is done wrote this text of a description: the description is all that its source had, and the text is what its out took.
 pub record HasBooted {Gives : Answering} {setting : Setting} (description text : List ℕ) (boot : Call Gives (Boot setting)) : Type 0 where
@@ -145,7 +147,7 @@ pub record HasBooted {Gives : Answering} {setting : Setting} (description text :
 
 -- What `boot` wrote of a description is listed as what the machine shows that is described.
 abbrev pub IsBootListed : Answering → Answering → Type 0
-IsBootListed Gives Others = (setting : Setting) (description text : List ℕ) (boot : Call Gives (Boot setting)) (list : Call Others (Listing false))
+IsBootListed Gives Others = (setting : Setting) (description text : List ℕ) (boot : Call Gives (Boot setting)) (list : Call Others (Listing (One false false)))
     → HasBooted description text boot → IsFed text list → (machine : Machine) × Reads description machine × IsListed (inventory_of machine) list
 
 -- What `boot` wrote of a description is decoded: a description of the machine that is described.

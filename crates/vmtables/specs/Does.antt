@@ -1,12 +1,12 @@
 -- What each command does.
-use Rattle.std.specs.Prelude.{◌≡◌, ◌≢◌, Option, Some, None, Err}
+use Rattle.std.specs.Prelude.{◌≡◌, ◌≢◌, false, Option, Some, None, Err}
 use Rattle.vt_words.specs.declared.command.Command.{Command}
 use Rattle.vt_words.specs.declared.command.Command.TheVariants.{Boot, Load, Build, Decode, List, Gen}
-use Rattle.acpi_model.specs.Form.{form_of}
+use Rattle.table_model.specs.Search.{search_of}
 use Rattle.vmtables.specs.Boot.{BootMakes}
 use Rattle.vmtables.specs.Build.{BuildMakes}
 use Rattle.vmtables.specs.Calls.{Answering, Unread, Doing, ReadsAll, ReadsNone}
-use Rattle.vmtables.specs.Decode.{DecodeMakes, ListMakes}
+use Rattle.vmtables.specs.Decode.{DecodeMakes, ListMakes, search_for}
 use Rattle.vmtables.specs.Generate.{GenMakes}
 use Rattle.vmtables.specs.Load.{LoadMakes}
 use Rattle.vmtables.specs.declared.fault.Fault.TheVariants.{Usage}
@@ -22,10 +22,10 @@ IsUsage before after _ _ = ⊥
 abbrev pub Does : Answering → Option Command → Doing
 Does Gives None = IsUsage
 Does Gives (Some (Boot setting)) = ReadsAll (BootMakes Gives setting)
-Does Gives (Some (Load options)) = ReadsAll (LoadMakes Gives options.top_mib options.setting)
+Does Gives (Some (Load options)) = ReadsAll (LoadMakes Gives options)
 Does Gives (Some Build) = ReadsAll BuildMakes
-Does Gives (Some (Decode legacy)) = ReadsAll (DecodeMakes (form_of legacy))
-Does Gives (Some (List legacy)) = ReadsAll (ListMakes (form_of legacy))
+Does Gives (Some (Decode legacy)) = ReadsAll (DecodeMakes (search_of legacy false))
+Does Gives (Some (List sought)) = ReadsAll (ListMakes (search_for sought))
 Does Gives (Some (Gen processors)) = ReadsNone (GenMakes Gives processors)
 
 -- a status that refuses neither an image, nor a dump, nor tables

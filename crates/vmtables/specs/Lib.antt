@@ -35,6 +35,9 @@ pub use Rattle.firmware_load.specs.World
 pub use Rattle.memory_dump.specs.Dump
 pub use Rattle.memory_dump.specs.Reading as DumpReading
 pub use Rattle.anchor_scan.specs.Scan
+pub use Rattle.table_model.specs.Search
+pub use Rattle.smbios_install.specs.Installed
+pub use Rattle.smbios_install.specs.Standing
 pub use Rattle.table_describe.specs.Candidate
 pub use Rattle.table_describe.specs.Failing
 pub use Rattle.scan_text.specs.List

@@ -12,6 +12,8 @@ use Rattle.memory_dump.specs.declared.fault.DumpFault.TheVariants as dump
 use Rattle.memory_dump.specs.Reading.{whole_lines}
 use Rattle.anchor_scan.specs.declared.fault.ScanFault.{ScanFault}
 use Rattle.anchor_scan.specs.declared.fault.ScanFault.TheVariants as scan
+use Rattle.smbios_install.specs.declared.fault.InstallFault.{InstallFault}
+use Rattle.smbios_install.specs.declared.fault.InstallFault.TheVariants as install
 use Rattle.scan_text.specs.Lines.{acpi_line, smbios_line}
 use Rattle.vmtables.specs.declared.fault.Fault.{Fault}
 use Rattle.vmtables.specs.declared.fault.Fault.TheVariants as fault
@@ -31,6 +33,7 @@ status_of_fault fault.ReadFault = status.ReadFault
 status_of_fault fault.Usage = status.Usage
 status_of_fault (fault.Description refused) = status.DescriptionRefused
 status_of_fault (fault.Container refused) = status.ImageRefused
+status_of_fault (fault.Install refused) = status.ImageRefused
 status_of_fault (fault.Load why) = status_of_load why
 status_of_fault (fault.Dump refused line) = status.DumpRefused
 status_of_fault (fault.Tables refused) = status.TablesRefused
@@ -57,6 +60,19 @@ container_number (container.BadFlag index) = 7
 container_number container.TrailingBytes = 8
 container_number container.TooLarge = 9
 container_number container.OutOfMemory = 0
+
+-- the number of a reason against installing SMBIOS files, in the order of the reasons; want of memory is none of them
+abbrev pub install_number : InstallFault → ℕ
+install_number install.NoAnchor = 1
+install_number install.NoTables = 2
+install_number install.EmptyTables = 3
+install_number install.BadAnchor = 4
+install_number install.ScriptLength = 5
+install_number (install.AlreadyPlaced command) = 6
+install_number install.ScriptFull = 7
+install_number install.TooMany = 8
+install_number install.TooLarge = 9
+install_number install.OutOfMemory = 0
 
 -- the number of a cause to refuse a command, in the order of the causes
 abbrev pub cause_number : Cause → ℕ
@@ -92,9 +108,12 @@ faulty_line bytes (dump.NotRam line) = line
 faulty_line bytes dump.Truncated = whole_lines bytes
 faulty_line bytes dump.OutOfMemory = 0
 
--- the line of a container that is refused, and of a load that ended before its script did
+-- the line of a container that is refused, of SMBIOS files that aren't installed, and of a load that ended before its script did
 abbrev pub container_line : ImageFault → List ℕ
 container_line refused = codes "container: fault " ++ decimal (container_number refused) ++ 10 ∷ []
+
+abbrev pub install_line : InstallFault → List ℕ
+install_line refused = codes "install: fault " ++ decimal (install_number refused) ++ 10 ∷ []
 
 abbrev pub load_line : LoadFault → List ℕ
 load_line load.NoScript = codes "script: none" ++ 10 ∷ []
@@ -121,6 +140,7 @@ line_of fault.ReadFault = codes "read fault" ++ 10 ∷ []
 line_of fault.Usage = codes "usage: vmtables build, load, decode, boot, lint or gen" ++ 10 ∷ []
 line_of (fault.Description refused) = description_line refused
 line_of (fault.Container refused) = container_line refused
+line_of (fault.Install refused) = install_line refused
 line_of (fault.Load why) = load_line why
 line_of (fault.Dump refused line) = dump_line refused line
 line_of (fault.Tables refused) = tables_line refused

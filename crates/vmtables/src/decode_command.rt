@@ -1,20 +1,19 @@
 ghost use Rattle.std.specs.Prelude.{◌≡◌, ◌≢◌, ◌≤◌, ◌<◌, ◌^◌, length, Err, IfErr, IfOk};
 ghost use Rattle.machine_desc.specs.Fields.{HasFittingFields};
 ghost use Rattle.machine_desc.specs.Rules.{IsAccepted};
-ghost use Rattle.acpi_model.specs.declared.form.Form.{Form};
 ghost use Rattle.table_describe.specs.Failing.{IsFirstFailing};
+ghost use Rattle.table_model.specs.declared.search.Search.{Search};
 ghost use Rattle.table_model.specs.Inventory.{inventory_of};
 ghost use Rattle.vt_bytes.specs.Memory.{IsMemory};
 ghost use Rattle.guest_memory.specs.Bytes.{HoldsBytes};
 ghost use Rattle.memory_dump.specs.Dump.{dump};
 ghost use Rattle.vmtables.specs.Calls.{ReadsAll, Ran, Seen, Streams};
-ghost use Rattle.vmtables.specs.Decode.{DecodeMakes, ListMakes, DumpShows, IsDescriptionOf, CannotBeListed, CannotBeTold};
+ghost use Rattle.vmtables.specs.Decode.{DecodeMakes, ListMakes, DumpShows, IsDescriptionOf, CannotBeListed, CannotBeTold, search_for};
 ghost use Rattle.vmtables.specs.Outcome.{faulty_line, input_limit, status_of};
 
 use crate::fault::Fault;
 use crate::input::read_to_end;
 use crate::writing::{write_list, write_text};
-use acpi_model::Form;
 use anchor_scan::scan_by;
 use desc_toml::write_machine;
 use guest_memory::GuestMemory;
@@ -23,55 +22,66 @@ use machine_desc::laws::numbers_of_a_machine_fit;
 use memory_dump::{DumpFault, read_dump, whole_lines};
 use std::alloc::Global;
 use table_describe::describe;
-use table_model::Inventory;
+use table_model::{Inventory, Search};
 use vt_outside::{Bytes, Sink, Source};
+use vt_words::Sought;
 
-/// Reads a dump, and writes the list of what its memory shows from its anchors, by the form `form` of its ACPI tables.
+/// Returns the search of a list by what its options say.
+pub(crate) fn search_for(sought: Sought) -> Search
+    ensures { result ≡ search_for sought }
+{
+    match sought {
+        Sought::One { legacy, smbios2 } => Search::of(legacy, smbios2),
+        Sought::Any => Search::any(),
+    }
+}
+
+/// Reads a dump, and writes the list of what its memory shows from its anchors, by the search `search` for them.
 pub(crate) fn list<S: Source, K: Sink>(
     alloc: Global,
-    form: Form,
+    search: Search,
     source: &mut S,
     out: &mut K,
 ) -> Result<(), Fault>
-    ensures ran { (seen : Seen) → Ran (ReadsAll (ListMakes form) seen seen) result
+    ensures ran { (seen : Seen) → Ran (ReadsAll (ListMakes search) seen seen) result
         (S.seen source.old) (S.seen source.new) (K.seen out.old) (K.seen out.new) }
     ensures known { result ≢ Err Fault.Usage }
     ensures streams { Streams (status_of result)
         (S.seen source.old) (S.seen source.new) (K.seen out.old) (K.seen out.new) }
 {
     let bytes = read_to_end(alloc, source)?;
-    let inventory = inventory_in(alloc, form, bytes)?;
+    let inventory = inventory_in(alloc, search, bytes)?;
     let written = write_list(&inventory, out);
     drop(inventory);
     written
 }
 
-/// Reads a dump, and writes the description of the machine that its memory shows from its anchors, by the form `form` of its ACPI tables.
+/// Reads a dump, and writes the description of the machine that its memory shows from its anchors, by the search `search` for them.
 pub(crate) fn decode<S: Source, K: Sink>(
     alloc: Global,
-    form: Form,
+    search: Search,
     source: &mut S,
     out: &mut K,
 ) -> Result<(), Fault>
-    ensures ran { (seen : Seen) → Ran (ReadsAll (DecodeMakes form) seen seen) result
+    ensures ran { (seen : Seen) → Ran (ReadsAll (DecodeMakes search) seen seen) result
         (S.seen source.old) (S.seen source.new) (K.seen out.old) (K.seen out.new) }
     ensures known { result ≢ Err Fault.Usage }
     ensures streams { Streams (status_of result)
         (S.seen source.old) (S.seen source.new) (K.seen out.old) (K.seen out.new) }
 {
     let bytes = read_to_end(alloc, source)?;
-    let text = description_in(alloc, form, bytes)?;
+    let text = description_in(alloc, search, bytes)?;
     write_text(text.as_slice(), out)
 }
 
 // The description of the machine that the memory shows of which these bytes are the dump.
-fn description_in(alloc: Global, form: Form, bytes: Bytes) -> Result<Bytes, Fault>
+fn description_in(alloc: Global, search: Search, bytes: Bytes) -> Result<Bytes, Fault>
     requires { length bytes ≤ input_limit }
-    ensures ok { IfOk result (λ text. (machine : _) × IsAccepted machine × HasFittingFields machine × DumpShows form bytes (inventory_of machine)
+    ensures ok { IfOk result (λ text. (machine : _) × IsAccepted machine × HasFittingFields machine × DumpShows search bytes (inventory_of machine)
         × IsDescriptionOf machine text) }
-    ensures err { IfErr result (CannotBeTold form bytes) }
+    ensures err { IfErr result (CannotBeTold search bytes) }
 {
-    let machine = machine_in(alloc, form, bytes)?;
+    let machine = machine_in(alloc, search, bytes)?;
     numbers_of_a_machine_fit(&machine);
     let text = write_machine(alloc, &machine);
     drop(machine);
@@ -79,27 +89,27 @@ fn description_in(alloc: Global, form: Form, bytes: Bytes) -> Result<Bytes, Faul
 }
 
 // The machine that the memory shows of which these bytes are the dump.
-fn machine_in(alloc: Global, form: Form, bytes: Bytes) -> Result<Machine, Fault>
+fn machine_in(alloc: Global, search: Search, bytes: Bytes) -> Result<Machine, Fault>
     requires { length bytes ≤ input_limit }
     ensures accepted { IfOk result IsAccepted }
-    ensures shown { IfOk result (λ machine. DumpShows form bytes (inventory_of machine)) }
-    ensures err { IfErr result (CannotBeTold form bytes) }
+    ensures shown { IfOk result (λ machine. DumpShows search bytes (inventory_of machine)) }
+    ensures err { IfErr result (CannotBeTold search bytes) }
 {
-    let inventory = inventory_in(alloc, form, bytes)?;
+    let inventory = inventory_in(alloc, search, bytes)?;
     let machine = describe(alloc, &inventory);
     drop(inventory);
     Ok(machine?)
 }
 
 // What the memory shows of which these bytes are the dump. They are given up as soon as the memory is read.
-fn inventory_in(alloc: Global, form: Form, bytes: Bytes) -> Result<Inventory, Fault>
+fn inventory_in(alloc: Global, search: Search, bytes: Bytes) -> Result<Inventory, Fault>
     requires { length bytes ≤ input_limit }
-    ensures ok { IfOk result (DumpShows form bytes) }
-    ensures err { IfErr result (CannotBeListed form bytes) }
+    ensures ok { IfOk result (DumpShows search bytes) }
+    ensures err { IfErr result (CannotBeListed search bytes) }
 {
     let memory = memory_in(alloc, bytes.as_slice())?;
     drop(bytes);
-    Ok(scan_by(alloc, &memory, form)?)
+    Ok(scan_by(alloc, &memory, search)?)
 }
 
 // The memory of which these bytes are the dump.
@@ -108,7 +118,7 @@ fn memory_in(alloc: Global, bytes: &[u8]) -> Result<GuestMemory, Fault>
     ensures text { IfOk result (λ held. dump held.memory ≡ bytes.now) }
     ensures lawful { IfOk result (λ held. IsMemory held.memory) }
     ensures holds { IfOk result (λ held. HoldsBytes held.memory) }
-    ensures err { IfErr result (λ fault. (form : Form) → CannotBeListed form bytes.now fault) }
+    ensures err { IfErr result (λ fault. (search : Search) → CannotBeListed search bytes.now fault) }
 {
     match read_dump(alloc, bytes) {
         Ok(memory) => Ok(memory),

@@ -2,13 +2,14 @@ ghost use Rattle.std.specs.Prelude.{◌≡◌};
 ghost use Rattle.vmtables.specs.Outcome.{line_of, status_of_fault, status_of_load};
 
 use crate::input::InputFault;
-use crate::lines::{container_line, dump_line, load_line, profile_line, tables_line};
+use crate::lines::{container_line, dump_line, install_line, load_line, profile_line, tables_line};
 use crate::status::Status;
 use anchor_scan::ScanFault;
 use cfg_directory::ImageFault;
 use command_acts::LoadFault;
 use desc_toml::DescFault;
 use memory_dump::DumpFault;
+use smbios_install::InstallFault;
 use table_describe::DescribeFault;
 use vm_image::ImageBuildFault;
 use vt_outside::{Line, OutOfMemory, words};
@@ -24,6 +25,8 @@ pub enum Fault {
     Description(DescFault),
     /// The bytes are no container; this is their first fault.
     Container(ImageFault),
+    /// The files of SMBIOS structures that a container has aren't installed, for this reason.
+    Install(InstallFault),
     /// The load of a machine's image or of a container ended before its script did, for this fault.
     Load(LoadFault),
     /// The bytes are no dump.
@@ -59,7 +62,7 @@ impl Fault {
             Fault::ReadFault => Status::ReadFault,
             Fault::Usage => Status::Usage,
             Fault::Description(_) => Status::DescriptionRefused,
-            Fault::Container(_) => Status::ImageRefused,
+            Fault::Container(_) | Fault::Install(_) => Status::ImageRefused,
             Fault::Load(fault) => status_of_load(*fault),
             Fault::Dump { .. } => Status::DumpRefused,
             Fault::Tables(_) | Fault::NotProfile { .. } => Status::TablesRefused,
@@ -79,6 +82,7 @@ impl Fault {
             Fault::Usage => words("usage: vmtables build, load, decode, boot, lint or gen\n"),
             Fault::Description(refused) => refused.line(),
             Fault::Container(refused) => container_line(*refused),
+            Fault::Install(refused) => install_line(*refused),
             Fault::Load(fault) => load_line(*fault),
             Fault::Dump { fault, line } => dump_line(*fault, *line),
             Fault::Tables(fault) => tables_line(*fault),
@@ -163,6 +167,19 @@ impl From<ImageFault> for Fault {
         match fault {
             ImageFault::OutOfMemory => Fault::OutOfMemory,
             refused => Fault::Container(refused),
+        }
+    }
+}
+
+impl From<InstallFault> for Fault {
+    ghost use Rattle.vmtables.specs.Causes.{IsOfInstalling};
+
+    ghost from_gives = { IsOfInstalling };
+
+    fn from(fault: InstallFault) -> Fault {
+        match fault {
+            InstallFault::OutOfMemory => Fault::OutOfMemory,
+            refused => Fault::Install(refused),
         }
     }
 }

@@ -4,9 +4,10 @@
 //! `boot` reads a machine's description (TOML), builds the files that a firmware loads (SMBIOS structures and
 //! their anchor, DSP0134; ACPI tables) and the script that places, patches and checksums them, runs that script on the memory
 //! of a guest, and writes the memory as text. `build` writes these files as one container. `load` reads a container, made here or
-//! elsewhere, and runs its script in the same way. `decode` reads the dump of a guest's memory, and writes the description of the machine
-//! that the guest finds there; with `--list` it lists what the guest finds, and with `--legacy` it goes by the ACPI tables of an RSDT. `gen`
-//! boots a machine that it generates of a number of processors, and counts what it has.
+//! elsewhere, and runs its script in the same way; with `--install` it installs the SMBIOS files that no command of the script names. `decode`
+//! reads the dump of a guest's memory, and writes the description of the machine that the guest finds there; with `--list` it lists what the
+//! guest finds. With `--legacy` it goes by the ACPI tables of an RSDT, and a list with `--smbios2` by the old SMBIOS anchor, or with `--any` by
+//! the first anchors of any form. `gen` boots a machine that it generates of a number of processors, and counts what it has.
 //!
 //! The contract of [`top`] says, for all words and bytes, what the command did, when each status comes, and what became of the streams: once
 //! `boot` ends with status 0 memory shows exactly the machine that was described, whatever events came between and whatever lawful places the

@@ -1,7 +1,8 @@
 //! The lines that tell faults to a person, put together on the stack.
 
 ghost use Rattle.std.specs.Prelude.{◌≡◌, ◌≤◌, ◌++◌, ◌∷◌, [], codes, decimal, length};
-ghost use Rattle.vmtables.specs.Outcome.{cause_number, container_line, container_number, dump_line, dump_number, load_line, profile_line, tables_line};
+ghost use Rattle.vmtables.specs.Outcome.{cause_number, container_line, container_number, dump_line, dump_number, install_line, install_number};
+ghost use Rattle.vmtables.specs.Outcome.{load_line, profile_line, tables_line};
 
 use anchor_scan::ScanFault;
 use cfg_directory::ImageFault;
@@ -9,6 +10,7 @@ use command_acts::LoadFault;
 use loader_script::Cause;
 use memory_dump::DumpFault;
 use scan_text::{acpi_line, smbios_line};
+use smbios_install::InstallFault;
 use vt_outside::{Line, numbered_line, words};
 
 /// The line of a container that is refused: the number of its fault.
@@ -33,6 +35,31 @@ fn container_number(fault: ImageFault) -> u8
         ImageFault::TrailingBytes => 8,
         ImageFault::TooLarge => 9,
         ImageFault::OutOfMemory => 0,
+    }
+}
+
+/// The line of files that aren't installed: the number of the reason.
+pub(crate) fn install_line(fault: InstallFault) -> Line
+    ensures { result.bytes ≡ install_line fault }
+{
+    numbered_line("install: fault ", u32::from(install_number(fault)))
+}
+
+// The number of a reason against installing, in the order of the reasons. Want of memory is none of them.
+fn install_number(fault: InstallFault) -> u8
+    ensures { result ≡ install_number fault }
+{
+    match fault {
+        InstallFault::NoAnchor => 1,
+        InstallFault::NoTables => 2,
+        InstallFault::EmptyTables => 3,
+        InstallFault::BadAnchor => 4,
+        InstallFault::ScriptLength => 5,
+        InstallFault::AlreadyPlaced { .. } => 6,
+        InstallFault::ScriptFull => 7,
+        InstallFault::TooMany => 8,
+        InstallFault::TooLarge => 9,
+        InstallFault::OutOfMemory => 0,
     }
 }
 

@@ -14,7 +14,7 @@ use Rattle.word_schema.specs.Taken.{first, rest, value_at, flag_of, number_to, p
 use Rattle.word_schema.proofs.Fitting.{values_fit}
 use Rattle.word_schema.proofs.Places.{row_fits, number_kept, byte_kept}
 use Rattle.vt_words.specs.declared.command.Command.TheVariants.{Decode, List as Listing}
-use Rattle.vt_words.specs.Command.{CommandRow, IsLawful, boot_of, build_of, decode_of, gen_of, load_of, command_named, command_of, commands}
+use Rattle.vt_words.specs.Command.{CommandRow, IsLawful, boot_of, build_of, decode_of, gen_of, load_of, sought_of, command_named, command_of, commands}
 use Rattle.vt_words.specs.Policies.{policy_at, HasSeed}
 use Rattle.vt_words.specs.Rows.{top_row, seed_row, boot, build, decode, generate, load}
 use Rattle.vt_words.specs.Settings.{IsSetting, setting_of}
@@ -41,7 +41,8 @@ lawful_build values fit = tt
 lawful_decode : (values : List Value) → fits decode values ≡ true → IsLawful (decode_of values)
 lawful_decode values fit =
     let legacy = flag_of (value_at 1 values) in
-    elim (flag_of (first values)) as (λ listed. IsLawful (if listed then Listing legacy else Decode legacy)) [ true ↦ tt | false ↦ tt ]
+    let sought = sought_of legacy (flag_of (value_at 2 values)) (flag_of (value_at 3 values)) in
+    elim (flag_of (first values)) as (λ listed. IsLawful (if listed then Listing sought else Decode legacy)) [ true ↦ tt | false ↦ tt ]
 
 lawful_gen : (values : List Value) → fits generate values ≡ true → IsLawful (gen_of values)
 lawful_gen [] fit = absurd (cc)
@@ -53,7 +54,7 @@ lawful_boot values fit = lawful_setting values (row_fits boot.options values 2 s
 lawful_load : (values : List Value) → fits load values ≡ true → IsLawful (load_of values)
 lawful_load values fit =
     let top = number_kept 64 3072 (value_at 0 values) (row_fits load.options values 0 top_row fit refl) in
-    (top.0, top.1, lawful_setting (rest values) (row_fits load.options values 3 seed_row fit refl))
+    (top.0, top.1, lawful_setting (rest (rest values)) (row_fits load.options values 4 seed_row fit refl))
 
 MakesLawful : CommandRow → Type 0
 MakesLawful command = (is_sound command.schema ≡ true) × ((values : List Value) → fits command.schema values ≡ true → IsLawful (command.make values))

@@ -2,7 +2,7 @@
 use Rattle.std.specs.Prelude.{ℕ, ◌-◌, ◌^◌, false, List, [], ◌∷◌, Option, Some, codes}
 use Rattle.word_schema.specs.declared.value.Value.{Value}
 use Rattle.word_schema.specs.declared.value.Value.TheVariants as values
-use Rattle.word_schema.specs.Forms.{Form, Byte, Number, Word, Row, Schema, Flag, Valued}
+use Rattle.word_schema.specs.Forms.{Form, Byte, Number, Word, Row, Pair, Schema, Flag, Valued}
 
 -- an option with a value that has a default
 abbrev pub valued : List ℕ → Form → Value → Row
@@ -47,6 +47,21 @@ list_row = flag (codes "--list") (Some (values.Flag false))
 abbrev pub legacy_row : Row
 legacy_row = flag (codes "--legacy") (Some (values.Flag false))
 
+-- that the structures of the old SMBIOS anchor are listed
+abbrev pub smbios2_row : Row
+smbios2_row = flag (codes "--smbios2") (Some (values.Flag false))
+
+-- that the first anchors of any form are listed
+abbrev pub any_row : Row
+any_row = flag (codes "--any") (Some (values.Flag false))
+
+-- that SMBIOS files outside the script are installed
+abbrev pub install_row : Row
+install_row = flag (codes "--install") (Some (values.Flag false))
+
+abbrev pub pair : Row → Row → Pair
+pair one other = record { one = one.name; other = other.name }
+
 abbrev pub build : Schema
 build = command (codes "build") []
 
@@ -54,10 +69,16 @@ abbrev pub boot : Schema
 boot = command (codes "boot") setting_rows
 
 abbrev pub load : Schema
-load = command (codes "load") (top_row ∷ setting_rows)
+load = command (codes "load") (top_row ∷ install_row ∷ setting_rows)
 
 abbrev pub decode : Schema
-decode = command (codes "decode") (list_row ∷ legacy_row ∷ [])
+decode = record {
+  name = codes "decode";
+  operands = [];
+  options = list_row ∷ legacy_row ∷ smbios2_row ∷ any_row ∷ [];
+  exclusive = pair any_row legacy_row ∷ pair any_row smbios2_row ∷ [];
+  needs = pair smbios2_row list_row ∷ pair any_row list_row ∷ [];
+}
 
 -- how many processors a machine is generated of
 abbrev pub generate : Schema

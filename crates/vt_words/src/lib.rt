@@ -12,6 +12,6 @@ mod policy;
 mod rows;
 mod setting;
 
-pub use command::{Command, LoadOptions, read_words};
+pub use command::{Command, LoadOptions, Sought, read_words};
 pub use rows::commands;
 pub use setting::Setting;

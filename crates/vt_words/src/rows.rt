@@ -4,7 +4,7 @@ ghost use Rattle.std.specs.Prelude.{◌≡◌, map};
 ghost use Rattle.word_schema.specs.Forms.{schema_of};
 ghost use Rattle.vt_words.specs.Command.{commands};
 
-use word_schema::{CommandSchema, Form, Kind, OperandSchema, OptionSchema, Value};
+use word_schema::{CommandSchema, Exclusive, Form, Kind, Need, OperandSchema, OptionSchema, Value};
 
 // An option with a value: its name, what stands for the value in the help, what the value is to be, and what it is where it's left out.
 macro_rules! valued {
@@ -67,13 +67,31 @@ macro_rules! flag {
 const LIST: OptionSchema = flag!(
     "--list",
     Some(Value::Flag(false)),
-    "lists the SMBIOS structures and the ACPI tables that a guest finds in this memory, whatever machine has them"
+    "lists the SMBIOS structures and the ACPI tables that a guest finds in this memory, whether they describe a machine or not"
 );
 
 const LEGACY: OptionSchema = flag!(
     "--legacy",
     Some(Value::Flag(false)),
-    "reads the ACPI tables of an RSDP of revision 0 or 1 and its RSDT, with FADTs from 116 bytes on, as SeaBIOS leaves them to most guests"
+    "reads the ACPI tables of an RSDP of revision 0 or 1 and its RSDT, with FADTs from 116 bytes on, as SeaBIOS leaves them to guests of pc and q35"
+);
+
+const SMBIOS2: OptionSchema = flag!(
+    "--smbios2",
+    Some(Value::Flag(false)),
+    "lists the SMBIOS structures of the old anchor of 31 bytes, as QEMU's pc and q35 have it unless told otherwise"
+);
+
+const ANY: OptionSchema = flag!(
+    "--any",
+    Some(Value::Flag(false)),
+    "lists what a guest's own search finds: the first RSDP of any revision, FADTs from 116 bytes on, and the first SMBIOS anchor of either form"
+);
+
+const INSTALL: OptionSchema = flag!(
+    "--install",
+    Some(Value::Flag(false)),
+    "installs the SMBIOS files that QEMU gives outside the script, as a firmware does by itself: commands for them are added to the script"
 );
 
 const PROCESSORS: OperandSchema = OperandSchema {
@@ -107,7 +125,7 @@ pub(crate) const BOOT: CommandSchema = CommandSchema {
 pub(crate) const LOAD: CommandSchema = CommandSchema {
     name: "load",
     operands: &[],
-    options: &[TOP, FILL, POLICY, SEED],
+    options: &[TOP, INSTALL, FILL, POLICY, SEED],
     exclusive: &[],
     needs: &[],
     input: "CONTAINER",
@@ -118,9 +136,27 @@ pub(crate) const LOAD: CommandSchema = CommandSchema {
 pub(crate) const DECODE: CommandSchema = CommandSchema {
     name: "decode",
     operands: &[],
-    options: &[LIST, LEGACY],
-    exclusive: &[],
-    needs: &[],
+    options: &[LIST, LEGACY, SMBIOS2, ANY],
+    exclusive: &[
+        Exclusive {
+            one: "--any",
+            other: "--legacy",
+        },
+        Exclusive {
+            one: "--any",
+            other: "--smbios2",
+        },
+    ],
+    needs: &[
+        Need {
+            one: "--smbios2",
+            other: "--list",
+        },
+        Need {
+            one: "--any",
+            other: "--list",
+        },
+    ],
     input: "DUMP",
     output: "DESCRIPTION",
     about: "reads a dump of a guest's memory, and describes the machine that it shows from its RSDP and its SMBIOS anchor, or tells the first fault",

@@ -4,7 +4,7 @@ use crate::words::reading::{is_read, is_read_around};
 use std::alloc::{AllocError, Global};
 use std::process::Abort;
 use std::test::Fail;
-use vt_words::{Command, LoadOptions, Setting};
+use vt_words::{Command, LoadOptions, Setting, Sought};
 use zone_alloc::Policy;
 
 // What the options say where none is given.
@@ -14,6 +14,16 @@ const DEFAULTS: Setting = Setting {
     seed: 0,
 };
 
+// A list by one kind of ACPI tables, and one of SMBIOS anchors.
+macro_rules! listed {
+    ($legacy:literal, $smbios2:literal) => {
+        Command::List(Sought::One {
+            legacy: $legacy,
+            smbios2: $smbios2,
+        })
+    };
+}
+
 // Words, each behind a bar, and the command that they are.
 struct Row(&'static str, Command);
 
@@ -22,9 +32,14 @@ const COMMANDS: &[Row] = &[
     Row("|build", Command::Build),
     Row("|decode", Command::Decode { legacy: false }),
     Row("|decode|--legacy", Command::Decode { legacy: true }),
-    Row("|decode|--list", Command::List { legacy: false }),
-    Row("|decode|--list|--legacy", Command::List { legacy: true }),
-    Row("|decode|--legacy|--list", Command::List { legacy: true }),
+    Row("|decode|--list", listed!(false, false)),
+    Row("|decode|--list|--legacy", listed!(true, false)),
+    Row("|decode|--legacy|--list", listed!(true, false)),
+    Row("|decode|--list|--smbios2", listed!(false, true)),
+    Row("|decode|--smbios2|--list", listed!(false, true)),
+    Row("|decode|--smbios2|--legacy|--list", listed!(true, true)),
+    Row("|decode|--list|--any", Command::List(Sought::Any)),
+    Row("|decode|--any|--list", Command::List(Sought::Any)),
     Row("|gen|1", Command::Gen(1)),
     Row("|gen|300", Command::Gen(300)),
     Row("|gen|4096", Command::Gen(4096)),
@@ -33,10 +48,19 @@ const COMMANDS: &[Row] = &[
         "|load",
         Command::Load(LoadOptions {
             top_mib: 64,
+            install: false,
             setting: DEFAULTS,
         }),
     ),
     // one option
+    Row(
+        "|load|--install",
+        Command::Load(LoadOptions {
+            top_mib: 64,
+            install: true,
+            setting: DEFAULTS,
+        }),
+    ),
     Row(
         "|boot|--policy|top",
         Command::Boot(Setting {
@@ -55,9 +79,26 @@ const COMMANDS: &[Row] = &[
     ),
     // two options, in each order
     Row(
+        "|load|--install|--top|128",
+        Command::Load(LoadOptions {
+            top_mib: 128,
+            install: true,
+            setting: DEFAULTS,
+        }),
+    ),
+    Row(
+        "|load|--top|128|--install",
+        Command::Load(LoadOptions {
+            top_mib: 128,
+            install: true,
+            setting: DEFAULTS,
+        }),
+    ),
+    Row(
         "|load|--fill|a5|--top|128",
         Command::Load(LoadOptions {
             top_mib: 128,
+            install: false,
             setting: Setting {
                 fill: 0xA5,
                 policy: Policy::Low,
@@ -69,6 +110,7 @@ const COMMANDS: &[Row] = &[
         "|load|--top|128|--fill|a5",
         Command::Load(LoadOptions {
             top_mib: 128,
+            install: false,
             setting: Setting {
                 fill: 0xA5,
                 policy: Policy::Low,
@@ -80,6 +122,7 @@ const COMMANDS: &[Row] = &[
         "|load|--seed|18446744073709551615|--top|65",
         Command::Load(LoadOptions {
             top_mib: 65,
+            install: false,
             setting: Setting {
                 fill: 0,
                 policy: Policy::Low,
@@ -116,6 +159,7 @@ const COMMANDS: &[Row] = &[
         "|load|--policy|scatter|--top|128|--seed|12|--fill|a5",
         Command::Load(LoadOptions {
             top_mib: 128,
+            install: false,
             setting: Setting {
                 fill: 0xA5,
                 policy: Policy::Scatter(12),
@@ -127,6 +171,7 @@ const COMMANDS: &[Row] = &[
         "|load|--fill|a5|--seed|12|--top|128|--policy|top",
         Command::Load(LoadOptions {
             top_mib: 128,
+            install: false,
             setting: Setting {
                 fill: 0xA5,
                 policy: Policy::Top,
@@ -143,6 +188,7 @@ const COMMANDS: &[Row] = &[
         "|load|--fill|00|--top|64|--policy|low|--seed|0",
         Command::Load(LoadOptions {
             top_mib: 64,
+            install: false,
             setting: DEFAULTS,
         }),
     ),
@@ -151,6 +197,7 @@ const COMMANDS: &[Row] = &[
         "|load|--top|99|--seed|99|--fill|99",
         Command::Load(LoadOptions {
             top_mib: 99,
+            install: false,
             setting: Setting {
                 fill: 0x99,
                 policy: Policy::Low,
@@ -267,6 +314,7 @@ fn are_read(
     let boot = Command::Boot(setting);
     let load = Command::Load(LoadOptions {
         top_mib: 64,
+        install: false,
         setting,
     });
     is_read_around(rt, alloc, before.0, value, "", Some(boot))?;
@@ -284,6 +332,7 @@ fn tops(rt: HostRuntime) -> Result<(), Fail> {
 fn is_top(rt: &impl Abort, alloc: Global, value: &str, top_mib: u32) -> Result<(), AllocError> {
     let load = Command::Load(LoadOptions {
         top_mib,
+        install: false,
         setting: DEFAULTS,
     });
     is_read_around(rt, alloc, "|load|--top", value, "", Some(load))

@@ -50,6 +50,13 @@ const NO_COMMANDS: &[&str] = &[
     "|decode|--legacy=1",
     "|decode|--Legacy",
     "|decode|legacy",
+    "|decode|--list|--smbios2|--smbios2",
+    "|decode|--list|--any|--any",
+    "|load|--install|--install",
+    "|load|--install|1",
+    "|load|--smbios2",
+    "|boot|--install",
+    "|decode|--install",
     "|load|--legacy",
     "|gen|1|--legacy",
     "|--legacy",
@@ -118,6 +125,16 @@ const NO_COMMANDS: &[&str] = &[
     "|boot|--policy|low|--policy|low",
     "|load|--policy|low|--fill|a5|--policy|top",
     "|boot|--policy|scatter|--seed|1|--policy|scatter|--seed|1",
+    // an option without another that it needs, and two that exclude each other
+    "|decode|--smbios2",
+    "|decode|--smbios2|--legacy",
+    "|decode|--any",
+    "|decode|--any|--legacy",
+    "|decode|--list|--any|--legacy",
+    "|decode|--legacy|--any|--list",
+    "|decode|--list|--any|--smbios2",
+    "|decode|--smbios2|--list|--any",
+    "|decode|--list|--legacy|--smbios2|--any",
 ];
 
 // What isn't two lower-case hexadecimal digits.

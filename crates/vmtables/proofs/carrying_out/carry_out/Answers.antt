@@ -2,7 +2,7 @@ use Rattle.std.proofs.Common.{Some, ap, sym, ◌∙◌}
 use Rattle.vt_words.specs.declared.command.Command.TheVariants.{Boot, Build, Decode, Gen, List}
 use Rattle.vmtables.specs.Decode.{DecodeMakes, ListMakes}
 use Rattle.vmtables.proofs.BootEnds.{words_refuse_nothing}
-use Rattle.vmtables.proofs.Endings.{by_form, usage_ran, commanded}
+use Rattle.vmtables.proofs.Endings.{by_search, usage_ran, commanded}
 use Rattle.vmtables.proofs.carrying_out.carry_out.Goals as goal
 
 pub returns-in-None-clause-ran : goal.returns-in-None-clause-ran
@@ -17,12 +17,12 @@ pub returns-in-Some-Decode-clause-ran : goal.returns-in-Some-Decode-clause-ran
 returns-in-Some-Decode-clause-ran g c =
     commanded _ (Some (Decode c.in-Some-Decode.legacy)) _ c.decode.result _ _ _ _ _ _
     (ap Some (sym c.in-Some-Decode.field-0-is) ∙ c.in-Some-Decode.ensures.command)
-    (by_form DecodeMakes _ _ _ _ _ _ _ _ _ c.of.ensures (c.decode.ensures.ran _))
+    (by_search DecodeMakes _ _ _ _ _ _ _ _ _ c.of.ensures (c.decode.ensures.ran _))
 
 pub returns-in-Some-List-clause-ran : goal.returns-in-Some-List-clause-ran
 returns-in-Some-List-clause-ran g c =
-    commanded _ (Some (List c.in-Some-List.legacy)) _ c.list.result _ _ _ _ _ _ (ap Some (sym c.in-Some-List.field-0-is) ∙ c.in-Some-List.ensures.command)
-    (by_form ListMakes _ _ _ _ _ _ _ _ _ c.of-in-Some-List.ensures (c.list.ensures.ran _))
+    commanded _ (Some (List c.in-Some-List.sought)) _ c.list.result _ _ _ _ _ _ (ap Some (sym c.in-Some-List.field-0-is) ∙ c.in-Some-List.ensures.command)
+    (by_search ListMakes _ _ _ _ _ _ _ _ _ c.search_for.ensures (c.list.ensures.ran _))
 
 pub returns-in-Some-Gen-clause-ran : goal.returns-in-Some-Gen-clause-ran
 returns-in-Some-Gen-clause-ran g c =

@@ -8,14 +8,14 @@ use Rattle.vmtables.proofs.decode_command.decode.Goals as goal
 pub returns-in_err-bytes-clause-ran : goal.returns-in_err-bytes-clause-ran
 returns-in_err-bytes-clause-ran g c = λ seen.
     let read = c.in_err-bytes.ensures in
-    cut_off (DecodeMakes c.args.form) c.in_err-bytes.field-0.0 c.from_residual.result seen _ _ _ read.failed read.too_long c.from_residual.ensures.1
+    cut_off (DecodeMakes c.args.search) c.in_err-bytes.field-0.0 c.from_residual.result seen _ _ _ read.failed read.too_long c.from_residual.ensures.1
 
 pub returns-in_err-text-clause-ran : goal.returns-in_err-text-clause-ran
 returns-in_err-text-clause-ran g c = λ seen.
     let read = c.in_ok-bytes.ensures in
     let why = c.in_err-text in
     let answer = c.from_residual-in_err-text in
-    refused (DecodeMakes c.args.form) c.in_ok-bytes.bytes c.in_ok-bytes.bytes why.field-0.0 answer.result seen seen _ _ _
+    refused (DecodeMakes c.args.search) c.in_ok-bytes.bytes c.in_ok-bytes.bytes why.field-0.0 answer.result seen seen _ _ _
     (ended_so _ _ _ read.given read.end read.ended) refl (not_told why.ensures.err refl) answer.ensures.1
 
 pub returns-in_err-text-clause-streams : goal.returns-in_err-text-clause-streams
@@ -23,7 +23,7 @@ returns-in_err-text-clause-streams g c =
     let read = c.in_ok-bytes.ensures in
     let why = c.in_err-text in
     let answer = c.from_residual-in_err-text in
-    quiet_streams why.field-0.0 answer.result c.in_ok-bytes.bytes _ _ _ (tell_quiet c.args.form c.in_ok-bytes.bytes why.field-0.0 why.ensures.err)
+    quiet_streams why.field-0.0 answer.result c.in_ok-bytes.bytes _ _ _ (tell_quiet c.args.search c.in_ok-bytes.bytes why.field-0.0 why.ensures.err)
     answer.ensures.1 (read.sound (λ is. cc)) read.too_long
 
 pub returns-clause-ran : goal.returns-clause-ran
@@ -31,9 +31,9 @@ returns-clause-ran g c = λ seen.
     let read = c.in_ok-bytes.ensures in
     let written = c.write_text.ensures in
     let is = c.in_ok-text.ensures.ok in
-    wrote (DecodeMakes c.args.form) c.write_text.result c.in_ok-bytes.bytes c.as_slice.result.now seen seen _ _ _ _
+    wrote (DecodeMakes c.args.search) c.write_text.result c.in_ok-bytes.bytes c.as_slice.result.now seen seen _ _ _ _
     (ended_so _ _ _ read.given read.end read.ended)
-    (told_text c.args.form c.in_ok-bytes.bytes c.in_ok-text.text c.as_slice.result.now seen (sym c.as_slice.ensures) is) written.ok written.fault written.front
+    (told_text c.args.search c.in_ok-bytes.bytes c.in_ok-text.text c.as_slice.result.now seen (sym c.as_slice.ensures) is) written.ok written.fault written.front
 
 pub returns-clause-streams : goal.returns-clause-streams
 returns-clause-streams g c =

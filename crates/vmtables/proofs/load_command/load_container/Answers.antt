@@ -5,7 +5,7 @@ use Rattle.vmtables.proofs.load_command.load_container.Goals as goal
 
 pub returns-in_err-items-clause-err : goal.returns-in_err-items-clause-err
 returns-in_err-items-clause-err g c =
-    unread_when _ _ _ _ _ c.in_err-items.field-0.0 c.from_residual.result c.in_err-items.ensures.err c.from_residual.ensures.1
+    unread_when _ _ _ _ c.in_err-items.field-0.0 c.from_residual.result c.in_err-items.ensures.err c.from_residual.ensures.1
 
 pub returns-clause-err : goal.returns-clause-err
 returns-clause-err g c =
