@@ -111,7 +111,7 @@ machine_none : (Gives : Answering) (setting : Setting) (m : Machine) (before aft
     → FailsToBoot Gives setting m before after f → answer ≢ status_of_fault f
 machine_none Gives setting m before after f answer none (too_large large same) = none.large
 machine_none Gives setting m before after f answer none (not_built same) = none.memory
-machine_none Gives setting m before after f answer none (without_room loaded refusal) = none.room
+machine_none Gives setting m before after f answer none (without_room small loaded refusal) = none.room
 machine_none Gives setting m before after f answer none (without_memory is_unloaded) = none.memory
 
 undescribed_none : (bytes : List ℕ) (f : Fault) (answer : Status) → IsNone answer → IsUndescribed bytes f → answer ≢ status_of_fault f
@@ -188,7 +188,7 @@ machine_has_room : (setting : Setting) (m : Machine) (before after : Seen) (f : 
     → status.NoRoom ≢ status_of_fault f
 machine_has_room setting m before after f (too_large large same) = λ is. cc
 machine_has_room setting m before after f (not_built same) = λ is. cc
-machine_has_room setting m before after f (without_room loaded refusal) =
+machine_has_room setting m before after f (without_room small loaded refusal) =
     λ is. absurd (never_refused after.place.begun _ after.place.handed after.place.refused loaded.zones refusal)
 machine_has_room setting m before after f (without_memory is_unloaded) = λ is. cc
 

@@ -167,17 +167,17 @@ refused_last Gives setting m why index before after script_read is loaded refusa
 
 -- how the boot of a machine fails whose image failed to load
 boot_failed : (Gives : Answering) (setting : Setting) (m : Machine) (items : List Item) (script : List Entry) (f : Fault) (before after : Seen)
-    → AllFree Gives → IsBuilt m items script → script_in (image_items m) ≡ Ok (image_script m)
+    → AllFree Gives → IsBuilt m items script → total_size (image_items m) ≤ image_limit → script_in (image_items m) ≡ Ok (image_script m)
     → FailsToLoad Gives (image_items m) (top_of m) setting before after f → FailsToBoot Gives setting m before after f
-boot_failed Gives setting m items script f before after free built decoded (ended_early {why = why} loaded) =
+boot_failed Gives setting m items script f before after free built small decoded (ended_early {why = why} loaded) =
     elim (fails_for_room Gives setting m items script why before after free built decoded loaded) as
     (λ _. FailsToBoot Gives setting m before after (fault.Load why)) [
       | room index is refusal ↦
           subst (λ w. FailsToBoot Gives setting m before after (fault.Load w)) (sym is)
-          (without_room (subst (λ w. IsImageLoaded Gives (image_items m) (top_of m) setting (Err w) before after) is loaded)
+          (without_room small (subst (λ w. IsImageLoaded Gives (image_items m) (top_of m) setting (Err w) before after) is loaded)
           (refused_last Gives setting m why index before after decoded is loaded refusal))
     ]
-boot_failed Gives setting m items script f before after free built decoded (not_begun unloaded) = without_memory unloaded
+boot_failed Gives setting m items script f before after free built small decoded (not_begun unloaded) = without_memory unloaded
 
 -- a load that is done, after which memory holds bytes
 pub booted_so : (Gives : Answering) (setting : Setting) (m : Machine) (items : List Item) (script : List Entry) (before after : Seen)
@@ -196,7 +196,7 @@ pub failed_to_boot : (Gives : Answering) (setting : Setting) (m : Machine) (item
     → IfErr r (FailsToBoot Gives setting m before after)
 failed_to_boot Gives setting m items script before after f (Ok done) free built small failed is = absurd is
 failed_to_boot Gives setting m items script before after f (Err ended) free built small failed is =
-    rw is (boot_failed Gives setting m items script f before after free built (script_read m items script built small)
+    rw is (boot_failed Gives setting m items script f before after free built small (script_read m items script built small)
     (subst (λ those. FailsToLoad Gives those (top_of m) setting before after f) built.items_are failed))
 
 -- the boot of the machine that bytes describe

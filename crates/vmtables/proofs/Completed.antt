@@ -1,5 +1,5 @@
 -- Calls with a lawful input of which nothing outside failed: they are done, or memory ran out.
-use Rattle.std.proofs.Common.{◌≡◌, ◌⊎◌, inl, inr, ℕ, Bool, ◌<◌, ◌≤◌, List, length, map, Some, IfOk, Result, Ok, Err, arith, refl, ap, sym, subst, ◌∙◌}
+use Rattle.std.proofs.Common.{◌≡◌, ◌⊎◌, inl, inr, ℕ, Bool, ◌<◌, ◌≤◌, List, length, map, Some, IfErr, IfOk, Result, Ok, Err, arith, refl, ap, sym, subst, ◌∙◌}
 use Rattle.vt_outside.specs.Placement.{Range}
 use Rattle.vt_outside.specs.Stream.{SourceSeen, SinkSeen, Rose}
 use Rattle.cfg_directory.specs.declared.item.Item.{Item}
@@ -27,18 +27,19 @@ use Rattle.vmtables.specs.Boot as boot_made
 use Rattle.vmtables.specs.Build.{BuildMakes}
 use Rattle.vmtables.specs.Build as build_made
 use Rattle.vmtables.specs.Load.{IsToLoad, LoadMakes, mib, not_read, not_loaded, to_load}
-use Rattle.vmtables.specs.Calls.{Answering, Input, Unread, Cut, Whole, Made, ReadsAll, ReadsNone, Wrote, WasRead, Seen}
-use Rattle.vmtables.specs.Complete.{Call, IsFed, HasRoom, IsDone, DescribesFew, RunsWhole}
+use Rattle.vmtables.specs.Calls.{Answering, Input, Unread, Cut, Whole, Made, ReadsAll, ReadsNone, Said, Wrote, WasRead, Seen}
+use Rattle.vmtables.specs.Complete.{Call, IsFed, HasRoom, IsDone, IsRefused, DescribesFew, RunsWhole}
 use Rattle.vmtables.specs.Described.{IsTooLarge}
 use Rattle.generated_machine.specs.Generated.{generated}
 use Rattle.vmtables.specs.Generate.{GenMakes, not_counted, plain}
 use Rattle.vmtables.specs.Loading.{IsImageLoaded, FailsToLoad, ended_early, not_begun}
-use Rattle.vmtables.specs.Outcome.{input_limit, status_of}
+use Rattle.vmtables.specs.Outcome.{input_limit, line_of, status_of, status_of_fault}
 use Rattle.vmtables.proofs.Ends.{ends_as, for_want, with_text, with_fault}
 use Rattle.vmtables.proofs.Refused.{IsUnbuilt, undescribed, of_large, no_memory, why_unbuilt, IsUnread, not_container, not_installed, no_room}
 use Rattle.vmtables.proofs.Refused.{why_unread}
 use Rattle.vmtables.proofs.Refused.{IsUndescribed, none_read, unread, why_undescribed}
 use Rattle.vmtables.specs.declared.fault.Fault.{Fault}
+use Rattle.vmtables.specs.declared.fault.Fault.TheVariants as fault
 use Rattle.vmtables.specs.declared.status.Status.TheVariants as status
 
 -- the call ended done, or for want of memory
@@ -77,7 +78,7 @@ pub same_items : (a b : List Item) → items_read a ≡ Ok b → a ≡ b
 same_items a b is = cc
 
 -- a description of a machine whose files are few isn't one of a machine whose files are too many
-not_too_large : (bytes : List ℕ) → DescribesFew bytes → IsTooLarge bytes → ⊥
+pub not_too_large : (bytes : List ℕ) → DescribesFew bytes → IsTooLarge bytes → ⊥
 not_too_large bytes few large =
     let same : few.0 ≡ large.0 = same_machine few.0 large.0 (sym few.1 ∙ large.1) in
     let size : total_size (image_items few.0) ≡ total_size (image_items large.0) = ap (λ (m : Machine). total_size (image_items m)) same in
@@ -101,7 +102,7 @@ few_fault : (Gives : Answering) (setting : Setting) (m : Machine) (before after 
     → (Rose before.place.refusals after.place.refusals → ⊥) → (f : Fault) → FailsToBoot Gives setting m before after f → Completed (Err f)
 few_fault Gives setting m before after few room f (too_large large same) = absurd (omega (arith, few, large))
 few_fault Gives setting m before after few room f (not_built same) = inr refl
-few_fault Gives setting m before after few room f (without_room {index = index} loaded refusal) = absurd (room (loaded.no_room index refl).0)
+few_fault Gives setting m before after few room f (without_room {index = index} small loaded refusal) = absurd (room (loaded.no_room index refl).0)
 few_fault Gives setting m before after few room f (without_memory unloaded) = inr refl
 
 boot_fault : (Gives : Answering) (setting : Setting) (bytes : List ℕ) (before after : Seen) → DescribesFew bytes
@@ -155,7 +156,7 @@ load_fault Gives items top setting before after why whole loaded =
 items_told : List Item → Result (List Item) InstallFault
 items_told items = Ok items
 
-same_loaded : (install : Bool) (bytes : List ℕ) (a b : List Item) → IsToLoad install bytes a → IsToLoad install bytes b → a ≡ b
+pub same_loaded : (install : Bool) (bytes : List ℕ) (a b : List Item) → IsToLoad install bytes a → IsToLoad install bytes b → a ≡ b
 unfolding items_told
 same_loaded install bytes a b is also =
     let read = sym (contained_is_read bytes is.contained is.container) ∙ contained_is_read bytes also.contained also.container in
@@ -163,18 +164,18 @@ same_loaded install bytes a b is also =
     let both : items_told a ≡ items_told b = sym is.loaded ∙ ap (to_load install) same ∙ also.loaded in
     cc both
 
--- of bytes of which items are loaded, none are for want of memory alone
-unread_fault : (install : Bool) (bytes : List ℕ) (items : List Item) → IsToLoad install bytes items → (f : Fault) → IsUnread install bytes f
-    → Completed (Err f)
-unread_fault install bytes items is f (not_container refused) =
+-- of bytes of which items are loaded nothing is loaded for want of memory alone
+pub unread_want : (install : Bool) (bytes : List ℕ) (items : List Item) → IsToLoad install bytes items → (f : Fault) → IsUnread install bytes f
+    → f ≡ fault.OutOfMemory
+unread_want install bytes items is f (not_container refused) =
     let read = contained_is_read bytes is.contained is.container in
     absurd (cc)
-unread_fault install bytes items is f (not_installed refused) =
+unread_want install bytes items is f (not_installed refused) =
     let read = sym (contained_is_read bytes is.contained is.container) ∙ contained_is_read bytes refused.contained refused.container in
     let same : is.contained ≡ refused.contained = same_items is.contained refused.contained read in
     let both = sym is.loaded ∙ ap (to_load install) same ∙ refused.refused in
     absurd (cc both)
-unread_fault install bytes items is f no_room = inr refl
+unread_want install bytes items is f no_room = refl
 
 failed_load : (Gives : Answering) (items : List Item) (top : ℕ) (setting : Setting) (before after : Seen)
     → RunsWhole items (map (λ (r : Range). r.start) after.place.handed) → (f : Fault) → FailsToLoad Gives items top setting before after f
@@ -187,7 +188,7 @@ load_ends : (Gives : Answering) (options : LoadOptions) (bytes : List ℕ) (item
     → IsToLoad options.install bytes items → RunsWhole items (map (λ (r : Range). r.start) after.place.handed)
     → (f : Fault) → LoadMakes Gives options bytes before after (Err f) → Completed (Err f)
 load_ends Gives options bytes items before after is whole f (not_read cannot same) =
-    unread_fault options.install bytes items is f (why_unread options.install bytes f cannot)
+    inr (ap status_of_fault (unread_want options.install bytes items is f (why_unread options.install bytes f cannot)))
 load_ends Gives options bytes items before after is whole f (not_loaded others also failed) =
     let same : items ≡ others = same_loaded options.install bytes items others is also in
     failed_load Gives items (mib options.top_mib) options.setting before after whole f
@@ -214,6 +215,39 @@ plain_call Makes before after Unread (Err made) (Err f) out out_after written di
     subst (λ g. Completed (Err g)) (sym wrote.0) (own made did)
 plain_call Makes before after (Cut why) made ended out out_after written did wrote own = absurd did
 plain_call Makes before after (Whole bytes) made ended out out_after written did wrote own = absurd did
+
+abbrev ended_by : Fault → Result (Unit {0}) Fault
+ended_by f = Err f
+
+-- and it tells this fault, if its command makes no other, and no text
+told_plain : (Makes : Seen → Seen → Made → Type 0) (before after : Seen) (in_all : Input) (made : Made) (ended : Result (Unit {0}) Fault)
+    (out out_after : SinkSeen) (f : Fault) → (Rose out.faults out_after.faults → ⊥) → ReadsNone Makes before after in_all made
+    → Wrote made ended out out_after → ((text : List ℕ) → Makes before after (Ok text) → ⊥)
+    → ((g : Fault) → Makes before after (Err g) → (g ≡ f) ⊎ (g ≡ fault.OutOfMemory)) → (ended ≡ Err f) ⊎ (ended ≡ Err fault.OutOfMemory)
+told_plain Makes before after Unread (Ok text) (Ok done) out out_after f written did wrote no_text one = absurd (no_text text did)
+told_plain Makes before after Unread (Ok text) (Err g) out out_after f written did wrote no_text one = absurd (written wrote.1.rose)
+told_plain Makes before after Unread (Err made) (Ok done) out out_after f written did wrote no_text one = absurd wrote
+told_plain Makes before after Unread (Err made) (Err g) out out_after f written did wrote no_text one =
+    elim (one made did) as (λ _. (ended_by g ≡ ended_by f) ⊎ (ended_by g ≡ ended_by fault.OutOfMemory)) [
+      | inl same ↦ inl (ap ended_by (wrote.0 ∙ same))
+      | inr want ↦ inr (ap ended_by (wrote.0 ∙ want))
+    ]
+told_plain Makes before after (Cut why) made ended out out_after f written did wrote no_text one = absurd did
+told_plain Makes before after (Whole bytes) made ended out out_after f written did wrote no_text one = absurd did
+
+pub refused_plain : (Gives : Answering) (command : CommandOf) (Makes : Seen → Seen → Made → Type 0) (f : Fault) (call : Call Gives command)
+    → ReadsNone Makes call.before call.after call.answered.ran.input call.answered.ran.made → (Rose call.out.faults call.out_after.faults → ⊥)
+    → ((text : List ℕ) → Makes call.before call.after (Ok text) → ⊥)
+    → ((g : Fault) → Makes call.before call.after (Err g) → (g ≡ f) ⊎ (g ≡ fault.OutOfMemory)) → IsRefused f call
+refused_plain Gives command Makes f call did written no_text one =
+    let ran = call.answered.ran in
+    elim (told_plain Makes call.before call.after ran.input ran.made call.answered.ended call.out call.out_after f written did ran.wrote no_text one) [
+      | inl told ↦ inl (
+        call.answered.status ∙ ap status_of told,
+        subst (λ those. IfErr those (λ g. Said (line_of g) call.say call.say_after)) told call.answered.said,
+      )
+      | inr want ↦ inr (call.answered.status ∙ ap status_of want)
+    ]
 
 gen_fault : (Gives : Answering) (processors : ℕ) (before after : Seen) → total_size (image_items (generated processors)) ≤ image_limit
     → (Rose before.place.refusals after.place.refusals → ⊥) → (f : Fault) → GenMakes Gives processors before after (Err f) → Completed (Err f)

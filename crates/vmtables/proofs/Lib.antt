@@ -2,6 +2,7 @@ pub mod Judged
 pub mod BootEnds
 pub mod Booting
 pub mod Completed
+pub mod CommandsComplete
 pub mod Counted
 pub mod Endings
 pub mod Ends

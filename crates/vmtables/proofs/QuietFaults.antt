@@ -88,7 +88,7 @@ machine_quiet : (Gives : Answering) (setting : Setting) (m : Machine) (before af
     → FailsToBoot Gives setting m before after f → IsQuiet (status_of_fault f)
 machine_quiet Gives setting m before after f (too_large large same) = quiet_large
 machine_quiet Gives setting m before after f (not_built same) = quiet_memory
-machine_quiet Gives setting m before after f (without_room loaded refusal) = quiet_room
+machine_quiet Gives setting m before after f (without_room small loaded refusal) = quiet_room
 machine_quiet Gives setting m before after f (without_memory unloaded) = quiet_memory
 
 pub boot_quiet : (Gives : Answering) (setting : Setting) (bytes : List ℕ) (before after : Seen) (f : Fault)
@@ -140,7 +140,7 @@ machine_known : (Gives : Answering) (setting : Setting) (m : Machine) (before af
     → FailsToBoot Gives setting m before after f → f ≢ fault.Usage
 machine_known Gives setting m before after f (too_large large same) = λ is. cc
 machine_known Gives setting m before after f (not_built same) = λ is. cc
-machine_known Gives setting m before after f (without_room loaded refusal) = λ is. cc
+machine_known Gives setting m before after f (without_room small loaded refusal) = λ is. cc
 machine_known Gives setting m before after f (without_memory unloaded) = λ is. cc
 
 undescribed_known : (bytes : List ℕ) (f : Fault) → IsUndescribed bytes f → f ≢ fault.Usage

@@ -56,7 +56,8 @@ pub record IsMachineBooted (Gives : Answering) (setting : Setting) (machine : Ma
 pub data FailsToBoot (Gives : Answering) (setting : Setting) (machine : Machine) (before after : Seen) : Fault → Type 0 where
   too_large : image_limit < total_size (image_items machine) → after ≡ before → FailsToBoot Gives setting machine before after fault.ImageTooLarge
   not_built : after ≡ before → FailsToBoot Gives setting machine before after fault.OutOfMemory
-  without_room : {index : ℕ} → IsImageLoaded Gives (image_items machine) (top_of machine) setting (Err (NoRoom index)) before after
+  without_room : {index : ℕ} → total_size (image_items machine) ≤ image_limit
+      → IsImageLoaded Gives (image_items machine) (top_of machine) setting (Err (NoRoom index)) before after
       → IsRefusedFree (Gives after.place.begun) (top_of machine) after.place.handed after.place.refused
       → FailsToBoot Gives setting machine before after (fault.Load (NoRoom index))
   without_memory : IsUnloaded (image_items machine) (top_of machine) setting.fill before after

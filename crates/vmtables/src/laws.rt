@@ -6,9 +6,7 @@ ghost use Rattle.vt_words.specs.declared.command.Command.TheVariants.{Boot, Gen}
 ghost use Rattle.vt_words.specs.declared.setting.Setting.{Setting};
 ghost use Rattle.command_acts.specs.Allocators.{MayAnswer};
 ghost use Rattle.vmtables.specs.Calls.{Answered, Seen};
-ghost use Rattle.vmtables.specs.Complete.{IsBootComplete, IsBootListed, IsBootTold, IsBuildComplete, IsDecodeComplete, IsDecodeExact, IsGenComplete};
-ghost use Rattle.vmtables.specs.Complete.{IsBootNeverRefused};
-ghost use Rattle.vmtables.specs.Complete.{IsListComplete, IsListExact, IsLoadComplete, IsShownListed, IsShownTold};
+ghost use Rattle.vmtables.specs.Complete.{AreDone, IsBootListed, IsBootNeverRefused, IsBootTold, IsShownListed, IsShownTold, TellFaults};
 ghost use Rattle.vmtables.specs.Does.{Does};
 ghost use Rattle.vmtables.specs.Shelf.{shelf_answers};
 ghost use Rattle.vmtables.specs.declared.status.Status.{Status};
@@ -24,53 +22,30 @@ pub fn a_shelf_has_room_for_a_machine()
         → Answered (Does shelf_answers (Some (Gen processors)) before after) answer source source_after out out_after say say_after → answer ≢ NoRoom }
 {}
 
-/// States that `boot` of a description whose machine has few files is done, unless memory ran out, where no read, no write, no flush and no
-/// place failed.
-pub fn boot_is_complete<A: ZoneAlloc>()
-    ensures { IsBootComplete (MayAnswer A.state A.gives) }
+/// States that each command is done of a lawful input, unless memory ran out, where no read, no write, no flush and no place failed: `boot` and
+/// `build` of a description whose machine has few files, `load` of a container of which the script's run is done with the places that were
+/// handed out, `decode` of the dump of a memory that shows an inventory of which no item fails, `decode --list` of that of one whose tables have
+/// no fault, and `gen` of a number of processors whose machine has few files.
+pub fn each_command_is_done<A: ZoneAlloc>()
+    ensures { AreDone (MayAnswer A.state A.gives) }
 {}
 
-/// States that `build` of a description whose machine has few files is done, unless memory ran out, where no read, no write and no flush
-/// failed.
-pub fn build_is_complete<A: ZoneAlloc>()
-    ensures { IsBuildComplete (MayAnswer A.state A.gives) }
+/// States that each command tells each fault of its input, unless memory ran out, where no read, no write and no flush failed: of a description,
+/// of a container with its script's commands, of a dump and its tables, or that a machine's files are too large.
+pub fn each_command_tells_faults<A: ZoneAlloc>()
+    ensures { TellFaults (MayAnswer A.state A.gives) }
 {}
 
-/// States that `load` of a container whose script's run is done with the places that were handed out is done, unless memory ran out, where no
-/// read, no write, no flush and no place failed.
-pub fn load_is_complete<A: ZoneAlloc>()
-    ensures { IsLoadComplete (MayAnswer A.state A.gives) }
+/// States that `decode --list` of the dump of a memory that shows an inventory writes the list of it, unless memory ran out, where no read, no
+/// write and no flush failed.
+pub fn a_shown_memory_is_listed<A: ZoneAlloc>()
+    ensures { IsShownListed (MayAnswer A.state A.gives) }
 {}
 
-/// States that `gen` of a machine with few files is done, unless memory ran out, where no write, no flush and no place failed.
-pub fn gen_is_complete<A: ZoneAlloc>()
-    ensures { IsGenComplete (MayAnswer A.state A.gives) }
-{}
-
-/// States that `decode --list` of the dump of a memory whose tables have no fault is done, and that it writes the list of the inventory that
-/// the memory shows, unless memory ran out, where no read, no write and no flush failed.
-pub fn list_is_complete<A: ZoneAlloc>()
-    ensures done { IsListComplete (MayAnswer A.state A.gives) }
-    ensures listed { IsShownListed (MayAnswer A.state A.gives) }
-{}
-
-/// States that `decode --list` of bytes that are no dump, or of the dump of a memory whose tables have a fault, tells that fault, unless
-/// memory ran out, where no read, no write and no flush failed.
-pub fn list_tells_each_fault<A: ZoneAlloc>()
-    ensures { IsListExact (MayAnswer A.state A.gives) }
-{}
-
-/// States that `decode` of the dump of a memory that shows an inventory of which no item fails is done, and that it writes a description of the
-/// machine whose inventory the memory shows, unless memory ran out, where no read, no write and no flush failed.
-pub fn decode_is_complete<A: ZoneAlloc>()
-    ensures done { IsDecodeComplete (MayAnswer A.state A.gives) }
-    ensures told { IsShownTold (MayAnswer A.state A.gives) }
-{}
-
-/// States that `decode` of bytes that are no dump, of the dump of a memory whose tables have a fault, or of one that shows an inventory which is
-/// no machine's, tells that fault or the first item that fails, unless memory ran out, where no read, no write and no flush failed.
-pub fn decode_tells_each_fault<A: ZoneAlloc>()
-    ensures { IsDecodeExact (MayAnswer A.state A.gives) }
+/// States that `decode` of the dump of a memory that shows the inventory of a machine writes a description of this machine, unless memory ran
+/// out, where no read, no write and no flush failed.
+pub fn a_shown_machine_is_told<A: ZoneAlloc>()
+    ensures { IsShownTold (MayAnswer A.state A.gives) }
 {}
 
 /// States that `decode --list` of what `boot` wrote of a description writes the list of what the machine shows that is described, unless
