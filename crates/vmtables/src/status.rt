@@ -14,7 +14,7 @@ pub enum Status {
     DescriptionRefused = 3,
     /// The allocator gave no place for a file.
     NoRoom = 4,
-    /// The bytes are no container, its script is missing or has no script's length, or a command is refused.
+    /// The bytes are no container, its SMBIOS files can't be installed, its script is missing or has no script's length, or a command is refused.
     ImageRefused = 5,
     /// The bytes are no dump.
     DumpRefused = 6,

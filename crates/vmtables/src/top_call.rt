@@ -16,10 +16,10 @@ use vt_outside::{Sink, Source, write_all};
 use zone_alloc::ZoneAlloc;
 
 /// Carries out the command that `words`, those after the program's name, ask for, as [`carry_out`] does, and returns how it ended: with
-/// `Ok`, or with the status of the fault that `carry_out` answers. `ImageRefused` means that the bytes are no container, that its script is
-/// missing or has no script's length, or that a command is refused, `NoRoom` that `place` gave no place for a file, `DumpRefused` that the
-/// bytes are no dump, and `TablesRefused` that the tables of the dump's memory have a fault or are no machine's; each other status has the
-/// name of its fault, or of what `carry_out` says of it.
+/// `Ok`, or with the status of the fault that `carry_out` answers. `ImageRefused` means that the bytes are no container, that its SMBIOS
+/// files can't be installed, that its script is missing or has no script's length, or that a command is refused, `NoRoom` that `place` gave no
+/// place for a file, `DumpRefused` that the bytes are no dump, and `TablesRefused` that the tables of the dump's memory have a fault or are no
+/// machine's; each other status has the name of its fault, or of what `carry_out` says of it.
 ///
 /// `say` takes the line of a status other than `Ok`. What becomes of that line changes nothing else.
 pub fn top<S: Source, K: Sink, E: Sink, A: ZoneAlloc, C: Schedule>(

@@ -19,8 +19,8 @@ Status:
     2   the words are no command
     3   the description is refused (boot, build)
     4   no place was free for a file of the container (load)
-    5   the container is refused (load): its bytes are none, its script is missing or has a wrong length, or a command of
-        the script is refused
+    5   the container is refused (load): its bytes are none, its SMBIOS files can't be installed, its script is missing or
+        has a wrong length, or a command of the script is refused
     6   the bytes are no dump (decode)
     7   a table in memory has a fault, or no machine that can be described has these tables (decode)
     8   standard output failed; it took a part of the text from its front, perhaps all
