@@ -58,7 +58,8 @@ one_shown search bytes a b is also =
     cc
 
 -- and then its tables have no fault
-pub never_both : (search : Search) (bytes : List ℕ) (inventory : Inventory) (why : ScanFault) → DumpShows search bytes inventory → DumpRefuses search bytes why → ⊥
+pub never_both : (search : Search) (bytes : List ℕ) (inventory : Inventory) (why : ScanFault) → DumpShows search bytes inventory
+    → DumpRefuses search bytes why → ⊥
 never_both search bytes inventory why is also =
     let same = one_memory also.memory is.memory bytes also.dumped is.dumped in
     let both : scanned inventory ≡ scan_told why = one_scan search is.memory.top (seen is.memory) (Ok inventory) (Err why) is.shown
@@ -125,7 +126,8 @@ sound_fault search bytes m f dumped sound refused.memory = refl
 
 fault_of_sound : (search : Search) (bytes : List ℕ) (m : Memory) (before after : Seen) (f : Fault) → IsDumpOf m bytes
     → ((why : ScanFault) → RefusesBy search (seen m) why → ⊥) → ListMakes search bytes before after (Err f) → f ≡ fault.OutOfMemory
-fault_of_sound search bytes m before after f dumped sound (not_listed cannot same) = sound_fault search bytes m f dumped sound (why_unlisted search bytes f cannot)
+fault_of_sound search bytes m before after f dumped sound (not_listed cannot same) =
+    sound_fault search bytes m f dumped sound (why_unlisted search bytes f cannot)
 
 -- Such a dump is listed.
 pub list_done : (Gives : Answering) (sought : Sought) (bytes : List ℕ) (m : Memory) (call : Call Gives (Listing sought)) → IsDumpOf m bytes

@@ -40,8 +40,9 @@ cut_passes input.OutOfMemory = (λ e. cc, λ e. cc)
 
 -- nor does the way in which such a call ended
 ended_passes : (bytes : List ℕ) (m : Machine) (before after : Seen) (in_all : Input) (made : Made) (ended : Result (Unit {0}) Fault)
-    (source source_after : SourceSeen) (out out_after : SinkSeen) → IsAccepted m → HasFittingFields m → DumpShows (search_of false false) bytes (inventory_of m)
-    → source.left ≡ Some bytes → ReadsAll (DecodeMakes (search_of false false)) before after in_all made → WasRead in_all source source_after → Wrote made ended out out_after
+    (source source_after : SourceSeen) (out out_after : SinkSeen) → IsAccepted m → HasFittingFields m
+    → DumpShows (search_of false false) bytes (inventory_of m) → source.left ≡ Some bytes
+    → ReadsAll (DecodeMakes (search_of false false)) before after in_all made → WasRead in_all source source_after → Wrote made ended out out_after
     → Passes (status_of ended)
 ended_passes bytes m before after Unread made ended source source_after out out_after accepted fits shows had did was wrote = absurd did
 ended_passes bytes m before after in_all made (Ok done) source source_after out out_after accepted fits shows had did was wrote = (λ e. cc, λ e. cc)

@@ -90,7 +90,8 @@ machine_told Gives legacy bytes m call accepted fits shows fed =
         (made, made_of_machine (search_of legacy false) bytes m call.before call.after made accepted fits shows makes, took),
       )
       | with_fault {why = why} makes ended ↦ inr (call.answered.status ∙ ap status_of ended
-          ∙ ap status_of_fault (fault_of_sound (search_of legacy false) bytes (inventory_of m) call.before call.after why shows (machine_sound m accepted fits) makes))
+          ∙ ap status_of_fault (fault_of_sound (search_of legacy false) bytes (inventory_of m) call.before call.after why shows
+          (machine_sound m accepted fits) makes))
     ]
 
 abbrev profile_fault : ℕ → Fault

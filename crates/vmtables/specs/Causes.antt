@@ -15,7 +15,8 @@ use Rattle.anchor_scan.specs.declared.fault.ScanFault.TheVariants as scan
 use Rattle.table_describe.specs.declared.description.DescribeFault.{DescribeFault}
 use Rattle.table_describe.specs.declared.description.DescribeFault.TheVariants as describing
 use Rattle.vmtables.specs.declared.fault.Fault.{Fault}
-use Rattle.vmtables.specs.declared.fault.Fault.TheVariants.{ReadFault, Description, Container, Install, Tables, NotProfile, OutOfMemory, InputTooLong, ImageTooLarge}
+use Rattle.vmtables.specs.declared.fault.Fault.TheVariants.{ReadFault, Description, Container, Install, Tables, NotProfile, OutOfMemory}
+use Rattle.vmtables.specs.declared.fault.Fault.TheVariants.{InputTooLong, ImageTooLarge}
 
 -- that of the reading of an input
 abbrev pub input_fault : InputFault → Fault

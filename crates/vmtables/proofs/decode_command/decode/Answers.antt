@@ -33,7 +33,8 @@ returns-clause-ran g c = λ seen.
     let is = c.in_ok-text.ensures.ok in
     wrote (DecodeMakes c.args.search) c.write_text.result c.in_ok-bytes.bytes c.as_slice.result.now seen seen _ _ _ _
     (ended_so _ _ _ read.given read.end read.ended)
-    (told_text c.args.search c.in_ok-bytes.bytes c.in_ok-text.text c.as_slice.result.now seen (sym c.as_slice.ensures) is) written.ok written.fault written.front
+    (told_text c.args.search c.in_ok-bytes.bytes c.in_ok-text.text c.as_slice.result.now seen (sym c.as_slice.ensures) is)
+    written.ok written.fault written.front
 
 pub returns-clause-streams : goal.returns-clause-streams
 returns-clause-streams g c =
